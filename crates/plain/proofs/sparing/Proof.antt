@@ -1,0 +1,20 @@
+-- `plain::sparing` meets its contract: each way rewrites the tests that led to it.
+use borrow.Author.Tests.{eq-eqb, ne-eqb}
+use Rattle.plain.specs.Operations.{unused}
+use Rattle.plain.proofs.sparing.Statement.{statement}
+use Rattle.plain.proofs.sparing.Tie as tie
+
+returns : tie.Need-returns
+unfolding unused
+returns c = simp (eq-eqb _ _ (c .before .if1 .taken), eq-eqb _ _ (c .if2 .taken))
+
+returns-2 : tie.Need-returns-2
+unfolding unused
+returns-2 c = simp (eq-eqb _ _ (c .before .if1 .taken), ne-eqb _ _ (c .if2 .left))
+
+returns-3 : tie.Need-returns-3
+unfolding unused
+returns-3 c = simp (ne-eqb _ _ (c .if1 .left))
+
+pub sparing-spec : {M : Type 1} → statement M
+sparing-spec = tie.close (tie.spec returns returns-2 returns-3)

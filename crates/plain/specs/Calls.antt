@@ -1,0 +1,149 @@
+-- The calls that change a store or speak of its memory, each with the lengths of what is lent: number, value, answer words, plain lists afterwards.
+-- Document 01, "The strip", the table and the order of refusals. The reads are in `Reads`, the calls on maps in `Renumbering`.
+use Prim.Native.Nat.{ℕ, zero, suc, _+_, _*_, _%_}
+use mathlib.Core.Bool.{Bool, true, false, cond, not}
+use mathlib.Core.Option.{Option, none, some}
+use mathlib.Core.List.{List, [], _∷_}
+use lib.ListN.{length}
+use lib.Dec.{eqb, leb, ltb}
+use Rattle.plain.specs.declared.Answer.{Answer}
+use Rattle.plain.specs.declared.Record.{Record}
+use Rattle.plain.specs.Numbers.{NONE, LIMIT, done, no-store, too-short, ragged, not-compact, unreadable, above-limit}
+use Rattle.plain.specs.Plain.{Plain, empty, node-bound, edge-bound, node-flags, edge-flags}
+use Rattle.plain.specs.Operations.{operations, operation-words}
+use Rattle.plain.specs.Step.{Capacities, State, run, answers}
+use Rattle.plain.specs.Reads.{Reply, lent, live-edges, no-record}
+use Rattle.plain.specs.Compaction.{Survivors, survivors, of-survivors, compacted, renumbering, adjacency}
+use Rattle.plain.specs.Image.{image, parsed, broken-image, nodes-in, edges-in}
+use Rattle.plain.specs.Memory.{Slice, first-short, Lengths, other-slices}
+
+-- ---- number 1
+
+-- "words are no store: 1, rule 1 to 7": first of all refusals. `rule` is the first broken rule of the check, 0 where the words are a store.
+abbrev pub judged : ℕ → Answer → Answer
+judged zero answer = answer
+judged (suc rule) answer = record { number = no-store; value = suc rule }
+
+abbrev pub judged-reply : ℕ → Reply → Reply
+judged-reply zero reply = reply
+judged-reply (suc rule) reply = record { number = no-store; value = suc rule; words = [] }
+
+abbrev pub judged-record : ℕ → Record → Record
+judged-record zero r = r
+judged-record (suc rule) r = no-record no-store (suc rule)
+
+-- "The check: 1."
+unfoldable pub check : ℕ → Answer
+check rule = judged rule (record { number = done; value = 0 })
+
+-- ---- the strip
+
+-- What a strip comes to: number and value, the words that the answer slice then starts with, and the store.
+pub record Stripped : Type 0 where
+  pub number : ℕ
+  pub value : ℕ
+  pub words : List ℕ
+  pub after : State
+
+-- "Order: strip 1, 3, 2." Refused, it leaves everything.
+unfoldable pub strip : Capacities → State → List ℕ → ℕ → Stripped
+strip caps s words room =
+    let ops = operations words in
+    let needed = 2 * length ops in
+    cond (not (eqb (length words % operation-words) 0)) (record { number = ragged; value = length words; words = []; after = s })
+    (cond (ltb room needed) (record { number = too-short; value = needed; words = []; after = s })
+    (record { number = done; value = 0; words = answers caps s ops; after = run caps s ops }))
+
+-- ---- fresh
+
+-- the state of a fresh store: "A fresh store is empty with bounds 0"; it is compact
+abbrev pub fresh-state : State
+fresh-state = record { lists = empty; compact = true }
+
+abbrev pub short-answer : Option ℕ → Answer
+short-answer none = record { number = done; value = 0 }
+short-answer (some needed) = record { number = too-short; value = needed }
+
+-- refused with `number` where a capacity is above its limit, "nodes before edges"; else as it goes on
+unfoldable pub within : Capacities → ℕ → Capacities → Answer → Answer
+within limits number caps answer =
+    cond (ltb (limits .nodes) (caps .nodes)) (record { number = number; value = caps .nodes })
+    (cond (ltb (limits .edges) (caps .edges)) (record { number = number; value = caps .edges }) answer)
+
+-- "Fresh: 13, nodes before edges, then 2." Done, the state is `fresh-state`.
+unfoldable pub fresh-within : Capacities → ℕ → Lengths → Answer
+fresh-within limits number l = within limits number (l .capacities) (short-answer (first-short (other-slices l)))
+
+-- "Capacity above 32,768: 13, that capacity."
+abbrev pub limits : Capacities
+limits = record { nodes = LIMIT; edges = LIMIT }
+
+unfoldable pub fresh : Lengths → Answer
+fresh l = fresh-within limits above-limit l
+
+-- ---- compaction
+
+-- What a compaction comes to: number and value, the words that each lent slice then starts with, and the store.
+pub record Compacted : Type 0 where
+  pub number : ℕ
+  pub value : ℕ
+  pub node-map : List ℕ
+  pub edge-map : List ℕ
+  pub work : List ℕ
+  pub after : State
+
+-- "A node map and an edge map, as long as the bounds before, and a work slice of twice the live edge count."
+abbrev pub compaction-slices : Plain → ℕ → ℕ → ℕ → List Slice
+compaction-slices p node-map edge-map work =
+    record { needs = node-bound p; has = node-map } ∷ record { needs = edge-bound p; has = edge-map }
+    ∷ record { needs = 2 * live-edges p; has = work } ∷ []
+
+-- "A compaction that refuses writes nothing at all."
+abbrev pub compacting : Option ℕ → State → Compacted
+compacting (some needed) s = record { number = too-short; value = needed; node-map = []; edge-map = []; work = []; after = s }
+compacting none s =
+    let p = s .lists in
+    record {
+      number = done;
+      value = 0;
+      node-map = renumbering (node-flags p);
+      edge-map = renumbering (edge-flags p);
+      work = adjacency (survivors p);
+      after = record { lists = compacted p; compact = true };
+    }
+
+-- "1, then 2 in that order", of the lengths of the three lent slices
+unfoldable pub compaction : State → ℕ → ℕ → ℕ → Compacted
+compaction s node-map edge-map work = compacting (first-short (compaction-slices (s .lists) node-map edge-map work)) s
+
+-- ---- the image
+
+-- "Only compact stores have one. Writing: 1, 11, 2."
+unfoldable pub write-image : State → ℕ → Reply
+write-image s room =
+    let bytes = image (survivors (s .lists)) in
+    cond (s .compact) (lent room (length bytes) bytes) (record { number = not-compact; value = NONE; words = [] })
+
+-- refused with 12 and the rule, if one is broken; else as it goes on
+abbrev pub readable : ℕ → Answer → Answer
+readable zero answer = answer
+readable (suc rule) answer = record { number = unreadable; value = suc rule }
+
+-- "a payload slice shorter than its count being too short, then the other slices"
+abbrev pub reading-slices : ℕ → ℕ → Lengths → List Slice
+reading-slices n m l =
+    record { needs = n; has = l .capacities .nodes } ∷ record { needs = m; has = l .capacities .edges } ∷ other-slices l
+
+-- "Reading: 13, 12, 2 (13 and 2 nodes before edges ..)."
+unfoldable pub read-within : Capacities → ℕ → Lengths → List ℕ → Answer
+read-within limits number l bytes =
+    within limits number (l .capacities)
+    (readable (broken-image bytes) (short-answer (first-short (reading-slices (nodes-in bytes) (edges-in bytes) l))))
+
+unfoldable pub read-image : Lengths → List ℕ → Answer
+read-image l bytes = read-within limits above-limit l bytes
+
+-- the state that reading leaves where it is done: "image reading puts the image's nodes, edges and lists in place of all, the bounds being its two counts",
+-- "and the result equals what compaction leaves"
+abbrev pub read-state : List ℕ → State
+read-state bytes = record { lists = of-survivors (parsed bytes); compact = true }

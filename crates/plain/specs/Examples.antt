@@ -1,0 +1,120 @@
+-- Document 01, "Proof by example": M1 to M12 in a single list, proved by computation from the definitions.
+use Prim.Native.Nat.{ℕ}
+use mathlib.Core.Path.{_≡_, refl}
+use mathlib.Core.Bool.{true}
+use mathlib.Core.List.{List, [], _∷_, _++_}
+use Rattle.plain.specs.declared.TraversalDirection.the-variants.{Outgoing, Incoming}
+use Rattle.plain.specs.Numbers.{NONE}
+use Rattle.plain.specs.Lists.{member, without, distinct, from, all, count, joined, append-at, delete-at, set-all}
+use Rattle.plain.specs.Plain.{node-added, edge-added, edge-removed, edges-removed, node-removed, redirected, moved}
+use Rattle.plain.specs.Operations.{unused, decoded, operations}
+use Rattle.plain.specs.Step.{Capacities, State, step, run, answers}
+use Rattle.plain.specs.Reads.{walk, is-compact, node-bound-answer, edge-bound-answer, contains-node, contains-edge, live-from, answered}
+use Rattle.plain.specs.Renumbering.{lookup, composed, compose}
+use Rattle.plain.specs.Compaction.{rank, renumbering-from, survivors, of-survivors, compacted, adjacency}
+use Rattle.plain.specs.Bits.{bits-of, value-of, bits, field-at, fields-at, row, bytes-of, pack, least-from, least-width}
+use Rattle.plain.specs.Image.{edge-bits, image-bits, image, records-at, cut, parsed, at-their-nodes, lists-right, broken-image}
+use Rattle.plain.specs.Memory.{first-short, exact}
+use Rattle.plain.specs.Calls.{strip, fresh-state, within, fresh-within, fresh, compaction, write-image, read-within, read-image}
+use Rattle.plain.specs.Lotstrip.{words-of, codes, digits-before, hexadecimal, answer-lines, lotstrip-run, lotstrip}
+use Rattle.plain.specs.History.{Call, Strip, Compaction, history-from, history, call}
+
+abbrev capacities : ℕ → ℕ → Capacities
+capacities nodes edges = record { nodes = nodes; edges = edges }
+
+abbrev small : Capacities
+small = capacities 8 8
+
+-- an operation's four words, and its sixteen bytes where each word is below 256
+abbrev op : ℕ → ℕ → ℕ → ℕ → List ℕ
+op code first second payload = code ∷ first ∷ second ∷ payload ∷ []
+
+abbrev input : ℕ → ℕ → ℕ → ℕ → List ℕ
+input code first second payload =
+    0 ∷ 0 ∷ 0 ∷ code ∷ 0 ∷ 0 ∷ 0 ∷ first ∷ 0 ∷ 0 ∷ 0 ∷ second ∷ 0 ∷ 0 ∷ 0 ∷ payload ∷ []
+
+-- a strip with room enough for its answers, and the store that it leaves of a fresh one
+abbrev booked : List ℕ → Call
+booked words = Strip words 64
+
+abbrev after : List ℕ → State
+after words = history small (booked words ∷ [])
+
+-- the answer words of a strip after other calls
+abbrev answers-after : Capacities → List Call → List ℕ → List ℕ
+answers-after caps calls words = strip caps (history caps calls) words 64 .words
+
+-- one node with an edge to itself, and with its node removed
+abbrev self-loop : List ℕ
+self-loop = op 1 0 0 7 ++ op 2 0 0 5
+
+abbrev loop-removed : List ℕ
+loop-removed = self-loop ++ op 4 0 0 0
+
+-- two nodes with one edge between them, compacted
+abbrev one-edge : List Call
+one-edge = booked (op 1 0 0 7 ++ (op 1 0 0 9 ++ op 2 0 1 5)) ∷ Compaction 2 1 2 ∷ []
+
+-- one node with three edges, the first removed
+abbrev first-removed : List ℕ
+first-removed = op 1 0 0 7 ++ (op 2 0 0 1 ++ (op 2 0 0 2 ++ (op 2 0 0 3 ++ op 3 0 0 0)))
+
+-- M12's input
+abbrev sample : List ℕ
+sample = input 1 0 0 7 ++ (input 1 0 0 9 ++ (input 2 0 1 5 ++ (input 2 0 1 6 ++ (input 5 0 1 0 ++ input 5 0 0 0))))
+
+pub record Examples : Type 0 where
+  -- M1 fresh: bounds 0, compact.
+  pub m1 : (node-bound-answer (fresh-state .lists) ≡ answered 0) × (edge-bound-answer (fresh-state .lists) ≡ answered 0)
+      × (is-compact fresh-state ≡ answered 1)
+  -- M2 fresh, compacted: image 00 00 00 00.
+  pub m2 : write-image (history small (Compaction 0 0 0 ∷ [])) 4 ≡ record { number = 0; value = 4; words = 0 ∷ 0 ∷ 0 ∷ 0 ∷ [] }
+  -- M3 a self-loop is in both lists; removing its node removes it.
+  pub m3 : (walk Outgoing (after self-loop .lists) 0 1 ≡ record { number = 0; value = 1; words = 0 ∷ [] })
+      × (walk Incoming (after self-loop .lists) 0 1 ≡ record { number = 0; value = 1; words = 0 ∷ [] })
+      × (contains-edge (after loop-removed .lists) 0 ≡ answered 0) × (contains-node (after loop-removed .lists) 0 ≡ answered 0)
+      × (walk Outgoing (after loop-removed .lists) 0 1 ≡ record { number = 0; value = 0; words = [] })
+      × (walk Incoming (after loop-removed .lists) 0 1 ≡ record { number = 0; value = 0; words = [] })
+  -- M4 redirect to the same end on a compact store: still compact.
+  pub m4 : (answers-after small one-edge (op 5 0 0 0 ++ op 6 0 1 0) ≡ 0 ∷ 0 ∷ 0 ∷ 1 ∷ [])
+      × (is-compact (history small (one-edge ++ (booked (op 5 0 0 0 ++ op 6 0 1 0) ∷ []))) ≡ answered 1)
+  -- M5 move from a removed node to node 9,999: done, 0.
+  pub m5 : answers-after small (booked loop-removed ∷ []) (op 7 0 9_999 0 ++ op 8 0 9_999 0) ≡ 0 ∷ 0 ∷ 0 ∷ 0 ∷ []
+  -- M6 move old = new, removed: 9.
+  pub m6 : answers-after small (booked loop-removed ∷ []) (op 7 0 0 0 ++ op 8 0 0 0) ≡ 9 ∷ NONE ∷ 9 ∷ NONE ∷ []
+  -- M7 three edges, first removed, compacted: map NONE, 0, 1.
+  pub m7 : compaction (after first-removed) 1 3 4 .edge-map ≡ NONE ∷ 0 ∷ 1 ∷ []
+  -- M8 compose [1, NONE, 0] with [5]: [NONE, NONE, 5].
+  pub m8 : compose (1 ∷ NONE ∷ 0 ∷ []) (5 ∷ []) 3 ≡ record { number = 0; value = 0; words = NONE ∷ NONE ∷ 5 ∷ [] }
+  -- M9 capacity 1: second node 10, also after removal; after compaction slot 0.
+  pub m9 : (answers-after (capacities 1 1) [] (op 1 0 0 7 ++ op 1 0 0 8) ≡ 0 ∷ 0 ∷ 10 ∷ NONE ∷ [])
+      × (answers-after (capacities 1 1) (booked (op 1 0 0 7 ++ op 4 0 0 0) ∷ []) (op 1 0 0 8) ≡ 10 ∷ NONE ∷ [])
+      × (answers-after (capacities 1 1) (booked (op 1 0 0 7 ++ op 4 0 0 0) ∷ Compaction 1 0 0 ∷ []) (op 1 0 0 8) ≡ 0 ∷ 0 ∷ [])
+  -- M10 walk of two into one word: 2, value 2.
+  pub m10 : walk Outgoing (after first-removed .lists) 0 1 ≡ record { number = 2; value = 2; words = [] }
+  -- M11 image 00 00 00 01: 12, rule 3; with four more zero bytes rule 5. Capacity 32,768 is taken, 32,769 gives 13.
+  pub m11 : (read-image (exact small) (0 ∷ 0 ∷ 0 ∷ 1 ∷ []) ≡ record { number = 12; value = 3 })
+      × (read-image (exact small) (0 ∷ 0 ∷ 0 ∷ 1 ∷ 0 ∷ 0 ∷ 0 ∷ 0 ∷ []) ≡ record { number = 12; value = 5 })
+      × (fresh (exact (capacities 32_768 32_768)) ≡ record { number = 0; value = 0 })
+      × (fresh (exact (capacities 32_769 32_768)) ≡ record { number = 13; value = 32_769 })
+      × (fresh (exact (capacities 32_768 32_769)) ≡ record { number = 13; value = 32_769 })
+  -- M12: the program `lotstrip`.
+  pub m12 : lotstrip sample
+      ≡ codes "0 0 0\n1 0 1\n2 0 0\n3 0 1\n4 0 0\n5 0 1\n000200020000000700000009400000015000000069\n"
+
+pub examples : Examples
+unfolding member without distinct from all count joined append-at delete-at set-all node-added edge-added edge-removed edges-removed node-removed redirected moved unused decoded operations step run answers walk is-compact node-bound-answer edge-bound-answer contains-node contains-edge live-from lookup composed compose rank renumbering-from survivors of-survivors compacted adjacency bits-of value-of bits field-at fields-at row bytes-of pack least-from least-width edge-bits image-bits image records-at cut parsed at-their-nodes lists-right broken-image first-short strip within fresh-within fresh compaction write-image read-within read-image words-of codes digits-before hexadecimal answer-lines lotstrip-run lotstrip history-from history call
+examples = record {
+  m1 = (refl, refl, refl);
+  m2 = refl;
+  m3 = (refl, refl, refl, refl, refl, refl);
+  m4 = (refl, refl);
+  m5 = refl;
+  m6 = refl;
+  m7 = refl;
+  m8 = refl;
+  m9 = (refl, refl, refl);
+  m10 = refl;
+  m11 = (refl, refl, refl, refl, refl);
+  m12 = refl;
+}

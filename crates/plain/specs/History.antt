@@ -1,0 +1,50 @@
+-- Whole histories: a list of strips, compactions and image readings from a fresh store. Document 01, "Demand 3": "Every number answered in them follows from
+-- the plain lists and the calls' arguments, lengths included, never from the store's counts or words."
+use Prim.Native.Nat.{ℕ, zero, suc}
+use mathlib.Core.Bool.{cond}
+use mathlib.Core.List.{List, [], _∷_}
+use lib.Dec.{eqb}
+use Rattle.plain.specs.Step.{Capacities, State}
+use Rattle.plain.specs.Memory.{exact}
+use Rattle.plain.specs.Calls.{strip, Stripped, compaction, Compacted, read-image, read-state, fresh-state}
+
+-- A call of a history, with the lengths of what is lent: "strips, compactions and image readings".
+pub data Call : Type 0 where
+  -- a strip's words, and the length of the answer slice
+  Strip : List ℕ → ℕ → Call
+  -- the lengths of the node map, the edge map and the work slice
+  Compaction : ℕ → ℕ → ℕ → Call
+  -- an image's bytes, read into the store's own six slices
+  Reading : List ℕ → Call
+
+-- What a call comes to: number and value, the words that each lent answer slice then starts with, in parameter order, and the store.
+pub record Called : Type 0 where
+  pub number : ℕ
+  pub value : ℕ
+  pub written : List (List ℕ)
+  pub after : State
+
+unfoldable pub call : Capacities → State → Call → Called
+call caps s (Strip words room) =
+    let r = strip caps s words room in
+    record { number = r .number; value = r .value; written = r .words ∷ []; after = r .after }
+call caps s (Compaction node-map edge-map work) =
+    let r = compaction s node-map edge-map work in
+    record { number = r .number; value = r .value; written = r .node-map ∷ r .edge-map ∷ r .work ∷ []; after = r .after }
+call caps s (Reading bytes) =
+    let r = read-image (exact caps) bytes in
+    record { number = r .number; value = r .value; written = []; after = cond (eqb (r .number) 0) (read-state bytes) s }
+
+-- the store after a list of calls
+unfoldable pub history-from : Capacities → State → List Call → State
+history-from caps s [] = s
+history-from caps s (c ∷ calls) = history-from caps (call caps s c .after) calls
+
+-- what each call comes to
+unfoldable pub called-from : Capacities → State → List Call → List Called
+called-from caps s [] = []
+called-from caps s (c ∷ calls) = call caps s c ∷ called-from caps (call caps s c .after) calls
+
+-- "from a fresh store"
+unfoldable pub history : Capacities → List Call → State
+history caps calls = history-from caps fresh-state calls

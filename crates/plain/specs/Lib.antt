@@ -1,0 +1,15 @@
+pub mod Numbers
+pub mod Lists
+pub mod Plain
+pub mod Operations
+pub mod Step
+pub mod Reads
+pub mod Renumbering
+pub mod Compaction
+pub mod Bits
+pub mod Image
+pub mod Memory
+pub mod Calls
+pub mod Lotstrip
+pub mod History
+pub mod Examples

@@ -1,0 +1,66 @@
+-- The numbers that calls and operations answer: the table of document 01, "The strip".
+use Prim.Native.Nat.{ℕ}
+
+-- "NONE = 4,294,967,295 for 'none'."
+abbrev pub NONE : ℕ
+NONE = 4_294_967_295
+
+-- "The capacities are the lengths of the two payload slices, at most 32,768 each."
+abbrev pub LIMIT : ℕ
+LIMIT = 32_768
+
+-- done
+abbrev pub done : ℕ
+done = 0
+
+-- words are no store
+abbrev pub no-store : ℕ
+no-store = 1
+
+-- a lent slice too short
+abbrev pub too-short : ℕ
+too-short = 2
+
+-- strip not a multiple of four
+abbrev pub ragged : ℕ
+ragged = 3
+
+-- unknown code or unused word not 0
+abbrev pub unknown-code : ℕ
+unknown-code = 4
+
+-- node at or above bound
+abbrev pub out-of-range-node : ℕ
+out-of-range-node = 5
+
+-- node removed
+abbrev pub removed-node : ℕ
+removed-node = 6
+
+-- edge at or above bound
+abbrev pub out-of-range-edge : ℕ
+out-of-range-edge = 7
+
+-- edge removed
+abbrev pub removed-edge : ℕ
+removed-edge = 8
+
+-- move onto itself
+abbrev pub onto-itself : ℕ
+onto-itself = 9
+
+-- bound equals capacity
+abbrev pub full : ℕ
+full = 10
+
+-- image of a store not compact
+abbrev pub not-compact : ℕ
+not-compact = 11
+
+-- image unreadable
+abbrev pub unreadable : ℕ
+unreadable = 12
+
+-- capacity above 32,768
+abbrev pub above-limit : ℕ
+above-limit = 13

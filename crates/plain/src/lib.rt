@@ -1,0 +1,155 @@
+// What the program and the definitions share: slot numbers and limits, the direction of an axis, an operation, the counts of a
+// store and the answers of its calls. The definitions of document 01 over these types stand in specs/.
+
+ghost use mathlib.Core.Path.{_≡_};
+ghost use Rattle.plain.specs.Operations.{decoded, unused};
+
+// "None" where the Rust has an `Option<Id>`.
+pub const NONE: u32 = 4294967295;
+
+// The most node slots, and the most edge slots, that a store may have.
+pub const LIMIT: u32 = 32768;
+
+// Direction in which a walk follows edges.
+pub enum TraversalDirection {
+    // From source to target: an edge is in the list of its source.
+    Outgoing,
+    // From target to source: an edge is in the list of its target.
+    Incoming,
+}
+
+// One entry of a strip.
+pub enum Operation {
+    AddNode {
+        payload: u32,
+    },
+    AddEdge {
+        source: u32,
+        target: u32,
+        payload: u32,
+    },
+    RemoveEdge {
+        edge: u32,
+    },
+    RemoveNode {
+        node: u32,
+    },
+    // Makes `node` the source of the edge (Outgoing) or its target (Incoming).
+    Redirect {
+        direction: TraversalDirection,
+        edge: u32,
+        node: u32,
+    },
+    // Moves the whole out-list (Outgoing) or in-list (Incoming) of `old` to `new`.
+    Move {
+        direction: TraversalDirection,
+        old: u32,
+        new: u32,
+    },
+    SetPayload {
+        edge: u32,
+        payload: u32,
+    },
+    // An unknown code, or an unused word that is not 0.
+    Unknown,
+}
+
+// The counts of a store, by value beside its six slices. Any values are legal input: the check judges them.
+pub struct Counts {
+    pub node_bound: u32,
+    pub edge_bound: u32,
+    pub base_nodes: u32,
+    pub base_edges: u32,
+    pub live_nodes: u32,
+    pub live_edges: u32,
+}
+
+// What a call answers: the number and the value of document 01's table. The value is wide enough for any length or capacity.
+pub struct Answer {
+    pub number: u32,
+    pub value: u64,
+}
+
+// What reading a record answers: the edge's ends and payload beside number and value; all three are 0 where it is refused.
+pub struct Record {
+    pub number: u32,
+    pub value: u64,
+    pub source: u32,
+    pub target: u32,
+    pub payload: u32,
+}
+
+// The operation, unless one of its unused words `a` and `b` is not 0.
+fn sparing(a: u32, b: u32, operation: Operation) -> Operation
+    ensures { λ r. ⌜ r ≡ unused a b operation ⌝ }
+{
+    if a == 0 {
+        if b == 0 {
+            return operation;
+        }
+    }
+    Operation::Unknown
+}
+
+impl Operation {
+    // The operation that four words of a strip stand for.
+    pub fn decode(code: u32, first: u32, second: u32, payload: u32) -> Operation
+        ensures { λ r. ⌜ r ≡ decoded code first second payload ⌝ }
+    {
+        match code {
+            1 => sparing(first, second, Operation::AddNode { payload }),
+            2 => Operation::AddEdge {
+                source: first,
+                target: second,
+                payload,
+            },
+            3 => sparing(second, payload, Operation::RemoveEdge { edge: first }),
+            4 => sparing(second, payload, Operation::RemoveNode { node: first }),
+            5 => sparing(
+                payload,
+                0,
+                Operation::Redirect {
+                    direction: TraversalDirection::Outgoing,
+                    edge: first,
+                    node: second,
+                },
+            ),
+            6 => sparing(
+                payload,
+                0,
+                Operation::Redirect {
+                    direction: TraversalDirection::Incoming,
+                    edge: first,
+                    node: second,
+                },
+            ),
+            7 => sparing(
+                payload,
+                0,
+                Operation::Move {
+                    direction: TraversalDirection::Outgoing,
+                    old: first,
+                    new: second,
+                },
+            ),
+            8 => sparing(
+                payload,
+                0,
+                Operation::Move {
+                    direction: TraversalDirection::Incoming,
+                    old: first,
+                    new: second,
+                },
+            ),
+            9 => sparing(
+                second,
+                0,
+                Operation::SetPayload {
+                    edge: first,
+                    payload,
+                },
+            ),
+            _ => Operation::Unknown,
+        }
+    }
+}
