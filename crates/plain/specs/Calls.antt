@@ -45,7 +45,7 @@ pub record Stripped : Type 0 where
   pub words : List ℕ
   pub after : State
 
--- "Order: strip 1, 3, 2." Refused, it leaves everything.
+-- "Order: strip 1, 3, 2." Refused, it leaves everything. "A single call is a strip of one."
 unfoldable pub strip : Capacities → State → List ℕ → ℕ → Stripped
 strip caps s words room =
     let ops = operations words in
@@ -112,7 +112,7 @@ compacting none s =
       after = record { lists = compacted p; compact = true };
     }
 
--- "1, then 2 in that order", of the lengths of the three lent slices
+-- "1, then 2 in that order", of the lengths of the three lent slices. "Dead slots are usable again afterwards": the bounds are then the counts.
 unfoldable pub compaction : State → ℕ → ℕ → ℕ → Compacted
 compaction s node-map edge-map work = compacting (first-short (compaction-slices (s .lists) node-map edge-map work)) s
 

@@ -1,5 +1,7 @@
 -- Survivors, and compaction of the plain lists. Document 01, "Plain lists": "Compaction drops the dead slots, numbers the live ones from 0 in slot order,
 -- makes their counts the bounds and renumbers ends and lists, each list in its order."
+-- "Only in a checked store that neither a fresh one nor an image led to, a list whose base part or run ascends (its dead entries read too) comes out in slot
+-- order, as in the Rust": that speaks of the words of a store and not of its lists alone, and stands with the store's shape.
 use Prim.Native.Nat.{ℕ, zero, suc, _+_, _*_}
 use mathlib.Core.Bool.{Bool, true, false, cond}
 use mathlib.Core.List.{List, [], _∷_, _++_, map}
@@ -82,6 +84,6 @@ of-survivors s = record {
 unfoldable pub compacted : Plain → Plain
 compacted p = of-survivors (survivors p)
 
--- "Work then holds the new out adjacency, then the in adjacency."
+-- "Work then holds the new out adjacency, then the in adjacency; words beyond what is needed are untouched."
 unfoldable pub adjacency : Survivors → List ℕ
 adjacency s = joined (s .outs) ++ joined (s .ins)

@@ -5,7 +5,7 @@ use mathlib.Core.Bool.{true}
 use mathlib.Core.List.{List, [], _∷_, _++_}
 use Rattle.plain.specs.declared.TraversalDirection.the-variants.{Outgoing, Incoming}
 use Rattle.plain.specs.Numbers.{NONE}
-use Rattle.plain.specs.Lists.{member, without, distinct, from, all, count, joined, append-at, delete-at, set-all}
+use Rattle.plain.specs.Lists.{member, without, distinct, from, keep, all, count, joined, append-at, delete-at, set-all}
 use Rattle.plain.specs.Plain.{node-added, edge-added, edge-removed, edges-removed, node-removed, redirected, moved}
 use Rattle.plain.specs.Operations.{unused, decoded, operations}
 use Rattle.plain.specs.Step.{Capacities, State, step, run, answers}
@@ -103,7 +103,7 @@ pub record Examples : Type 0 where
       ≡ codes "0 0 0\n1 0 1\n2 0 0\n3 0 1\n4 0 0\n5 0 1\n000200020000000700000009400000015000000069\n"
 
 pub examples : Examples
-unfolding member without distinct from all count joined append-at delete-at set-all node-added edge-added edge-removed edges-removed node-removed redirected moved unused decoded operations step run answers walk is-compact node-bound-answer edge-bound-answer contains-node contains-edge live-from lookup composed compose rank renumbering-from survivors of-survivors compacted adjacency bits-of value-of bits field-at fields-at row bytes-of pack least-from least-width edge-bits image-bits image records-at cut parsed at-their-nodes lists-right broken-image first-short strip within fresh-within fresh compaction write-image read-within read-image words-of codes digits-before hexadecimal answer-lines lotstrip-run lotstrip history-from history call
+unfolding member without distinct from keep all count joined append-at delete-at set-all node-added edge-added edge-removed edges-removed node-removed redirected moved unused decoded operations step run answers walk is-compact node-bound-answer edge-bound-answer contains-node contains-edge live-from lookup composed compose rank renumbering-from survivors of-survivors compacted adjacency bits-of value-of bits field-at fields-at row bytes-of pack least-from least-width edge-bits image-bits image records-at cut parsed at-their-nodes lists-right broken-image first-short strip within fresh-within fresh compaction write-image read-within read-image words-of codes digits-before hexadecimal answer-lines lotstrip-run lotstrip history-from history call
 examples = record {
   m1 = (refl, refl, refl);
   m2 = refl;

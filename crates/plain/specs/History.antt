@@ -1,12 +1,14 @@
--- Whole histories: a list of strips, compactions and image readings from a fresh store. Document 01, "Demand 3": "Every number answered in them follows from
--- the plain lists and the calls' arguments, lengths included, never from the store's counts or words."
+-- Whole histories: a list of strips, compactions and image readings from a fresh store. Document 01, "Demand 3": "It is one claim about two whole lists of
+-- calls, not one for each call. Every number answered in them follows from the plain lists and the calls' arguments, lengths included, never from the store's
+-- counts or words; a refused call or operation leaves the plain lists and the store as they were." What a field is stands with the store's shape.
 use Prim.Native.Nat.{ℕ, zero, suc}
 use mathlib.Core.Bool.{cond}
 use mathlib.Core.List.{List, [], _∷_}
 use lib.Dec.{eqb}
 use Rattle.plain.specs.Step.{Capacities, State}
 use Rattle.plain.specs.Memory.{exact}
-use Rattle.plain.specs.Calls.{strip, Stripped, compaction, Compacted, read-image, read-state, fresh-state}
+use Rattle.plain.specs.Reads.{Reply}
+use Rattle.plain.specs.Calls.{strip, compaction, read-image, read-state, write-image, fresh-state}
 
 -- A call of a history, with the lengths of what is lent: "strips, compactions and image readings".
 pub data Call : Type 0 where
@@ -48,3 +50,8 @@ called-from caps s (c ∷ calls) = call caps s c ∷ called-from caps (call caps
 -- "from a fresh store"
 unfoldable pub history : Capacities → List Call → State
 history caps calls = history-from caps fresh-state calls
+
+-- "The closing compactions and image writings are meant where they answer 0; the only other number they can give is 2": a compaction, of the lengths of its
+-- three lent slices, and the image of what it leaves, into bytes of a length
+abbrev pub closing-image : State → ℕ → ℕ → ℕ → ℕ → Reply
+closing-image s node-map edge-map work room = write-image (compaction s node-map edge-map work .after) room

@@ -53,7 +53,7 @@ module _ {A : Type 0} where
   joined [] = []
   joined (l ∷ ls) = l ++ joined ls
 
-  -- what a lent slice holds once xs is written at its start: the words past it keep their content
+  -- what a lent slice holds once xs is written at its start: "words past an answer's end keep their content"
   abbrev pub written : List A → List A → List A
   written xs entry = xs ++ drop (length xs) entry
 

@@ -1,4 +1,5 @@
--- The numbers that calls and operations answer: the table of document 01, "The strip".
+-- The numbers that calls and operations answer: the table of document 01, "The strip". Numbers 1, 2, 3, 11, 12 and 13 are a call's and leave
+-- "everything" as it was; 4 to 10 are an operation's and leave the "store".
 use Prim.Native.Nat.{ℕ}
 
 -- "NONE = 4,294,967,295 for 'none'."

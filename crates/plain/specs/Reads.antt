@@ -14,7 +14,8 @@ use Rattle.plain.specs.Lists.{member, keep, count}
 use Rattle.plain.specs.Plain.{Plain, NodeSlot, EdgeSlot, node-bound, edge-bound, node-flags, edge-flags, node-slot, edge-slot, list-of, end-of, opposite}
 use Rattle.plain.specs.Step.{State, node-missing, live-node, live-edge}
 
--- ---- answers
+-- ---- answers: "the entries of a walk, degree or list of live slots, the payload of a node, a bound or count itself, the slot a map lookup gives or NONE, the
+-- bytes of an image, the edge found, 1 or 0 for a yes or no, else 0"
 
 abbrev pub answered : ℕ → Answer
 answered value = record { number = done; value = value }

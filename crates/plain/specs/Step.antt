@@ -99,7 +99,8 @@ moving d old new [] p = unchanged 0 p
 moving d old new (e ∷ es) p =
     unless (node-fault p new) p (changed (length (e ∷ es)) (with-incidence d (moved old new (incidence d p)) p))
 
--- The operation's number, value and lists, its refusals in document 01's order:
+-- The operation's number, value and lists. "Values: new slot; for removals 1 or 0, where 0 means nothing live was there; previous end; edges moved; 0 for code
+-- 9." Its refusals in document 01's order:
 -- "Add node: 4, 10. Removals: 4. Set payload: 4, 7. Add edge: 4, source 5, 6, target 5, 6, then 10. Redirect: 4, 7, 8, 5, 6.
 -- Move: 4, 9, old 5; an empty walk is done, value 0; then new 5, 6."
 unfoldable pub step : Capacities → Plain → Operation → Outcome
