@@ -1,1 +1,4 @@
 pub mod WellFormed
+pub mod Booleans
+pub mod Deleting
+pub mod Directions

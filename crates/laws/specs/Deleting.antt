@@ -1,0 +1,119 @@
+-- Laws of a list after an entry is set, appended or deleted, each as one equation by cases on the index.
+use Prim.Native.Nat.{ℕ, zero, suc, _+_, _≤_, _<_}
+use mathlib.Core.Path.{_≡_, refl, sym, ap, _∙_}
+use mathlib.Core.Bool.{Bool, true, false, cond, _&&_, _||_, not}
+use mathlib.Core.Logic.{_⊎_, inl, inr, ⊎-elim}
+use mathlib.Core.List.{List, [], _∷_, _++_, map}
+use native.Mathlib.Omega.{arith}
+use lib.ListN.{length, getD, set, length-set, length-append}
+use lib.Seq.{getD-set-same, getD-set-other, getD-append-add}
+use lib.Dec.{eqb, eqb·zero-suc, eqb·suc-zero, eqb·suc-suc}
+use borrow.Author.Tests.{eq-eqb, eqb-true, eqb-false, not-true}
+use Rattle.plain.specs.Lists.{member, without, distinct, append-at, delete-at, set-all}
+use Rattle.laws.specs.Booleans.{by-test, true-false, and-left, and-right, and-false, or-true}
+
+-- ---- one entry set, one appended
+
+module _ {A : Type 0} where
+  pub getD-set : (l : List A) (i j : ℕ) (a d : A) → i < length l → getD (set l i a) j d ≡ cond (eqb j i) a (getD l j d)
+  getD-set l i j a d h =
+      by-test (eqb j i) (λ e. rw e (rw (eqb-true j i e) (getD-set-same l i a d h))) (λ e. rw e (getD-set-other l i j a d (eqb-false j i e)))
+
+  pub getD-snoc : (l : List A) (j : ℕ) (a d : A) → getD (l ++ (a ∷ [])) j d ≡ cond (eqb j (length l)) a (getD l j d)
+  getD-snoc [] zero a d = refl
+  getD-snoc [] (suc j) a d = rw (eqb·suc-zero j)
+  getD-snoc (x ∷ l) zero a d = rw (eqb·zero-suc (length l))
+  getD-snoc (x ∷ l) (suc j) a d = rw (eqb·suc-suc j (length l)) (getD-snoc l j a d)
+
+  pub map-set : {B : Type 0} (f : A → B) (l : List A) (i : ℕ) (a : A) → map f (set l i a) ≡ set (map f l) i (f a)
+  map-set f [] i a = refl
+  map-set f (x ∷ l) zero a = refl
+  map-set f (x ∷ l) (suc i) a = rw (map-set f l i a)
+
+-- ---- members
+
+pub member-append : (e : ℕ) (a b : List ℕ) → member e (a ++ b) ≡ (member e a || member e b)
+unfolding member
+member-append e [] b = refl
+member-append e (x ∷ a) b = by-test (eqb e x) (λ h. rw h) (λ h. rw h (member-append e a b))
+
+pub member-without : (e y : ℕ) (l : List ℕ) → member e (without y l) ≡ (not (eqb e y) && member e l)
+unfolding member without
+member-without e y [] = by-test (eqb e y) (λ h. rw h) (λ h. rw h)
+member-without e y (x ∷ l) =
+    by-test (eqb y x)
+    (λ h. rw (h, member-without e y l)
+    (by-test (eqb e y) (λ k. rw k) (λ k. rw (k, ← eqb-true y x h, k))))
+    (λ h. rw (h, member-without e y l)
+    (by-test (eqb e y) (λ k. rw (k, ap (λ (z : ℕ). eqb z x) (eqb-true e y k), h)) (λ k. rw k)))
+
+-- what is deleted is no member
+pub member-gone : (y : ℕ) (l : List ℕ) → member y (without y l) ≡ false
+member-gone y l = rw (member-without y y l, eq-eqb y y refl)
+
+-- deleting leaves the other members
+pub member-kept : (e y : ℕ) (l : List ℕ) → eqb e y ≡ false → member e (without y l) ≡ member e l
+member-kept e y l h = rw (member-without e y l, h)
+
+-- ---- no repeats
+
+pub distinct-without : (y : ℕ) (l : List ℕ) → distinct l ≡ true → distinct (without y l) ≡ true
+unfolding distinct without
+distinct-without y [] h = refl
+distinct-without y (x ∷ l) h =
+    let gone : member x l ≡ false = not-true (member x l) (and-left (not (member x l)) (distinct l) h) in
+    let rest : distinct (without y l) ≡ true = distinct-without y l (and-right (not (member x l)) (distinct l) h) in
+    by-test (eqb y x) (λ k. rw k rest) (λ k. rw (k, member-without x y l, gone, and-false (not (eqb x y))) rest)
+
+-- lists without repeats that share no entry, one after the other
+pub distinct-append : (a b : List ℕ) → distinct a ≡ true → distinct b ≡ true → ((e : ℕ) → member e a ≡ true → member e b ≡ false) → distinct (a ++ b) ≡ true
+unfolding distinct member
+distinct-append [] b h k apart = k
+distinct-append (x ∷ a) b h k apart =
+    let gone : member x a ≡ false = not-true (member x a) (and-left (not (member x a)) (distinct a) h) in
+    let other : member x b ≡ false = apart x (rw (eq-eqb x x refl)) in
+    rw (member-append x a b, gone, other)
+    (distinct-append a b (and-right (not (member x a)) (distinct a) h) k (λ e m. apart e (rw (m, or-true (eqb e x)))))
+
+-- one entry more
+pub distinct-snoc : (a : List ℕ) (e : ℕ) → distinct a ≡ true → member e a ≡ false → distinct (a ++ (e ∷ [])) ≡ true
+unfolding distinct member
+distinct-snoc a e h k =
+    distinct-append a (e ∷ []) h refl
+    (λ y m. by-test (eqb y e) (λ q. true-false m (ap (λ (z : ℕ). member z a) (eqb-true y e q) ∙ k)) (λ q. rw q))
+
+-- ---- a list of lists after one of them is appended to or deleted from
+
+pub getD-append-at : (x z : ℕ) (more : List ℕ) (lists : List (List ℕ)) → x < length lists
+    → getD (append-at x more lists) z [] ≡ cond (eqb z x) (getD lists x [] ++ more) (getD lists z [])
+unfolding append-at
+getD-append-at x z more lists h = getD-set lists x z (getD lists x [] ++ more) [] h
+
+pub getD-delete-at : (x y z : ℕ) (lists : List (List ℕ)) → x < length lists
+    → getD (delete-at x y lists) z [] ≡ cond (eqb z x) (without y (getD lists x [])) (getD lists z [])
+unfolding delete-at
+getD-delete-at x y z lists h = getD-set lists x z (without y (getD lists x [])) [] h
+
+pub length-append-at : (x : ℕ) (more : List ℕ) (lists : List (List ℕ)) → length (append-at x more lists) ≡ length lists
+unfolding append-at
+length-append-at x more lists = length-set lists x (getD lists x [] ++ more)
+
+pub length-delete-at : (x y : ℕ) (lists : List (List ℕ)) → length (delete-at x y lists) ≡ length lists
+unfolding delete-at
+length-delete-at x y lists = length-set lists x (without y (getD lists x []))
+
+-- ---- several places set to one value
+
+pub length-set-all : (places : List ℕ) (v : ℕ) (l : List ℕ) → length (set-all places v l) ≡ length l
+unfolding set-all
+length-set-all [] v l = refl
+length-set-all (i ∷ places) v l = length-set (set-all places v l) i v ∙ length-set-all places v l
+
+pub getD-set-all : (places : List ℕ) (v : ℕ) (l : List ℕ) (e d : ℕ) → ((i : ℕ) → member i places ≡ true → i < length l)
+    → getD (set-all places v l) e d ≡ cond (member e places) v (getD l e d)
+unfolding set-all member
+getD-set-all [] v l e d h = refl
+getD-set-all (i ∷ places) v l e d h =
+    let low : i < length l = h i (rw (eq-eqb i i refl)) in
+    getD-set (set-all places v l) i e v d (rw (length-set-all places v l) low)
+    ∙ by-test (eqb e i) (λ q. rw q) (λ q. rw q (getD-set-all places v l e d (λ k m. h k (rw (m, or-true (eqb k i))))))
