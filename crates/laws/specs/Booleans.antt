@@ -63,6 +63,10 @@ pub and-false : (a : Bool) → (a && false) ≡ false
 and-false true = refl
 and-false false = refl
 
+pub and-true : (a : Bool) → (a && true) ≡ a
+and-true true = refl
+and-true false = refl
+
 pub or-true : (a : Bool) → (a || true) ≡ true
 or-true true = refl
 or-true false = refl

@@ -2,3 +2,5 @@ pub mod WellFormed
 pub mod Booleans
 pub mod Deleting
 pub mod Directions
+pub mod Cases
+pub mod Operating

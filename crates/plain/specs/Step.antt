@@ -1,7 +1,7 @@
 -- One operation of a strip, and a strip: number, value and plain lists. Document 01, "The strip".
 use Prim.Native.Nat.{ℕ, zero, suc, _+_, _*_, _%_}
 use mathlib.Core.Bool.{Bool, true, false, cond, _&&_}
-use mathlib.Core.Option.{Option, none, some}
+use mathlib.Core.Option.{Option, none, some, Option·map}
 use mathlib.Core.List.{List, [], _∷_}
 use lib.ListN.{length}
 use lib.Dec.{eqb, leb}
@@ -49,12 +49,10 @@ slot-fault absent removed (some false) = removed
 slot-fault absent removed (some true) = 0
 
 abbrev pub live-node : Option NodeSlot → Option Bool
-live-node none = none
-live-node (some s) = some (s .live)
+live-node slot = Option·map (λ (s : NodeSlot). s .live) slot
 
 abbrev pub live-edge : Option EdgeSlot → Option Bool
-live-edge none = none
-live-edge (some s) = some (s .live)
+live-edge slot = Option·map (λ (s : EdgeSlot). s .live) slot
 
 -- "node at or above bound" 5; "node removed" 6
 abbrev pub node-fault : Plain → ℕ → ℕ
