@@ -4,3 +4,4 @@ pub mod Deleting
 pub mod Directions
 pub mod Cases
 pub mod Operating
+pub mod Stepping
