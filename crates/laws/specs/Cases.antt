@@ -42,17 +42,17 @@ slot flags x =
 
 -- the lookup of a slot, as what its flag tells
 module _ {A : Type 0} (f : A → Bool) where
-  flag-absent : (l : List A) (x : ℕ) → Absent (map f l) x → Option·map f (getElem? l x) ≡ none
+  pub flag-absent : (l : List A) (x : ℕ) → Absent (map f l) x → Option·map f (getElem? l x) ≡ none
   flag-absent [] x h = refl
   flag-absent (a ∷ l) zero h = absurd (omega arith)
   flag-absent (a ∷ l) (suc x) h = flag-absent l x (omega arith)
 
-  flag-removed : (l : List A) (x : ℕ) → Removed (map f l) x → Option·map f (getElem? l x) ≡ some false
+  pub flag-removed : (l : List A) (x : ℕ) → Removed (map f l) x → Option·map f (getElem? l x) ≡ some false
   flag-removed [] x h = absurd (let b = h .below in omega arith)
   flag-removed (a ∷ l) zero h = ap some (h .dead)
   flag-removed (a ∷ l) (suc x) h = flag-removed l x (record { below = let b = h .below in omega arith; dead = h .dead })
 
-  flag-live : (l : List A) (x : ℕ) → Live (map f l) x → Option·map f (getElem? l x) ≡ some true
+  pub flag-live : (l : List A) (x : ℕ) → Live (map f l) x → Option·map f (getElem? l x) ≡ some true
   flag-live [] x h = true-false refl (sym h)
   flag-live (a ∷ l) zero h = ap some h
   flag-live (a ∷ l) (suc x) h = flag-live l x h

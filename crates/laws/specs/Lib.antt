@@ -5,3 +5,4 @@ pub mod Directions
 pub mod Cases
 pub mod Operating
 pub mod Stepping
+pub mod CallCases

@@ -134,10 +134,11 @@ pub data AllFitting : List Operation → Type 0 where
   one-more : {x : Operation} {xs : List Operation} → Fitting x → AllFitting xs → AllFitting (x ∷ xs)
 
 -- a strip keeps the lists well formed
-pub run-well-formed : {caps : Capacities} {s : State} {ops : List Operation} → AllFitting ops → WellFormed caps (s .lists) → WellFormed caps (run caps s ops .lists)
+pub run-well-formed : {caps : Capacities} (s : State) {ops : List Operation} → AllFitting ops → WellFormed caps (s .lists)
+    → WellFormed caps (run caps s ops .lists)
 unfolding run
-run-well-formed no-more h = h
-run-well-formed (one-more {x} f fs) h = run-well-formed fs (step-well-formed x f h)
+run-well-formed s no-more h = h
+run-well-formed {caps} s (one-more {x} f fs) h = run-well-formed (stepped caps s x) fs (step-well-formed x f h)
 
 -- the words of a strip fit
 abbrev pub Words : List ℕ → Type 0
