@@ -1,7 +1,7 @@
 -- Laws of a list after an entry is set, appended or deleted, each as one equation by cases on the index.
 use Prim.Native.Nat.{ℕ, zero, suc, _+_, _≤_, _<_}
 use mathlib.Core.Path.{_≡_, refl, sym, ap, _∙_}
-use mathlib.Core.Bool.{Bool, true, false, cond, _&&_, _||_, not}
+use mathlib.Core.Bool.{Bool, true, false, cond, _&&_, _||_, not, false≢true}
 use mathlib.Core.Logic.{_⊎_, inl, inr, ⊎-elim}
 use mathlib.Core.List.{List, [], _∷_, _++_, map}
 use native.Mathlib.Omega.{arith}
@@ -9,8 +9,8 @@ use lib.ListN.{length, getD, set, length-set, length-append}
 use lib.Seq.{getD-set-same, getD-set-other, getD-append-add}
 use lib.Dec.{eqb, eqb·zero-suc, eqb·suc-zero, eqb·suc-suc}
 use borrow.Author.Tests.{eq-eqb, eqb-true, eqb-false, not-true}
-use Rattle.plain.specs.Lists.{member, without, distinct, append-at, delete-at, set-all}
-use Rattle.laws.specs.Booleans.{by-test, true-false, and-left, and-right, and-false, or-true}
+use Rattle.plain.specs.Lists.{member, without, distinct, keep, append-at, delete-at, set-all}
+use Rattle.laws.specs.Booleans.{by-test, true-false, and-left, and-right, and-false, or-true, eqb-comm}
 
 -- ---- one entry set, one appended
 
@@ -47,6 +47,17 @@ member-without e y (x ∷ l) =
     (λ h. rw (h, member-without e y l)
     (by-test (eqb e y) (λ k. rw (k, ap (λ (z : ℕ). eqb z x) (eqb-true e y k), h)) (λ k. rw k)))
 
+keep-all : (l : List ℕ) → keep (λ e. true) l ≡ l
+unfolding keep
+keep-all [] = refl
+keep-all (x ∷ l) = rw (keep-all l)
+
+keep-without : (y : ℕ) (ys l : List ℕ) → keep (λ e. not (member e ys)) (without y l) ≡ keep (λ e. not (eqb e y || member e ys)) l
+unfolding keep without
+keep-without y ys [] = refl
+keep-without y ys (x ∷ l) =
+    by-test (eqb y x) (λ q. rw (q, eqb-comm x y, q) (keep-without y ys l)) (λ q. rw (q, eqb-comm x y, q, keep-without y ys l))
+
 -- what is deleted is no member
 pub member-gone : (y : ℕ) (l : List ℕ) → member y (without y l) ≡ false
 member-gone y l = rw (member-without y y l, eq-eqb y y refl)
@@ -54,6 +65,22 @@ member-gone y l = rw (member-without y y l, eq-eqb y y refl)
 -- deleting leaves the other members
 pub member-kept : (e y : ℕ) (l : List ℕ) → eqb e y ≡ false → member e (without y l) ≡ member e l
 member-kept e y l h = rw (member-without e y l, h)
+
+-- deleting what is no member changes nothing
+pub without-absent : (y : ℕ) (l : List ℕ) → member y l ≡ false → without y l ≡ l
+unfolding member without
+without-absent y [] h = refl
+without-absent y (x ∷ l) h = by-test (eqb y x) (λ q. true-false (rw q) h) (λ q. rw (q, without-absent y l (rw q at h)))
+
+-- a list without several entries, one deleted after the other, is what is left of it
+unfoldable pub without-all : List ℕ → List ℕ → List ℕ
+without-all [] l = l
+without-all (y ∷ ys) l = without-all ys (without y l)
+
+pub without-all-keeps : (ys l : List ℕ) → without-all ys l ≡ keep (λ e. not (member e ys)) l
+unfolding without-all member
+without-all-keeps [] l = sym (keep-all l)
+without-all-keeps (y ∷ ys) l = without-all-keeps ys (without y l) ∙ keep-without y ys l
 
 -- ---- no repeats
 
@@ -64,6 +91,15 @@ distinct-without y (x ∷ l) h =
     let gone : member x l ≡ false = not-true (member x l) (and-left (not (member x l)) (distinct l) h) in
     let rest : distinct (without y l) ≡ true = distinct-without y l (and-right (not (member x l)) (distinct l) h) in
     by-test (eqb y x) (λ k. rw k rest) (λ k. rw (k, member-without x y l, gone, and-false (not (eqb x y))) rest)
+
+-- deleting a member of a list without repeats takes one entry
+pub length-without : (y : ℕ) (l : List ℕ) → distinct l ≡ true → member y l ≡ true → suc (length (without y l)) ≡ length l
+unfolding distinct member without
+length-without y [] h m = absurd (false≢true m)
+length-without y (x ∷ l) h m =
+    by-test (eqb y x)
+    (λ q. rw (q, without-absent y l (ap (λ (z : ℕ). member z l) (eqb-true y x q) ∙ not-true (member x l) (and-left (not (member x l)) (distinct l) h))))
+    (λ q. rw q (ap suc (length-without y l (and-right (not (member x l)) (distinct l) h) (rw q at m))))
 
 -- lists without repeats that share no entry, one after the other
 pub distinct-append : (a b : List ℕ) → distinct a ≡ true → distinct b ≡ true → ((e : ℕ) → member e a ≡ true → member e b ≡ false) → distinct (a ++ b) ≡ true

@@ -53,14 +53,14 @@ member-one e y = or-false (eqb e y)
 
 -- an edge more, at a node below the bound
 module _ {flags : List Bool} {n : ℕ} {i : Incidence} (x : ℕ) (low : x < n) (h : Incident flags n i) where
-  attached-list : (z : ℕ) → getD (attached (length flags) x i .lists) z [] ≡ cond (eqb z x) (list-at i x ++ (length flags ∷ [])) (list-at i z)
+  pub attached-list : (z : ℕ) → getD (attached (length flags) x i .lists) z [] ≡ cond (eqb z x) (list-at i x ++ (length flags ∷ [])) (list-at i z)
   attached-list z = getD-append-at x z (length flags ∷ []) (i .lists) (rw (h .lists-length) low)
 
   pub attached-end : (e : ℕ) → getD (attached (length flags) x i .ends) e 0 ≡ cond (eqb e (length flags)) x (end-at i e)
   attached-end e = rw (← h .ends-length) (getD-snoc (i .ends) e x 0)
 
   -- the new edge is in no list yet
-  new-edge : (z : ℕ) → member (length flags) (list-at i z) ≡ false
+  pub new-edge : (z : ℕ) → member (length flags) (list-at i z) ≡ false
   new-edge z = rw (h .listed z (length flags), flag-past flags (length flags) (le-refl (length flags)))
 
   attached-listed : (z e : ℕ) → member e (getD (attached (length flags) x i .lists) z [])
@@ -87,11 +87,11 @@ module _ {flags : List Bool} {n : ℕ} {i : Incidence} (x : ℕ) (low : x < n) (
 
 -- an edge removed, live or not
 module _ {flags : List Bool} {n : ℕ} {i : Incidence} (e : ℕ) (low : e < length flags) (h : Incident flags n i) where
-  detached-list : (z : ℕ) → getD (detached e i .lists) z [] ≡ cond (eqb z (end-at i e)) (without e (list-at i (end-at i e))) (list-at i z)
+  pub detached-list : (z : ℕ) → getD (detached e i .lists) z [] ≡ cond (eqb z (end-at i e)) (without e (list-at i (end-at i e))) (list-at i z)
   detached-list z = getD-delete-at (end-at i e) e z (i .lists) (rw (h .lists-length) (h .ends-below e low))
 
   -- an edge stands in no list but that of its end
-  elsewhere : (z : ℕ) → eqb z (end-at i e) ≡ false → member e (list-at i z) ≡ false
+  pub elsewhere : (z : ℕ) → eqb z (end-at i e) ≡ false → member e (list-at i z) ≡ false
   elsewhere z q = rw (h .listed z e, eqb-comm (end-at i e) z, q, and-false (getD flags e false))
 
   detached-listed : (z k : ℕ) → member k (getD (detached e i .lists) z []) ≡ (getD (set flags e false) k false && eqb (end-at i k) z)
@@ -117,7 +117,7 @@ module _ {flags : List Bool} {n : ℕ} {i : Incidence} (e : ℕ) (low : e < leng
 -- a live edge redirected to another node below the bound
 module _ {flags : List Bool} {n : ℕ} {i : Incidence} (e new : ℕ) (live : getD flags e false ≡ true) (low : new < n) (h : Incident flags n i)
     (other : eqb new (end-at i e) ≡ false) where
-  redirected-list : (z : ℕ) → getD (redirected e new i .lists) z []
+  pub redirected-list : (z : ℕ) → getD (redirected e new i .lists) z []
       ≡ cond (eqb z new) (list-at i new ++ (e ∷ [])) (cond (eqb z (end-at i e)) (without e (list-at i (end-at i e))) (list-at i z))
   unfolding redirected
   redirected-list z =
@@ -154,7 +154,7 @@ module _ {flags : List Bool} {n : ℕ} {i : Incidence} (e new : ℕ) (live : get
 
 -- a node's whole list moved to another node
 module _ {flags : List Bool} {n : ℕ} {i : Incidence} (old new : ℕ) (low-old : old < n) (low : new < n) (h : Incident flags n i) (other : eqb new old ≡ false) where
-  moved-list : (z : ℕ) → getD (moved old new i .lists) z [] ≡ cond (eqb z old) [] (cond (eqb z new) (list-at i new ++ (list-at i old)) (list-at i z))
+  pub moved-list : (z : ℕ) → getD (moved old new i .lists) z [] ≡ cond (eqb z old) [] (cond (eqb z new) (list-at i new ++ (list-at i old)) (list-at i z))
   unfolding moved
   moved-list z =
       getD-set (append-at new (list-at i old) (i .lists)) old z [] [] (rw (length-append-at new (list-at i old) (i .lists), h .lists-length) low-old)
@@ -170,11 +170,11 @@ module _ {flags : List Bool} {n : ℕ} {i : Incidence} (old new : ℕ) (low-old 
   pub moving-live : (k : ℕ) → member k (list-at i old) ≡ true → getD flags k false ≡ true
   moving-live k m = and-left (getD flags k false) (eqb (end-at i k) old) (sym (h .listed old k) ∙ m)
 
-  moving-end : (k : ℕ) → member k (list-at i old) ≡ true → end-at i k ≡ old
+  pub moving-end : (k : ℕ) → member k (list-at i old) ≡ true → end-at i k ≡ old
   moving-end k m = eqb-true (end-at i k) old (and-right (getD flags k false) (eqb (end-at i k) old) (sym (h .listed old k) ∙ m))
 
   -- what moves stands in no other list
-  moving-elsewhere : (z k : ℕ) → eqb z old ≡ false → member k (list-at i old) ≡ true → member k (list-at i z) ≡ false
+  pub moving-elsewhere : (z k : ℕ) → eqb z old ≡ false → member k (list-at i old) ≡ true → member k (list-at i z) ≡ false
   moving-elsewhere z k q m = rw (h .listed z k, moving-end k m, eqb-comm old z, q, and-false (getD flags k false))
 
   moved-listed : (z k : ℕ) → member k (getD (moved old new i .lists) z []) ≡ (getD flags k false && eqb (getD (moved old new i .ends) k 0) z)

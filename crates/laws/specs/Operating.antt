@@ -7,16 +7,16 @@ use native.Mathlib.Omega.{arith}
 use lib.ListN.{length, getD, set, length-set, length-append, length-map, List·getD-eq-default}
 use lib.Seq.{map-set-same, set-getD}
 use lib.Dec.{eqb, lit<}
-use borrow.Author.Tests.{eq-eqb, ne-eqb, not-true}
+use borrow.Author.Tests.{eq-eqb, ne-eqb, eqb-true, not-true}
 use Rattle.plain.specs.declared.TraversalDirection.{TraversalDirection}
 use Rattle.plain.specs.declared.TraversalDirection.the-variants.{Outgoing, Incoming}
-use Rattle.plain.specs.Lists.{member, distinct}
+use Rattle.plain.specs.Lists.{member, without, distinct}
 use Rattle.plain.specs.Plain.{Plain, NodeSlot, EdgeSlot, Incidence, incidence, with-incidence, no-node, no-edge, killed-node, killed-edge, node-bound, edge-bound, node-flags, edge-flags, list-of, end-of, widened, attached, detached, redirected, moved, empty, node-added, edge-added, edge-removed, edges-removed, node-removed, payload-set}
 use Rattle.plain.specs.Step.{Capacities}
 use Rattle.laws.specs.WellFormed.{Incident, WellFormed}
 use Rattle.laws.specs.Booleans.{by-test, true-false, and-left, and-right, and-false, and-true, or-true, or-other, refuted}
-use Rattle.laws.specs.Deleting.{getD-set, getD-snoc, map-set, member-append}
-use Rattle.laws.specs.Directions.{widened-incident, attached-incident, attached-end, detached-incident, redirected-incident, redirected-end, moved-incident, moved-end, moving-live, flag-past, live-below}
+use Rattle.laws.specs.Deleting.{getD-set, getD-snoc, map-set, member-append, without-absent, without-all}
+use Rattle.laws.specs.Directions.{widened-incident, attached-incident, attached-end, detached-incident, detached-list, elsewhere, list-at, end-at, redirected-incident, redirected-end, moved-incident, moved-end, moving-live, flag-past, live-below}
 
 -- ---- both directions at once
 
@@ -198,6 +198,32 @@ edges-removed-well-formed [] h w = w
 edges-removed-well-formed (e ∷ es) {p} h w =
     edges-removed-well-formed es (λ y m. rw (edge-removed-bound e p) (h y (rw (m, or-true (eqb y e)))))
     (edge-removed-well-formed e (h e (rw (eq-eqb e e refl))) w)
+
+-- a removed edge is deleted from every list, its end's and, where it does not stand, any other's
+pub edge-removed-list : {caps : Capacities} {p : Plain} (e : ℕ) → e < edge-bound p → WellFormed caps p → (d : TraversalDirection) (x : ℕ)
+    → list-of d (edge-removed e p) x ≡ without e (list-of d p x)
+unfolding edge-removed
+edge-removed-list {p = p} e low h d x = direction d
+  where
+    lists : (i : Incidence) → Incident (edge-flags p) (node-bound p) i → list-at (detached e i) x ≡ without e (list-at i x)
+    lists i k =
+        let below : e < length (edge-flags p) = rw (length-edge-flags p) low in
+        detached-list e below k x
+        ∙ by-test (eqb x (end-at i e)) (λ q. rw (q, eqb-true x (end-at i e) q)) (λ q. rw (q, without-absent e (list-at i x) (elsewhere e below k x q)))
+
+    direction : (d : TraversalDirection) → list-of d (edge-removed e p) x ≡ without e (list-of d p x)
+    direction Outgoing = lists (p .outgoing) (h .outgoing)
+    direction Incoming = lists (p .incoming) (h .incoming)
+
+-- what several removals leave of each list
+pub edges-removed-list : {caps : Capacities} (es : List ℕ) {p : Plain} → ((e : ℕ) → member e es ≡ true → e < edge-bound p) → WellFormed caps p
+    → (d : TraversalDirection) (x : ℕ) → list-of d (edges-removed es p) x ≡ without-all es (list-of d p x)
+unfolding edges-removed without-all member
+edges-removed-list [] h w d x = refl
+edges-removed-list (e ∷ es) {p} h w d x =
+    let low : e < edge-bound p = h e (rw (eq-eqb e e refl)) in
+    edges-removed-list es (λ y m. rw (edge-removed-bound e p) (h y (rw (m, or-true (eqb y e))))) (edge-removed-well-formed e low w) d x
+    ∙ ap (without-all es) (edge-removed-list e low w d x)
 
 -- nodes and ends stay
 pub edges-removed-nodes : (es : List ℕ) (p : Plain) → edges-removed es p .nodes ≡ p .nodes
