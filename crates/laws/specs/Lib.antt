@@ -1,1 +1,6 @@
 pub mod WellFormed
+pub mod Below
+pub mod Bits
+pub mod Packing
+pub mod Width
+pub mod Cutting
