@@ -4,3 +4,4 @@ pub mod Bits
 pub mod Packing
 pub mod Width
 pub mod Cutting
+pub mod ImageBits

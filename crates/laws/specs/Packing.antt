@@ -30,19 +30,20 @@ stands-front {bytes} {p} a b s =
     }
 
 -- and those after them
-pub stands-rest : {bytes : List ℕ} {p : ℕ} (a b : List ℕ) → Stands bytes p (a ++ b) → Stands bytes (p + length a) b
-stands-rest {bytes} {p} a b s =
+pub stands-rest : {bytes : List ℕ} {p n : ℕ} (a b : List ℕ) → length a ≡ n → Stands bytes p (a ++ b) → Stands bytes (p + n) b
+stands-rest {bytes} {p} a b e s =
     let l : List ℕ = drop p (bits bytes) in
     record {
-      there = ap (take (length b)) (sym (drop-drop (length a) p (bits bytes))) ∙ sym (drop-take (length a) (length b) l)
-          ∙ ap (λ (n : ℕ). drop (length a) (take n l)) (sym (length-append a b)) ∙ ap (drop (length a)) (s .there) ∙ drop-append-seam a b;
+      there = ap (λ (k : ℕ). take (length b) (drop (p + k) (bits bytes))) (sym e) ∙ ap (take (length b)) (sym (drop-drop (length a) p (bits bytes)))
+          ∙ sym (drop-take (length a) (length b) l) ∙ ap (λ (k : ℕ). drop (length a) (take k l)) (sym (length-append a b))
+          ∙ ap (drop (length a)) (s .there) ∙ drop-append-seam a b;
     }
 
 -- and both together
-pub stands-append : {bytes : List ℕ} {p : ℕ} (a b : List ℕ) → Stands bytes p a → Stands bytes (p + length a) b → Stands bytes p (a ++ b)
-stands-append {bytes} {p} a b s t =
+pub stands-append : {bytes : List ℕ} {p n : ℕ} (a b : List ℕ) → length a ≡ n → Stands bytes p a → Stands bytes (p + n) b → Stands bytes p (a ++ b)
+stands-append {bytes} {p} a b e s t =
     record {
-      there = rw (length-append a b, take-add (length a) (length b) (drop p (bits bytes)), drop-drop (length a) p (bits bytes), s .there, t .there);
+      there = rw (length-append a b, take-add (length a) (length b) (drop p (bits bytes)), drop-drop (length a) p (bits bytes), s .there, e, t .there);
     }
 
 -- a place that is known by an equation
@@ -70,15 +71,16 @@ unfolding row fields-at
 stands-row w none s = refl
 stands-row {bytes} {p} w (more {x = v} {xs = vs} h t) s =
     ap₂ {C = List ℕ} (λ x l. x ∷ l) (stands-field w v h (stands-front (bits-of w v) (row w vs) s))
-    (stands-row w t (rw length-bits-of at (stands-rest (bits-of w v) (row w vs) s)))
+    (stands-row w t (stands-rest (bits-of w v) (row w vs) (length-bits-of w v) s))
 
 -- the row of fields stands where they were read
 pub fields-stand : (bytes : List ℕ) (p w n : ℕ) → p + w * n ≤ 8 * length bytes → Stands bytes p (row w (fields-at bytes p w n))
 unfolding row fields-at
 fields-stand bytes p w zero h = record { there = refl }
 fields-stand bytes p w (suc n) h =
-    stands-append (bits-of w (field-at bytes p w)) (row w (fields-at bytes (p + w) w n)) (field-stands bytes p w (omega arith))
-    (rw length-bits-of (fields-stand bytes (p + w) w n (omega arith)))
+    let v : ℕ = field-at bytes p w in
+    stands-append (bits-of w v) (row w (fields-at bytes (p + w) w n)) (length-bits-of w v) (field-stands bytes p w (omega arith))
+    (fields-stand bytes (p + w) w n (omega arith))
 
 -- bits as many as the bytes have are the bytes' bits
 pub stands-whole : {bytes : List ℕ} (f : List ℕ) → length f ≡ 8 * length bytes → Stands bytes 0 f → bits bytes ≡ f
