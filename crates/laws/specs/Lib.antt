@@ -5,3 +5,4 @@ pub mod Packing
 pub mod Width
 pub mod Cutting
 pub mod ImageBits
+pub mod Refusals
