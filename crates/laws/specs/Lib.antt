@@ -6,3 +6,4 @@ pub mod Width
 pub mod Cutting
 pub mod ImageBits
 pub mod Refusals
+pub mod ImageLaws

@@ -1,13 +1,13 @@
 -- The six rules that refuse an image: what each says, that an image is refused by the first one broken, and examples of each.
-use Prim.Native.Nat.{ℕ, zero, suc, _+_, _-_, _*_, _≤_, _<_}
-use mathlib.Core.Path.{_≡_, refl, sym, ap, _∙_}
+use Prim.Native.Nat.{ℕ, _-_, _*_, _≤_, _<_}
+use mathlib.Core.Path.{_≡_, refl, ap}
 use mathlib.Core.Bool.{Bool, true, false, cond, not, _&&_, _||_, true≢false, and-eq-true-iff, and-false, or-true}
-use mathlib.Core.Logic.{_⊎_, inl, inr, ⊎-elim}
+use mathlib.Core.Logic.{_⊎_, ⊎-elim}
 use mathlib.Core.List.{List, [], _∷_, map}
 use native.Mathlib.Omega.{arith}
 use lib.ListN.{length, getD, length-map}
 use lib.Dec.{eqb, ltb}
-use borrow.Author.Tests.{ltb-true, ltb-false, lt-ltb, le-ltb, eqb-true, eqb-false, eq-eqb, ne-eqb, not-false, not-true}
+use borrow.Author.Tests.{ltb-true, ltb-false, lt-ltb, le-ltb, eqb-true, eq-eqb, ne-eqb, not-false}
 use Rattle.plain.specs.Numbers.{LIMIT}
 use Rattle.plain.specs.Lists.{member, distinct, from, all, count, joined}
 use Rattle.plain.specs.Compaction.{EdgeRecord, source-of, target-of}
@@ -86,7 +86,7 @@ unfolding parsed
 length-edges-in bytes f = simp (length-map, length-records-at)
 
 -- a bound on a number of each edge, said of each place or of the list
-below-edges : (bytes : List ℕ) (f : EdgeRecord → ℕ) {n : ℕ} → ((e : ℕ) → e < edges-in bytes → getD (map f (parsed bytes .edges)) e 0 < n)
+pub below-edges : (bytes : List ℕ) (f : EdgeRecord → ℕ) {n : ℕ} → ((e : ℕ) → e < edges-in bytes → getD (map f (parsed bytes .edges)) e 0 < n)
     → Below n (map f (parsed bytes .edges))
 below-edges bytes f h = below-of (map f (parsed bytes .edges)) (λ e k. h e (omega (arith, length-edges-in bytes f)))
 
@@ -198,8 +198,8 @@ module _ (bytes : List ℕ) where
   unfolding broken-image
   readable q =
       let t = six (ltb (length bytes) 4) (ltb LIMIT (nodes-in bytes) || ltb LIMIT (edges-in bytes)) (not (eqb (length bytes) (bytes-for (size-in bytes))))
-          (not (eqb (padding-in bytes) 0)) (not (all (ends-within (nodes-in bytes)) (parsed bytes .edges)))
-          (not (lists-right (sources-in bytes) (parsed bytes .outs) && lists-right (targets-in bytes) (parsed bytes .ins))) q in
+      (not (eqb (padding-in bytes) 0)) (not (all (ends-within (nodes-in bytes)) (parsed bytes .edges)))
+      (not (lists-right (sources-in bytes) (parsed bytes .outs) && lists-right (targets-in bytes) (parsed bytes .ins))) q in
       let counts = or-false-iff (ltb LIMIT (nodes-in bytes)) (ltb LIMIT (edges-in bytes)) (t .second) in
       let ends = ends-all (parsed bytes .edges) (not-false _ (t .fifth)) in
       let lists = and-eq-true-iff (lists-right (sources-in bytes) (parsed bytes .outs)) (lists-right (targets-in bytes) (parsed bytes .ins)) .0 (not-false _ (t .sixth)) in
