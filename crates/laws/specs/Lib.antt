@@ -1,1 +1,5 @@
 pub mod WellFormed
+pub mod Booleans
+pub mod ListLaws
+pub mod Rank
+pub mod Renumberings
