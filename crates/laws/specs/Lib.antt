@@ -3,3 +3,4 @@ pub mod Booleans
 pub mod ListLaws
 pub mod Rank
 pub mod Renumberings
+pub mod Fitting

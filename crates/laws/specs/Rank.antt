@@ -230,3 +230,9 @@ pub live-from-all-live : (a n : ℕ) → live-from a (replicate n true) ≡ from
 unfolding live-from from
 live-from-all-live a zero = refl
 live-from-all-live a (suc n) = ap (λ (l : List ℕ). a ∷ l) (live-from-all-live (suc a) n)
+
+-- where every slot is live, a slot is live below the bound and only there
+pub live-all-live : (n x : ℕ) → getD (replicate n true) x false ≡ ltb x n
+live-all-live zero x = sym (leb·suc-zero x)
+live-all-live (suc n) zero = sym (lt-ltb 0 (suc n) (omega arith))
+live-all-live (suc n) (suc x) = live-all-live n x ∙ sym (leb·suc-suc (suc x) n)
