@@ -98,11 +98,11 @@ distinct-edges-at ends x = distinct-keep (λ e. eqb x (getD ends e 0)) (from 0 (
 
 -- ---- the two theorems
 
-module _ (n m : ℕ) (i : Incidence) (long : length (i .ends) ≡ m) where
-  -- where every edge is live, the live edges with end x are the edges with end x
-  live-has-end : (x e : ℕ) → (getD (replicate m true) e false && eqb (getD (i .ends) e 0) x) ≡ has-end (i .ends) x e
-  live-has-end x e = ap (λ (live : Bool). live && eqb (getD (i .ends) e 0) x) (live-all-live m e ∙ ap (ltb e) (sym long))
+-- where every edge is live, the live edges with end x are the edges with end x
+pub live-has-end : (ends : List ℕ) (m x e : ℕ) → length ends ≡ m → (getD (replicate m true) e false && eqb (getD ends e 0) x) ≡ has-end ends x e
+live-has-end ends m x e long = ap (λ (live : Bool). live && eqb (getD ends e 0) x) (live-all-live m e ∙ ap (ltb e) (sym long))
 
+module _ (n m : ℕ) (i : Incidence) (long : length (i .ends) ≡ m) where
   -- where every edge is live, well-formed lists are fitted: each is as long as the edges' ends say
   pub incident-fitted : Incident (replicate m true) n i → Fitted n (i .ends) (i .lists)
   incident-fitted t = record {
@@ -116,7 +116,7 @@ module _ (n m : ℕ) (i : Incidence) (long : length (i .ends) ≡ m) where
   }
     where
       here : (x e : ℕ) → member e (getD (i .lists) x []) ≡ has-end (i .ends) x e
-      here x e = t .listed x e ∙ live-has-end x e
+      here x e = t .listed x e ∙ live-has-end (i .ends) m x e long
 
       as-long : (x : ℕ) → length (getD (i .lists) x []) ≡ count (eqb x) (i .ends)
       as-long x =
@@ -130,7 +130,7 @@ module _ (n m : ℕ) (i : Incidence) (long : length (i .ends) ≡ m) where
     ends-length = long ∙ sym (length-replicate m true);
     lists-length = as-many;
     ends-below = λ e h. f .ends-below e (subst (λ (k : ℕ). e < k) (length-replicate m true ∙ sym long) h);
-    listed = λ x e. same-truth (member e (getD (i .lists) x [])) (has-end (i .ends) x e) (r .at-end x e) (all-there x e) ∙ sym (live-has-end x e);
+    listed = λ x e. same-truth (member e (getD (i .lists) x [])) (has-end (i .ends) x e) (r .at-end x e) (all-there x e) ∙ sym (live-has-end (i .ends) m x e long);
     once = r .once;
   }
     where

@@ -4,3 +4,4 @@ pub mod ListLaws
 pub mod Rank
 pub mod Renumberings
 pub mod Fitting
+pub mod Compacting

@@ -27,6 +27,12 @@ module _ {A B : Type 0} where
   getD-map f (x ∷ xs) zero c d h = refl
   getD-map f (x ∷ xs) (suc i) c d h = getD-map f xs i c d (le-of-suc-le-suc h)
 
+  -- what is true of all values, and of what stands past the end, is true of the elements of a map
+  pub getD-map-each : (P : B → Type 0) (f : A → B) (xs : List A) (d : B) → P d → ((x : A) → P (f x)) → (i : ℕ) → P (getD (map f xs) i d)
+  getD-map-each P f [] d past each i = past
+  getD-map-each P f (x ∷ xs) d past each zero = each x
+  getD-map-each P f (x ∷ xs) d past each (suc i) = getD-map-each P f xs d past each i
+
 -- ---- members
 
 -- a member of two lists, one after the other, is a member of one of them
@@ -337,6 +343,14 @@ same-refl [] = refl
 same-refl (x ∷ xs) = both-true (eq-eqb x x refl) (same-refl xs)
 
 -- ---- lists of lists
+
+-- a member of the list that a map has at an index: the index is within, and the member is one of the value there
+pub member-getD-map : (f : ℕ → List ℕ) (xs : List ℕ) (i e : ℕ) → member e (getD (map f xs) i []) ≡ true
+    → (i < length xs) × (member e (f (getD xs i 0)) ≡ true)
+unfolding member
+member-getD-map f [] i e h = true-false h refl
+member-getD-map f (x ∷ xs) zero e h = (suc-le-suc zero-le, h)
+member-getD-map f (x ∷ xs) (suc i) e h = let rest = member-getD-map f xs i e h in (suc-le-suc (rest .0), rest .1)
 
 -- a member of a list is a member of the lists joined
 pub member-joined : (e : ℕ) (ls : List (List ℕ)) (x : ℕ) → member e (getD ls x []) ≡ true → member e (joined ls) ≡ true
