@@ -1,4 +1,10 @@
 pub mod WellFormed
+pub mod Booleans
+pub mod ListLaws
+pub mod Rank
+pub mod Renumberings
+pub mod Fitting
+pub mod Compacting
 pub mod Below
 pub mod Bits
 pub mod Packing
