@@ -14,20 +14,24 @@ pub data Below (b : ℕ) : List ℕ → Type 0 where
   none : Below b []
   more : {x : ℕ} {xs : List ℕ} → x < b → Below b xs → Below b (x ∷ xs)
 
+-- of two lists, one after the other
 pub below-append : {b : ℕ} {k l : List ℕ} → Below b k → Below b l → Below b (k ++ l)
 below-append none t = t
 below-append (more h s) t = more h (below-append s t)
 
+-- of a front
 pub below-take : {b : ℕ} {l : List ℕ} (n : ℕ) → Below b l → Below b (take n l)
 below-take zero s = none
 below-take (suc n) none = none
 below-take (suc n) (more h s) = more h (below-take n s)
 
+-- of a rest
 pub below-drop : {b : ℕ} {l : List ℕ} (n : ℕ) → Below b l → Below b (drop n l)
 below-drop zero s = s
 below-drop (suc n) none = none
 below-drop (suc n) (more h s) = below-drop n s
 
+-- of a higher bound
 pub below-mono : {a b : ℕ} {l : List ℕ} → a ≤ b → Below a l → Below b l
 below-mono h none = none
 below-mono h (more l s) = more (lt-of-lt-of-le l h) (below-mono h s)
@@ -44,6 +48,7 @@ below-within none i k = absurd (omega arith)
 below-within (more h s) zero k = h
 below-within (more h s) (suc i) k = below-within s i (omega arith)
 
+-- from each place within the list
 pub below-of : {b : ℕ} (l : List ℕ) → ((i : ℕ) → i < length l → getD l i 0 < b) → Below b l
 below-of [] f = none
 below-of (x ∷ l) f = more (f 0 (omega arith)) (below-of l (λ i h. f (suc i) (omega arith)))
@@ -56,6 +61,7 @@ below-all {b} (x ∷ l) e =
     let both = and-eq-true-iff (ltb x b) (all (λ y. ltb y b) l) .0 e in
     more (ltb-true x b (both .0)) (below-all l (both .1))
 
+-- and back
 pub all-below : {b : ℕ} {l : List ℕ} → Below b l → all (λ e. ltb e b) l ≡ true
 unfolding all
 all-below none = refl

@@ -14,6 +14,7 @@ use Rattle.laws.specs.Below.{Below, none, more, below-append, below-take
 
 -- ---- a number and its bits
 
+-- as many bits as the width
 pub length-bits-of : (w v : ℕ) → length (bits-of w v) ≡ w
 unfolding bits-of
 length-bits-of zero v = refl
@@ -35,26 +36,31 @@ bits-of-ext (suc w) a b e =
     (sym (field a 1 w) ∙ ap (λ (x : ℕ). x / 2 ^ w) d ∙ field b 1 w)
     (bits-of-ext w a b (sym (mod-mod-pow a 1 w) ∙ ap (λ (x : ℕ). x % 2 ^ w) d ∙ mod-mod-pow b 1 w))
 
+-- each is 0 or 1
 pub below-bits-of : (w v : ℕ) → Below 2 (bits-of w v)
 unfolding bits-of
 below-bits-of zero v = none
 below-bits-of (suc w) v = more {x = v / 2 ^ w % 2} (omega arith) (below-bits-of w v)
 
+-- bits after others count as lower digits
 pub value-of-append : (a b : List ℕ) → value-of (a ++ b) ≡ value-of a * 2 ^ length b + value-of b
 unfolding value-of
 value-of-append [] b = omega arith
 value-of-append (x ∷ a) b = rw (value-of-append a b, length-append a b, pow-add) (omega arith)
 
+-- the bits of a number stand for what of it the width holds
 pub value-of-bits-of : (w v : ℕ) → value-of (bits-of w v) ≡ v % 2 ^ w
 unfolding bits-of value-of
 value-of-bits-of zero v = omega arith
 value-of-bits-of (suc w) v = rw (value-of-bits-of w v, length-bits-of w v, ← mod-pow-add v 1 w) (ap (λ (x : ℕ). v % 2 ^ x) (omega arith))
 
+-- as many bits hold what they stand for
 pub value-of-lt : {bs : List ℕ} → Below 2 bs → value-of bs < 2 ^ length bs
 unfolding value-of
 value-of-lt none = omega arith
 value-of-lt (more {xs = bs} h s) = omega (arith, pow-suc 2 (length bs), digits-lt h (value-of-lt s))
 
+-- bits are those of the number that they stand for
 pub bits-of-value-of : {bs : List ℕ} → Below 2 bs → bits-of (length bs) (value-of bs) ≡ bs
 unfolding value-of bits-of
 bits-of-value-of none = refl
@@ -69,16 +75,19 @@ bits-of-injective w u v hu hv e = sym (mod-eq-of-lt hu) ∙ sym (value-of-bits-o
 
 -- ---- the bits of bytes
 
+-- eight bits a byte
 pub length-bits : (bytes : List ℕ) → length (bits bytes) ≡ 8 * length bytes
 unfolding bits
 length-bits [] = refl
 length-bits (b ∷ bytes) = rw (length-append, length-bits-of, length-bits bytes) (omega arith)
 
+-- of two lists of bytes, one after the other
 pub bits-append : (a b : List ℕ) → bits (a ++ b) ≡ bits a ++ bits b
 unfolding bits
 bits-append [] b = refl
 bits-append (x ∷ a) b = rw (bits-append a b, append-assoc)
 
+-- each is 0 or 1
 pub below-bits : (bytes : List ℕ) → Below 2 (bits bytes)
 unfolding bits
 below-bits [] = none
@@ -112,11 +121,13 @@ pub field-at-zero : (bytes : List ℕ) (p : ℕ) → field-at bytes p 0 ≡ 0
 unfolding field-at value-of
 field-at-zero bytes p = refl
 
+-- as many fields as asked for
 pub length-fields-at : (bytes : List ℕ) (p w n : ℕ) → length (fields-at bytes p w n) ≡ n
 unfolding fields-at
 length-fields-at bytes p w zero = refl
 length-fields-at bytes p w (suc n) = ap suc (length-fields-at bytes (p + w) w n)
 
+-- each is below the power of the width
 pub below-fields-at : (bytes : List ℕ) (p w n : ℕ) → Below (2 ^ w) (fields-at bytes p w n)
 unfolding fields-at
 below-fields-at bytes p w zero = none
@@ -124,16 +135,19 @@ below-fields-at bytes p w (suc n) = more (field-at-lt bytes p w) (below-fields-a
 
 -- ---- rows
 
+-- a row has as many bits as its values at the width
 pub length-row : (w : ℕ) (vs : List ℕ) → length (row w vs) ≡ w * length vs
 unfolding row
 length-row w [] = omega arith
 length-row w (v ∷ vs) = rw (length-append (bits-of w v) (row w vs), length-bits-of w v, length-row w vs) (omega arith)
 
+-- of two lists of values, one after the other
 pub row-append : (w : ℕ) (a b : List ℕ) → row w (a ++ b) ≡ row w a ++ row w b
 unfolding row
 row-append w [] b = refl
 row-append w (v ∷ a) b = rw (row-append w a b) (simp append-assoc)
 
+-- each bit is 0 or 1
 pub below-row : (w : ℕ) (vs : List ℕ) → Below 2 (row w vs)
 unfolding row
 below-row w [] = none

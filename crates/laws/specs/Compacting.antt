@@ -60,13 +60,13 @@ module _ (nodes edges : List Bool) (n : ℕ) (i : Incidence) (t : Incident edges
       let live = listed-live old (found .0) (found .1) in
       let below = subst (λ (r : ℕ). r < live-count edges) (found .2) (rank-live edges (found .0) live) in
       let again : getD (live-slots edges) k 0 ≡ found .0 =
-            ap (λ (r : ℕ). getD (live-slots edges) r 0) (sym (found .2)) ∙ live-slot-rank edges (found .0) 0 live in
+      ap (λ (r : ℕ). getD (live-slots edges) r 0) (sym (found .2)) ∙ live-slot-rank edges (found .0) 0 live in
       both-true (lt-ltb k (length (compacted-incidence nodes edges i .ends)) (subst (λ (m : ℕ). k < m) (sym length-ends) below))
       (eq-eqb (getD (compacted-incidence nodes edges i .ends) k 0) x
-        (compacted-end k below
-          ∙ ap (λ (e : ℕ). rank nodes (getD (i .ends) e 0)) again
-          ∙ ap (rank nodes) (listed-end old (found .0) (found .1))
-          ∙ rank-live-slot nodes x (subst (λ (m : ℕ). x < m) (length-live-slots nodes) (at .0))))
+      (compacted-end k below
+      ∙ ap (λ (e : ℕ). rank nodes (getD (i .ends) e 0)) again
+      ∙ ap (rank nodes) (listed-end old (found .0) (found .1))
+      ∙ rank-live-slot nodes x (subst (λ (m : ℕ). x < m) (length-live-slots nodes) (at .0))))
 
   -- a survivor stands in the compacted list of its end
   compacted-listed : (x k : ℕ) → has-end (compacted-incidence nodes edges i .ends) x k ≡ true
@@ -79,10 +79,10 @@ module _ (nodes edges : List Bool) (n : ℕ) (i : Incidence) (t : Incident edges
       let new : rank nodes old ≡ x = sym (compacted-end k below) ∙ has-end-at (compacted-incidence nodes edges i .ends) x k h in
       let inside = subst (λ (r : ℕ). r < live-count nodes) new (rank-live nodes old (ends-live e live)) in
       let again : getD (live-slots nodes) x 0 ≡ old =
-            ap (λ (r : ℕ). getD (live-slots nodes) r 0) (sym new) ∙ live-slot-rank nodes old 0 (ends-live e live) in
+      ap (λ (r : ℕ). getD (live-slots nodes) r 0) (sym new) ∙ live-slot-rank nodes old 0 (ends-live e live) in
       ap₂ member (sym (rank-live-slot edges k below))
-        (getD-map (λ x. map (rank edges) (getD (i .lists) x [])) (live-slots nodes) x 0 [] (subst (λ (m : ℕ). x < m) (sym (length-live-slots nodes)) inside)
-          ∙ ap (λ (y : ℕ). map (rank edges) (getD (i .lists) y [])) again)
+      (getD-map (λ x. map (rank edges) (getD (i .lists) x [])) (live-slots nodes) x 0 [] (subst (λ (m : ℕ). x < m) (sym (length-live-slots nodes)) inside)
+      ∙ ap (λ (y : ℕ). map (rank edges) (getD (i .lists) y [])) again)
       ∙ member-mapped (rank edges) e (getD (i .lists) old []) (t .listed old e ∙ both-true live (eq-eqb old old refl))
 
   -- compaction leaves one direction well formed, with every edge live
@@ -95,13 +95,13 @@ module _ (nodes edges : List Bool) (n : ℕ) (i : Incidence) (t : Incident edges
         let below = subst (λ (m : ℕ). k < m) (length-replicate (live-count edges) true) h in
         let e = getD (live-slots edges) k 0 in
         subst (λ (r : ℕ). r < live-count nodes) (sym (compacted-end k below))
-          (rank-live nodes (getD (i .ends) e 0) (ends-live e (live-slot-live edges k 0 below)));
+        (rank-live nodes (getD (i .ends) e 0) (ends-live e (live-slot-live edges k 0 below)));
     listed = λ x k.
         same-truth (member k (getD (compacted-incidence nodes edges i .lists) x [])) (has-end (compacted-incidence nodes edges i .ends) x k)
-          (compacted-at-end x k) (compacted-listed x k)
+        (compacted-at-end x k) (compacted-listed x k)
         ∙ sym (live-has-end (compacted-incidence nodes edges i .ends) (live-count edges) x k length-ends);
     once = getD-map-each (λ (l : List ℕ). distinct l ≡ true) (λ x. map (rank edges) (getD (i .lists) x [])) (live-slots nodes) [] refl
         (λ x.
-          distinct-map (rank edges) (getD (i .lists) x []) (λ e f h k. rank-injective edges e f (listed-live x e h) (listed-live x f k))
-          ∙ t .once x);
+        distinct-map (rank edges) (getD (i .lists) x []) (λ e f h k. rank-injective edges e f (listed-live x e h) (listed-live x f k))
+        ∙ t .once x);
   }

@@ -23,6 +23,7 @@ sum (n ∷ ns) = n + sum ns
 abbrev pub lengths : List (List ℕ) → List ℕ
 lengths lists = map (λ (l : List ℕ). length l) lists
 
+-- joined lists are as long as they are together
 pub length-joined : (lists : List (List ℕ)) → length (joined lists) ≡ sum (lengths lists)
 unfolding joined sum
 length-joined [] = refl

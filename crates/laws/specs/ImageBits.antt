@@ -18,22 +18,26 @@ payload-of r = r .payload
 
 -- ---- the edges' records
 
+-- as many bits as the records at their width
 pub length-edge-bits : (w : ℕ) (es : List EdgeRecord) → length (edge-bits w es) ≡ record-width w * length es
 unfolding edge-bits
 length-edge-bits w [] = omega arith
 length-edge-bits w (e ∷ es) = simp (length-append, length-bits-of, length-edge-bits w es) (omega arith)
 
+-- each is 0 or 1
 pub below-edge-bits : (w : ℕ) (es : List EdgeRecord) → Below 2 (edge-bits w es)
 unfolding edge-bits
 below-edge-bits w [] = none
 below-edge-bits w (e ∷ es) =
     below-append (below-bits-of w (e .source)) (below-append (below-bits-of w (e .target)) (below-append (below-bits-of 32 (e .payload)) (below-edge-bits w es)))
 
+-- as many records as asked for
 pub length-records-at : (bytes : List ℕ) (p w m : ℕ) → length (records-at bytes p w m) ≡ m
 unfolding records-at
 length-records-at bytes p w zero = refl
 length-records-at bytes p w (suc m) = ap suc (length-records-at bytes (p + record-width w) w m)
 
+-- each payload fits its word
 pub below-payloads-at : (bytes : List ℕ) (p w m : ℕ) → Below (2 ^ 32) (map payload-of (records-at bytes p w m))
 unfolding records-at
 below-payloads-at bytes p w zero = none
@@ -91,6 +95,7 @@ pub record Parts (bytes : List ℕ) (w v : ℕ) (s : Survivors) : Type 0 where
   pub outs : Stands bytes (outs-from w (length (s .nodes)) (length (s .edges))) (row v (joined (s .outs)))
   pub ins : Stands bytes (ins-from w v (length (s .nodes)) (length (s .edges))) (row v (joined (s .ins)))
 
+-- each bit of an image is 0 or 1
 pub below-image-bits : (w v : ℕ) (s : Survivors) → Below 2 (image-bits w v s)
 unfolding image-bits
 below-image-bits w v s =

@@ -157,10 +157,12 @@ image-injective s t h k e = sym (read-back s h) ∙ ap parsed e ∙ read-back t 
 
 -- ---- whatever is read was written
 
+-- as many nodes are read as the first count says
 pub nodes-length : (bytes : List ℕ) → length (parsed bytes .nodes) ≡ nodes-in bytes
 unfolding parsed
 nodes-length bytes = length-fields-at bytes 32 32 (nodes-in bytes)
 
+-- and as many edges as the second
 pub edges-length : (bytes : List ℕ) → length (parsed bytes .edges) ≡ edges-in bytes
 unfolding parsed
 edges-length bytes = length-records-at bytes (edges-start (nodes-in bytes)) (least-width (nodes-in bytes)) (edges-in bytes)

@@ -13,3 +13,4 @@ pub mod Cutting
 pub mod ImageBits
 pub mod Refusals
 pub mod ImageLaws
+pub mod Ascending

@@ -88,6 +88,7 @@ stands-whole {bytes} f e s = sym (take-all (length f) (bits bytes) (rw length-bi
 
 -- ---- packing
 
+-- as many bytes as asked for
 pub length-bytes-of : (n : ℕ) (bs : List ℕ) → length (bytes-of n bs) ≡ n
 unfolding bytes-of
 length-bytes-of zero bs = refl
@@ -101,6 +102,7 @@ below-bytes-of (suc n) {bs} s h =
     let l : length (take 8 bs) ≡ 8 = simp length-take (omega arith) in
     more (rw l at (value-of-lt (below-take 8 s))) (below-bytes-of n (below-drop 8 s) (rw length-drop (omega arith)))
 
+-- the bits of bytes that were made of bits are these bits
 pub bits-bytes-of : (n : ℕ) {bs : List ℕ} → Below 2 bs → 8 * n ≤ length bs → bits (bytes-of n bs) ≡ take (8 * n) bs
 unfolding bits bytes-of
 bits-bytes-of zero s h = refl
@@ -110,6 +112,7 @@ bits-bytes-of (suc n) {bs} s h =
     let g : bits-of 8 (value-of (take 8 bs)) ≡ take 8 bs = rw e at (bits-of-value-of (below-take 8 s)) in
     rw (f, take-add 8 (8 * n) bs, g, bits-bytes-of n (below-drop 8 s) (rw length-drop (omega arith)))
 
+-- as many bytes as the bits take
 pub length-pack : (bs : List ℕ) → length (pack bs) ≡ bytes-for (length bs)
 unfolding pack
 length-pack bs = length-bytes-of (bytes-for (length bs)) (bs ++ replicate 7 0)
@@ -132,6 +135,7 @@ below-padded s = below-append s (below-bits-of 7 0)
 room : (bs : List ℕ) → 8 * bytes-for (length bs) ≤ length (bs ++ replicate 7 0)
 room bs = rw (length-append, length-replicate) (omega arith)
 
+-- each of what is packed is a byte
 pub below-pack : {bs : List ℕ} → Below 2 bs → Below 256 (pack bs)
 unfolding pack
 below-pack {bs} s = below-bytes-of (bytes-for (length bs)) (below-padded s) (room bs)
@@ -145,6 +149,7 @@ bits-pack {bs} s =
     bits-bytes-of n (below-padded s) (room bs) ∙ ap (λ (m : ℕ). take m (bs ++ replicate 7 0)) f
     ∙ take-append-add bs (replicate 7 0) (padding (length bs)) ∙ ap (λ (z : List ℕ). bs ++ z) (zeros (padding (length bs)) (omega arith))
 
+-- the same, as bits that stand at the start
 pub pack-stands : {bs : List ℕ} → Below 2 bs → Stands (pack bs) 0 (bs ++ bits-of (padding (length bs)) 0)
 pack-stands {bs} s = record { there = rw (bits-pack s) (take-length (bs ++ bits-of (padding (length bs)) 0)) }
 

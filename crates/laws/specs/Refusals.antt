@@ -13,6 +13,7 @@ use Rattle.plain.specs.Lists.{member, distinct, from, all, count, joined}
 use Rattle.plain.specs.Compaction.{EdgeRecord, source-of, target-of}
 use Rattle.plain.specs.Bits.{bits-of, value-of, bits, field-at, fields-at, bytes-for, least-from, least-width}
 use Rattle.plain.specs.Image.{nodes-in, edges-in, image-size, records-at, cut, parsed, at-their-nodes, lists-right, broken-image}
+use Rattle.laws.specs.Booleans.{refuted}
 use Rattle.laws.specs.Below.{Below, none, more, below-of, below-within}
 use Rattle.laws.specs.ImageBits.{length-records-at}
 
@@ -94,7 +95,7 @@ edges-below : (bytes : List ℕ) (f : EdgeRecord → ℕ) {n : ℕ} → Below n 
     → getD (map f (parsed bytes .edges)) e 0 < n
 edges-below bytes f s e h = below-within s e (omega (arith, length-edges-in bytes f))
 
--- six tests that all fail
+-- Six tests that all fail.
 record Six (a b c d e f : Bool) : Type 0 where
   first : a ≡ false
   second : b ≡ false
@@ -112,13 +113,10 @@ six false false false false true f q = absurd (omega arith)
 six false false false false false true q = absurd (omega arith)
 six false false false false false false q = record { first = refl; second = refl; third = refl; fourth = refl; fifth = refl; sixth = refl }
 
-is-false : (b : Bool) → (b ≡ true → ⊥) → b ≡ false
-is-false true h = absurd (h refl)
-is-false false h = refl
-
-or-false-iff : (a b : Bool) → (a || b) ≡ false → (a ≡ false) × (b ≡ false)
-or-false-iff true b e = absurd (true≢false e)
-or-false-iff false b e = (refl, e)
+-- both parts of a disjunction fail where it does
+neither : (a b : Bool) → (a || b) ≡ false → (a ≡ false) × (b ≡ false)
+neither true b e = absurd (true≢false e)
+neither false b e = (refl, e)
 
 module _ (bytes : List ℕ) where
   test₁ : 4 ≤ length bytes → ltb (length bytes) 4 ≡ false
@@ -172,7 +170,7 @@ module _ (bytes : List ℕ) where
   refused-5 c e h o =
       let es : List EdgeRecord = parsed bytes .edges in
       let astray : all (ends-within (nodes-in bytes)) es ≡ false =
-      is-false _ (λ q. ⊎-elim (λ l. omega (arith, edges-below bytes source-of (ends-all es q .0) e h))
+      refuted _ (λ q. ⊎-elim (λ l. omega (arith, edges-below bytes source-of (ends-all es q .0) e h))
       (λ l. omega (arith, edges-below bytes target-of (ends-all es q .1) e h)) o) in
       rw (test₁ (c .sized .counted .four), test₂ (c .sized .counted), test₃ (c .sized), test₄ c, astray)
 
@@ -200,7 +198,7 @@ module _ (bytes : List ℕ) where
       let t = six (ltb (length bytes) 4) (ltb LIMIT (nodes-in bytes) || ltb LIMIT (edges-in bytes)) (not (eqb (length bytes) (bytes-for (size-in bytes))))
       (not (eqb (padding-in bytes) 0)) (not (all (ends-within (nodes-in bytes)) (parsed bytes .edges)))
       (not (lists-right (sources-in bytes) (parsed bytes .outs) && lists-right (targets-in bytes) (parsed bytes .ins))) q in
-      let counts = or-false-iff (ltb LIMIT (nodes-in bytes)) (ltb LIMIT (edges-in bytes)) (t .second) in
+      let counts = neither (ltb LIMIT (nodes-in bytes)) (ltb LIMIT (edges-in bytes)) (t .second) in
       let ends = ends-all (parsed bytes .edges) (not-false _ (t .fifth)) in
       let lists = and-eq-true-iff (lists-right (sources-in bytes) (parsed bytes .outs)) (lists-right (targets-in bytes) (parsed bytes .ins)) .0 (not-false _ (t .sixth)) in
       let counted : Counted bytes = record {
