@@ -1,0 +1,107 @@
+-- Compaction: what it leaves is well formed with every slot live, and compacting that changes nothing.
+use Prim.Native.Nat.{ℕ, zero, suc, _+_, _≤_, _<_, _^_}
+use native.Mathlib.Omega.{arith}
+use mathlib.Core.Path.{_≡_, refl, sym, ap, ap₂, _∙_, subst, subst₂}
+use mathlib.Core.Bool.{Bool, true, false, _&&_}
+use mathlib.Core.List.{List, [], _∷_, map, map-map, map-id}
+use lib.ListN.{length, getD, replicate, length-map, length-replicate, List·getD-map}
+use lib.Dec.{eqb, ltb}
+use borrow.Author.Tests.{eqb-true, eq-eqb, ltb-true, lt-ltb}
+use Rattle.plain.specs.declared.TraversalDirection.{TraversalDirection}
+use Rattle.plain.specs.declared.TraversalDirection.the-variants.{Outgoing, Incoming}
+use Rattle.plain.specs.Numbers.{LIMIT}
+use Rattle.plain.specs.Lists.{member, distinct, from, count}
+use Rattle.plain.specs.Plain.{Plain, Incidence, NodeSlot, EdgeSlot, no-node, no-edge, node-flags, edge-flags, node-bound, edge-bound, incidence, end-of, list-of}
+use Rattle.plain.specs.Step.{Capacities}
+use Rattle.plain.specs.Reads.{live-count, live-slots, live-nodes, live-edges}
+use Rattle.plain.specs.Renumbering.{is-identity-map}
+use Rattle.plain.specs.Compaction.{rank, renumbering, EdgeRecord, Survivors, surviving-edge, surviving-list, survivors, kept-node, kept-edge, source-of, target-of, of-survivors, compacted}
+use Rattle.laws.specs.WellFormed.{Incident, WellFormed, Fitted, Sound}
+use Rattle.laws.specs.Booleans.{by-test, same-truth, and-left, and-right, both-true}
+use Rattle.laws.specs.ListLaws.{getD-map, getD-map-each, member-mapped, member-source, member-getD-map, distinct-map, map-same, map-unchanged, map-getD, map-replicate, count-length, member-below}
+use Rattle.laws.specs.Rank.{rank-live, rank-injective, rank-all-live, length-live-slots, live-slot-live, live-slot-rank, rank-live-slot, live-all-live, live-from-all-live}
+use Rattle.laws.specs.Renumberings.{renumbering-all-live, identity-all-live}
+use Rattle.laws.specs.Fitting.{has-end, has-end-below, has-end-at, live-has-end, incident-fitted, fitted-incident}
+
+-- ---- one direction
+
+-- one direction, compacted: the ends of the live edges and the lists of the live nodes, by new numbers
+abbrev pub compacted-incidence : List Bool → List Bool → Incidence → Incidence
+compacted-incidence nodes edges i = record {
+  ends = map (λ e. rank nodes (getD (i .ends) e 0)) (live-slots edges);
+  lists = map (λ x. map (rank edges) (getD (i .lists) x [])) (live-slots nodes);
+}
+
+module _ (nodes edges : List Bool) (n : ℕ) (i : Incidence) (t : Incident edges n i)
+    (ends-live : (e : ℕ) → getD edges e false ≡ true → getD nodes (getD (i .ends) e 0) false ≡ true) where
+  -- a listed edge is live, and has the list's node for its end
+  listed-live : (x e : ℕ) → member e (getD (i .lists) x []) ≡ true → getD edges e false ≡ true
+  listed-live x e h = and-left (getD edges e false) (eqb (getD (i .ends) e 0) x) (sym (t .listed x e) ∙ h)
+
+  listed-end : (x e : ℕ) → member e (getD (i .lists) x []) ≡ true → getD (i .ends) e 0 ≡ x
+  listed-end x e h = eqb-true (getD (i .ends) e 0) x (and-right (getD edges e false) (eqb (getD (i .ends) e 0) x) (sym (t .listed x e) ∙ h))
+
+  -- the end of a survivor is the rank of the end that it had
+  compacted-end : (k : ℕ) → k < live-count edges
+      → getD (compacted-incidence nodes edges i .ends) k 0 ≡ rank nodes (getD (i .ends) (getD (live-slots edges) k 0) 0)
+  compacted-end k below =
+      getD-map (λ e. rank nodes (getD (i .ends) e 0)) (live-slots edges) k 0 0 (subst (λ (m : ℕ). k < m) (sym (length-live-slots edges)) below)
+
+  length-ends : length (compacted-incidence nodes edges i .ends) ≡ live-count edges
+  length-ends = length-map (live-slots edges) (λ e. rank nodes (getD (i .ends) e 0)) ∙ length-live-slots edges
+
+  -- what stands in a compacted list has that node for its end
+  compacted-at-end : (x k : ℕ) → member k (getD (compacted-incidence nodes edges i .lists) x []) ≡ true
+      → has-end (compacted-incidence nodes edges i .ends) x k ≡ true
+  compacted-at-end x k h =
+      let at = member-getD-map (λ x. map (rank edges) (getD (i .lists) x [])) (live-slots nodes) x k h in
+      let old = getD (live-slots nodes) x 0 in
+      let found = member-source (rank edges) k (getD (i .lists) old []) (at .1) in
+      let live = listed-live old (found .0) (found .1) in
+      let below = subst (λ (r : ℕ). r < live-count edges) (found .2) (rank-live edges (found .0) live) in
+      let again : getD (live-slots edges) k 0 ≡ found .0 =
+      ap (λ (r : ℕ). getD (live-slots edges) r 0) (sym (found .2)) ∙ live-slot-rank edges (found .0) 0 live in
+      both-true (lt-ltb k (length (compacted-incidence nodes edges i .ends)) (subst (λ (m : ℕ). k < m) (sym length-ends) below))
+      (eq-eqb (getD (compacted-incidence nodes edges i .ends) k 0) x
+      (compacted-end k below
+      ∙ ap (λ (e : ℕ). rank nodes (getD (i .ends) e 0)) again
+      ∙ ap (rank nodes) (listed-end old (found .0) (found .1))
+      ∙ rank-live-slot nodes x (subst (λ (m : ℕ). x < m) (length-live-slots nodes) (at .0))))
+
+  -- a survivor stands in the compacted list of its end
+  compacted-listed : (x k : ℕ) → has-end (compacted-incidence nodes edges i .ends) x k ≡ true
+      → member k (getD (compacted-incidence nodes edges i .lists) x []) ≡ true
+  compacted-listed x k h =
+      let below = subst (λ (m : ℕ). k < m) length-ends (has-end-below (compacted-incidence nodes edges i .ends) x k h) in
+      let e = getD (live-slots edges) k 0 in
+      let live = live-slot-live edges k 0 below in
+      let old = getD (i .ends) e 0 in
+      let new : rank nodes old ≡ x = sym (compacted-end k below) ∙ has-end-at (compacted-incidence nodes edges i .ends) x k h in
+      let inside = subst (λ (r : ℕ). r < live-count nodes) new (rank-live nodes old (ends-live e live)) in
+      let again : getD (live-slots nodes) x 0 ≡ old =
+      ap (λ (r : ℕ). getD (live-slots nodes) r 0) (sym new) ∙ live-slot-rank nodes old 0 (ends-live e live) in
+      ap₂ member (sym (rank-live-slot edges k below))
+      (getD-map (λ x. map (rank edges) (getD (i .lists) x [])) (live-slots nodes) x 0 [] (subst (λ (m : ℕ). x < m) (sym (length-live-slots nodes)) inside)
+      ∙ ap (λ (y : ℕ). map (rank edges) (getD (i .lists) y [])) again)
+      ∙ member-mapped (rank edges) e (getD (i .lists) old []) (t .listed old e ∙ both-true live (eq-eqb old old refl))
+
+  -- compaction leaves one direction well formed, with every edge live
+  pub incident-compacted : Incident (replicate (live-count edges) true) (live-count nodes) (compacted-incidence nodes edges i)
+  unfolding distinct
+  incident-compacted = record {
+    ends-length = length-ends ∙ sym (length-replicate (live-count edges) true);
+    lists-length = length-map (live-slots nodes) (λ x. map (rank edges) (getD (i .lists) x [])) ∙ length-live-slots nodes;
+    ends-below = λ k h.
+        let below = subst (λ (m : ℕ). k < m) (length-replicate (live-count edges) true) h in
+        let e = getD (live-slots edges) k 0 in
+        subst (λ (r : ℕ). r < live-count nodes) (sym (compacted-end k below))
+        (rank-live nodes (getD (i .ends) e 0) (ends-live e (live-slot-live edges k 0 below)));
+    listed = λ x k.
+        same-truth (member k (getD (compacted-incidence nodes edges i .lists) x [])) (has-end (compacted-incidence nodes edges i .ends) x k)
+        (compacted-at-end x k) (compacted-listed x k)
+        ∙ sym (live-has-end (compacted-incidence nodes edges i .ends) (live-count edges) x k length-ends);
+    once = getD-map-each (λ (l : List ℕ). distinct l ≡ true) (λ x. map (rank edges) (getD (i .lists) x [])) (live-slots nodes) [] refl
+        (λ x.
+        distinct-map (rank edges) (getD (i .lists) x []) (λ e f h k. rank-injective edges e f (listed-live x e h) (listed-live x f k))
+        ∙ t .once x);
+  }

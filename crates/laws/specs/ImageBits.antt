@@ -1,0 +1,150 @@
+-- The parts of an image's bits: where each stands in bytes, that it is read back from there, and that what is read there has those bits.
+use Prim.Native.Nat.{ℕ, zero, suc, _+_, _*_, _^_, _≤_}
+use mathlib.Core.Path.{_≡_, refl, ap, _∙_}
+use mathlib.Core.List.{List, [], _∷_, _++_, map}
+use native.Mathlib.Omega.{arith}
+use lib.ListN.{length, length-append}
+use Rattle.plain.specs.Lists.{joined}
+use Rattle.plain.specs.Plain.{EdgePayload}
+use Rattle.plain.specs.Compaction.{EdgeRecord, Survivors, source-of, target-of}
+use Rattle.plain.specs.Bits.{bits-of, field-at, row}
+use Rattle.plain.specs.Image.{edge-bits, image-bits, records-at, record-width, edges-start}
+use Rattle.laws.specs.Below.{Below, none, more, below-append}
+use Rattle.laws.specs.Bits.{length-bits-of, below-bits-of, field-at-lt, length-row, below-row}
+use Rattle.laws.specs.Packing.{Stands, stands-front, stands-rest, stands-append, stands-at, stands-field, field-stands}
+
+abbrev pub payload-of : EdgeRecord → EdgePayload
+payload-of r = r .payload
+
+-- ---- the edges' records
+
+-- as many bits as the records at their width
+pub length-edge-bits : (w : ℕ) (es : List EdgeRecord) → length (edge-bits w es) ≡ record-width w * length es
+unfolding edge-bits
+length-edge-bits w [] = omega arith
+length-edge-bits w (e ∷ es) = simp (length-append, length-bits-of, length-edge-bits w es) (omega arith)
+
+-- each is 0 or 1
+pub below-edge-bits : (w : ℕ) (es : List EdgeRecord) → Below 2 (edge-bits w es)
+unfolding edge-bits
+below-edge-bits w [] = none
+below-edge-bits w (e ∷ es) =
+    below-append (below-bits-of w (e .source)) (below-append (below-bits-of w (e .target)) (below-append (below-bits-of 32 (e .payload)) (below-edge-bits w es)))
+
+-- as many records as asked for
+pub length-records-at : (bytes : List ℕ) (p w m : ℕ) → length (records-at bytes p w m) ≡ m
+unfolding records-at
+length-records-at bytes p w zero = refl
+length-records-at bytes p w (suc m) = ap suc (length-records-at bytes (p + record-width w) w m)
+
+-- each payload fits its word
+pub below-payloads-at : (bytes : List ℕ) (p w m : ℕ) → Below (2 ^ 32) (map payload-of (records-at bytes p w m))
+unfolding records-at
+below-payloads-at bytes p w zero = none
+below-payloads-at bytes p w (suc m) = more (field-at-lt bytes (p + (w + w)) 32) (below-payloads-at bytes (p + record-width w) w m)
+
+-- records whose bits stand there are read there
+pub stands-records : {bytes : List ℕ} {p : ℕ} (w : ℕ) (es : List EdgeRecord) → Below (2 ^ w) (map source-of es) → Below (2 ^ w) (map target-of es)
+    → Below (2 ^ 32) (map payload-of es) → Stands bytes p (edge-bits w es) → records-at bytes p w (length es) ≡ es
+unfolding edge-bits records-at
+stands-records w [] a b c s = refl
+stands-records {bytes} {p} w (e ∷ es) (more h a) (more k b) (more l c) s =
+    let x : List ℕ = bits-of w (e .source) in
+    let y : List ℕ = bits-of w (e .target) in
+    let z : List ℕ = bits-of 32 (e .payload) in
+    let r : List ℕ = edge-bits w es in
+    let s₁ : Stands bytes (p + w) (y ++ (z ++ r)) = stands-rest x (y ++ (z ++ r)) (length-bits-of w (e .source)) s in
+    let s₂ : Stands bytes (p + (w + w)) (z ++ r) = stands-at (omega arith) (stands-rest y (z ++ r) (length-bits-of w (e .target)) s₁) in
+    let s₃ : Stands bytes (p + record-width w) r = stands-at (omega arith) (stands-rest z r (length-bits-of 32 (e .payload)) s₂) in
+    let source = stands-field w (e .source) h (stands-front x (y ++ (z ++ r)) s) in
+    let target = stands-field w (e .target) k (stands-front y (z ++ r) s₁) in
+    let payload = stands-field 32 (e .payload) l (stands-front z r s₂) in
+    rw (source, target, payload, stands-records w es a b c s₃)
+
+-- the bits of records stand where they were read
+pub records-stand : (bytes : List ℕ) (p w m : ℕ) → p + record-width w * m ≤ 8 * length bytes → Stands bytes p (edge-bits w (records-at bytes p w m))
+unfolding edge-bits records-at
+records-stand bytes p w zero h = record { there = refl }
+records-stand bytes p w (suc m) h =
+    let source : ℕ = field-at bytes p w in
+    let target : ℕ = field-at bytes (p + w) w in
+    let payload : ℕ = field-at bytes (p + (w + w)) 32 in
+    let rest : List ℕ = edge-bits w (records-at bytes (p + record-width w) w m) in
+    let s₃ : Stands bytes (p + (w + w) + 32) rest = stands-at (omega arith) (records-stand bytes (p + record-width w) w m (omega arith)) in
+    let s₂ : Stands bytes (p + (w + w)) (bits-of 32 payload ++ rest) =
+    stands-append (bits-of 32 payload) rest (length-bits-of 32 payload) (field-stands bytes (p + (w + w)) 32 (omega arith)) s₃ in
+    let s₁ : Stands bytes (p + w) (bits-of w target ++ (bits-of 32 payload ++ rest)) =
+    stands-append (bits-of w target) (bits-of 32 payload ++ rest) (length-bits-of w target) (field-stands bytes (p + w) w (omega arith)) (stands-at (omega arith) s₂) in
+    stands-append (bits-of w source) (bits-of w target ++ (bits-of 32 payload ++ rest)) (length-bits-of w source) (field-stands bytes p w (omega arith)) s₁
+
+-- ---- the whole
+
+-- where the lists of n nodes and m edges start, at widths w and v
+abbrev pub outs-from : ℕ → ℕ → ℕ → ℕ
+outs-from w n m = edges-start n + record-width w * m
+
+abbrev pub ins-from : ℕ → ℕ → ℕ → ℕ → ℕ
+ins-from w v n m = outs-from w n m + v * m
+
+-- Each part of the image's bits stands at its place.
+pub record Parts (bytes : List ℕ) (w v : ℕ) (s : Survivors) : Type 0 where
+  pub node-count : Stands bytes 0 (bits-of 16 (length (s .nodes)))
+  pub edge-count : Stands bytes 16 (bits-of 16 (length (s .edges)))
+  pub nodes : Stands bytes 32 (row 32 (s .nodes))
+  pub edges : Stands bytes (edges-start (length (s .nodes))) (edge-bits w (s .edges))
+  pub outs : Stands bytes (outs-from w (length (s .nodes)) (length (s .edges))) (row v (joined (s .outs)))
+  pub ins : Stands bytes (ins-from w v (length (s .nodes)) (length (s .edges))) (row v (joined (s .ins)))
+
+-- each bit of an image is 0 or 1
+pub below-image-bits : (w v : ℕ) (s : Survivors) → Below 2 (image-bits w v s)
+unfolding image-bits
+below-image-bits w v s =
+    below-append (below-bits-of 16 (length (s .nodes))) (below-append (below-bits-of 16 (length (s .edges))) (below-append (below-row 32 (s .nodes))
+    (below-append (below-edge-bits w (s .edges)) (below-append (below-row v (joined (s .outs))) (below-row v (joined (s .ins)))))))
+
+module _ (w v : ℕ) (s : Survivors) (o : length (joined (s .outs)) ≡ length (s .edges)) where
+  -- how many bits an image has before its padding
+  pub length-image-bits : length (joined (s .ins)) ≡ length (s .edges)
+      → length (image-bits w v s) ≡ ins-from w v (length (s .nodes)) (length (s .edges)) + v * length (s .edges)
+  unfolding image-bits
+  length-image-bits i = simp (length-append, length-bits-of, length-row, length-edge-bits, o, i) (omega arith)
+
+  outs-length : length (row v (joined (s .outs))) ≡ v * length (s .edges)
+  outs-length = length-row v (joined (s .outs)) ∙ ap (λ (n : ℕ). v * n) o
+
+  -- where the whole stands at the start, its parts stand at their places
+  pub parts : {bytes : List ℕ} → Stands bytes 0 (image-bits w v s) → Parts bytes w v s
+  unfolding image-bits
+  parts {bytes} s₀ =
+      let a : List ℕ = bits-of 16 (length (s .nodes)) in
+      let b : List ℕ = bits-of 16 (length (s .edges)) in
+      let c : List ℕ = row 32 (s .nodes) in
+      let d : List ℕ = edge-bits w (s .edges) in
+      let e : List ℕ = row v (joined (s .outs)) in
+      let f : List ℕ = row v (joined (s .ins)) in
+      let s₁ : Stands bytes 16 (b ++ (c ++ (d ++ (e ++ f)))) = stands-rest a (b ++ (c ++ (d ++ (e ++ f)))) (length-bits-of 16 (length (s .nodes))) s₀ in
+      let s₂ : Stands bytes 32 (c ++ (d ++ (e ++ f))) = stands-rest b (c ++ (d ++ (e ++ f))) (length-bits-of 16 (length (s .edges))) s₁ in
+      let s₃ = stands-rest c (d ++ (e ++ f)) (length-row 32 (s .nodes)) s₂ in
+      let s₄ = stands-rest d (e ++ f) (length-edge-bits w (s .edges)) s₃ in
+      record {
+        node-count = stands-front a (b ++ (c ++ (d ++ (e ++ f)))) s₀;
+        edge-count = stands-front b (c ++ (d ++ (e ++ f))) s₁;
+        nodes = stands-front c (d ++ (e ++ f)) s₂;
+        edges = stands-front d (e ++ f) s₃;
+        outs = stands-front e f s₄;
+        ins = stands-rest e f outs-length s₄;
+      }
+
+  -- and where they do, the whole stands at the start
+  pub whole : {bytes : List ℕ} → Parts bytes w v s → Stands bytes 0 (image-bits w v s)
+  unfolding image-bits
+  whole p =
+      let d : List ℕ = edge-bits w (s .edges) in
+      let e : List ℕ = row v (joined (s .outs)) in
+      let f : List ℕ = row v (joined (s .ins)) in
+      let s₄ = stands-append e f outs-length (p .outs) (p .ins) in
+      let s₃ = stands-append d (e ++ f) (length-edge-bits w (s .edges)) (p .edges) s₄ in
+      let s₂ = stands-append (row 32 (s .nodes)) (d ++ (e ++ f)) (length-row 32 (s .nodes)) (p .nodes) s₃ in
+      let s₁ = stands-append (bits-of 16 (length (s .edges))) (row 32 (s .nodes) ++ (d ++ (e ++ f))) (length-bits-of 16 (length (s .edges))) (p .edge-count) s₂ in
+      stands-append (bits-of 16 (length (s .nodes))) (bits-of 16 (length (s .edges)) ++ (row 32 (s .nodes) ++ (d ++ (e ++ f))))
+      (length-bits-of 16 (length (s .nodes))) (p .node-count) s₁
