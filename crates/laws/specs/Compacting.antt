@@ -105,3 +105,89 @@ module _ (nodes edges : List Bool) (n : ℕ) (i : Incidence) (t : Incident edges
           distinct-map (rank edges) (getD (i .lists) x []) (λ e f h k. rank-injective edges e f (listed-live x e h) (listed-live x f k))
           ∙ t .once x);
   }
+
+-- ---- the survivors
+
+-- one direction of well-formed lists
+pub incident : (caps : Capacities) (p : Plain) → WellFormed caps p → (d : TraversalDirection) → Incident (edge-flags p) (node-bound p) (incidence d p)
+incident caps p w Outgoing = w .outgoing
+incident caps p w Incoming = w .incoming
+
+-- one direction of the survivors of well-formed lists is fitted
+pub survivors-fitted : (caps : Capacities) (p : Plain) → WellFormed caps p → (d : TraversalDirection)
+    → Fitted (live-nodes p) (map (λ e. rank (node-flags p) (end-of d p e)) (live-slots (edge-flags p))) (map (surviving-list d p) (live-slots (node-flags p)))
+survivors-fitted caps p w d =
+    let i = compacted-incidence (node-flags p) (edge-flags p) (incidence d p) in
+    incident-fitted (live-nodes p) (live-edges p) i
+    (length-map (live-slots (edge-flags p)) (λ e. rank (node-flags p) (end-of d p e)) ∙ length-live-slots (edge-flags p))
+    (incident-compacted (node-flags p) (edge-flags p) (node-bound p) (incidence d p) (incident caps p w d) (w .ends-live d))
+
+-- as many nodes survive as are live, and as many edges
+pub length-surviving-nodes : (p : Plain) → length (survivors p .nodes) ≡ live-nodes p
+unfolding survivors
+length-surviving-nodes p =
+    length-map (live-slots (node-flags p)) (λ x. getD (p .nodes) x no-node .payload) ∙ length-live-slots (node-flags p)
+
+pub length-surviving-edges : (p : Plain) → length (survivors p .edges) ≡ live-edges p
+unfolding survivors
+length-surviving-edges p = length-map (live-slots (edge-flags p)) (surviving-edge p) ∙ length-live-slots (edge-flags p)
+
+-- no more nodes survive than there are slots, and no more edges
+pub surviving-nodes-within : (p : Plain) → length (survivors p .nodes) ≤ node-bound p
+surviving-nodes-within p =
+    let same = length-surviving-nodes p in
+    let few = count-length (λ f. f) (node-flags p) in
+    let flags = length-map (p .nodes) (λ (s : NodeSlot). s .live) in
+    omega arith
+
+pub surviving-edges-within : (p : Plain) → length (survivors p .edges) ≤ edge-bound p
+surviving-edges-within p =
+    let same = length-surviving-edges p in
+    let few = count-length (λ f. f) (edge-flags p) in
+    let flags = length-map (p .edges) (λ (s : EdgeSlot). s .live) in
+    omega arith
+
+-- the survivors of well-formed lists within the limit have an image
+pub survivors-sound : (caps : Capacities) (p : Plain) → WellFormed caps p → caps .nodes ≤ LIMIT → caps .edges ≤ LIMIT → Sound (survivors p)
+unfolding survivors
+survivors-sound caps p w few-nodes few-edges = record {
+  nodes-within = let slots = surviving-nodes-within p in let bound = w .nodes-within in omega arith;
+  edges-within = let slots = surviving-edges-within p in let bound = w .edges-within in omega arith;
+  node-payloads = getD-map-each (λ (n : ℕ). n < 2 ^ 32) (λ x. getD (p .nodes) x no-node .payload) (live-slots (node-flags p)) 0 (omega arith) (w .node-payloads);
+  edge-payloads =
+      subst (λ (l : List ℕ). (e : ℕ) → getD l e 0 < 2 ^ 32)
+      (sym (map-map (λ (r : EdgeRecord). r .payload) (surviving-edge p) (live-slots (edge-flags p))))
+      (getD-map-each (λ (n : ℕ). n < 2 ^ 32) (λ e. getD (p .edges) e no-edge .payload) (live-slots (edge-flags p)) 0 (omega arith) (w .edge-payloads));
+  outs =
+      subst₂ (λ (n : ℕ) (ends : List ℕ). Fitted n ends (map (surviving-list Outgoing p) (live-slots (node-flags p))))
+      (sym (length-surviving-nodes p)) (sym (map-map source-of (surviving-edge p) (live-slots (edge-flags p))))
+      (survivors-fitted caps p w Outgoing);
+  ins =
+      subst₂ (λ (n : ℕ) (ends : List ℕ). Fitted n ends (map (surviving-list Incoming p) (live-slots (node-flags p))))
+      (sym (length-surviving-nodes p)) (sym (map-map target-of (surviving-edge p) (live-slots (edge-flags p))))
+      (survivors-fitted caps p w Incoming);
+}
+
+-- ---- survivors as plain lists
+
+-- every node slot of survivors as plain lists is live, and every edge slot
+pub node-flags-of : (s : Survivors) → node-flags (of-survivors s) ≡ replicate (length (s .nodes)) true
+unfolding of-survivors
+node-flags-of s = map-map (λ (k : NodeSlot). k .live) kept-node (s .nodes) ∙ map-replicate (λ n. true) true (s .nodes) (λ n. refl)
+
+pub edge-flags-of : (s : Survivors) → edge-flags (of-survivors s) ≡ replicate (length (s .edges)) true
+unfolding of-survivors
+edge-flags-of s = map-map (λ (k : EdgeSlot). k .live) kept-edge (s .edges) ∙ map-replicate (λ (r : EdgeRecord). true) true (s .edges) (λ r. refl)
+
+-- the payloads of survivors as plain lists
+pub node-payload-of : (s : Survivors) (x : ℕ) → getD (of-survivors s .nodes) x no-node .payload ≡ getD (s .nodes) x 0
+unfolding of-survivors
+node-payload-of s x =
+    sym (List·getD-map (λ (k : NodeSlot). k .payload) (map kept-node (s .nodes)) x no-node)
+    ∙ ap (λ (l : List ℕ). getD l x 0) (map-map (λ (k : NodeSlot). k .payload) kept-node (s .nodes) ∙ map-id (s .nodes))
+
+pub edge-payload-of : (s : Survivors) (e : ℕ) → getD (of-survivors s .edges) e no-edge .payload ≡ getD (map (λ (r : EdgeRecord). r .payload) (s .edges)) e 0
+unfolding of-survivors
+edge-payload-of s e =
+    sym (List·getD-map (λ (k : EdgeSlot). k .payload) (map kept-edge (s .edges)) e no-edge)
+    ∙ ap (λ (l : List ℕ). getD l e 0) (map-map (λ (k : EdgeSlot). k .payload) kept-edge (s .edges))
