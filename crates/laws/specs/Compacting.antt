@@ -1,7 +1,7 @@
 -- Compaction: what it leaves is well formed with every slot live, and compacting that changes nothing.
 use Prim.Native.Nat.{ℕ, zero, suc, _+_, _≤_, _<_, _^_}
 use native.Mathlib.Omega.{arith}
-use mathlib.Core.Path.{_≡_, refl, sym, ap, ap₂, _∙_, subst, subst₂}
+use mathlib.Core.Path.{_≡_, refl, sym, ap, ap₂, _∙_, subst, subst₂, fun-ext}
 use mathlib.Core.Bool.{Bool, true, false, _&&_}
 use mathlib.Core.List.{List, [], _∷_, map, map-map, map-id}
 use lib.ListN.{length, getD, replicate, length-map, length-replicate, List·getD-map}
@@ -60,13 +60,13 @@ module _ (nodes edges : List Bool) (n : ℕ) (i : Incidence) (t : Incident edges
       let live = listed-live old (found .0) (found .1) in
       let below = subst (λ (r : ℕ). r < live-count edges) (found .2) (rank-live edges (found .0) live) in
       let again : getD (live-slots edges) k 0 ≡ found .0 =
-            ap (λ (r : ℕ). getD (live-slots edges) r 0) (sym (found .2)) ∙ live-slot-rank edges (found .0) 0 live in
+      ap (λ (r : ℕ). getD (live-slots edges) r 0) (sym (found .2)) ∙ live-slot-rank edges (found .0) 0 live in
       both-true (lt-ltb k (length (compacted-incidence nodes edges i .ends)) (subst (λ (m : ℕ). k < m) (sym length-ends) below))
       (eq-eqb (getD (compacted-incidence nodes edges i .ends) k 0) x
-        (compacted-end k below
-          ∙ ap (λ (e : ℕ). rank nodes (getD (i .ends) e 0)) again
-          ∙ ap (rank nodes) (listed-end old (found .0) (found .1))
-          ∙ rank-live-slot nodes x (subst (λ (m : ℕ). x < m) (length-live-slots nodes) (at .0))))
+      (compacted-end k below
+      ∙ ap (λ (e : ℕ). rank nodes (getD (i .ends) e 0)) again
+      ∙ ap (rank nodes) (listed-end old (found .0) (found .1))
+      ∙ rank-live-slot nodes x (subst (λ (m : ℕ). x < m) (length-live-slots nodes) (at .0))))
 
   -- a survivor stands in the compacted list of its end
   compacted-listed : (x k : ℕ) → has-end (compacted-incidence nodes edges i .ends) x k ≡ true
@@ -79,10 +79,10 @@ module _ (nodes edges : List Bool) (n : ℕ) (i : Incidence) (t : Incident edges
       let new : rank nodes old ≡ x = sym (compacted-end k below) ∙ has-end-at (compacted-incidence nodes edges i .ends) x k h in
       let inside = subst (λ (r : ℕ). r < live-count nodes) new (rank-live nodes old (ends-live e live)) in
       let again : getD (live-slots nodes) x 0 ≡ old =
-            ap (λ (r : ℕ). getD (live-slots nodes) r 0) (sym new) ∙ live-slot-rank nodes old 0 (ends-live e live) in
+      ap (λ (r : ℕ). getD (live-slots nodes) r 0) (sym new) ∙ live-slot-rank nodes old 0 (ends-live e live) in
       ap₂ member (sym (rank-live-slot edges k below))
-        (getD-map (λ x. map (rank edges) (getD (i .lists) x [])) (live-slots nodes) x 0 [] (subst (λ (m : ℕ). x < m) (sym (length-live-slots nodes)) inside)
-          ∙ ap (λ (y : ℕ). map (rank edges) (getD (i .lists) y [])) again)
+      (getD-map (λ x. map (rank edges) (getD (i .lists) x [])) (live-slots nodes) x 0 [] (subst (λ (m : ℕ). x < m) (sym (length-live-slots nodes)) inside)
+      ∙ ap (λ (y : ℕ). map (rank edges) (getD (i .lists) y [])) again)
       ∙ member-mapped (rank edges) e (getD (i .lists) old []) (t .listed old e ∙ both-true live (eq-eqb old old refl))
 
   -- compaction leaves one direction well formed, with every edge live
@@ -95,15 +95,15 @@ module _ (nodes edges : List Bool) (n : ℕ) (i : Incidence) (t : Incident edges
         let below = subst (λ (m : ℕ). k < m) (length-replicate (live-count edges) true) h in
         let e = getD (live-slots edges) k 0 in
         subst (λ (r : ℕ). r < live-count nodes) (sym (compacted-end k below))
-          (rank-live nodes (getD (i .ends) e 0) (ends-live e (live-slot-live edges k 0 below)));
+        (rank-live nodes (getD (i .ends) e 0) (ends-live e (live-slot-live edges k 0 below)));
     listed = λ x k.
         same-truth (member k (getD (compacted-incidence nodes edges i .lists) x [])) (has-end (compacted-incidence nodes edges i .ends) x k)
-          (compacted-at-end x k) (compacted-listed x k)
+        (compacted-at-end x k) (compacted-listed x k)
         ∙ sym (live-has-end (compacted-incidence nodes edges i .ends) (live-count edges) x k length-ends);
     once = getD-map-each (λ (l : List ℕ). distinct l ≡ true) (λ x. map (rank edges) (getD (i .lists) x [])) (live-slots nodes) [] refl
         (λ x.
-          distinct-map (rank edges) (getD (i .lists) x []) (λ e f h k. rank-injective edges e f (listed-live x e h) (listed-live x f k))
-          ∙ t .once x);
+        distinct-map (rank edges) (getD (i .lists) x []) (λ e f h k. rank-injective edges e f (listed-live x e h) (listed-live x f k))
+        ∙ t .once x);
   }
 
 -- ---- the survivors
@@ -191,3 +191,143 @@ unfolding of-survivors
 edge-payload-of s e =
     sym (List·getD-map (λ (k : EdgeSlot). k .payload) (map kept-edge (s .edges)) e no-edge)
     ∙ ap (λ (l : List ℕ). getD l e 0) (map-map (λ (k : EdgeSlot). k .payload) kept-edge (s .edges))
+
+pub node-bound-of : (s : Survivors) → node-bound (of-survivors s) ≡ length (s .nodes)
+unfolding of-survivors
+node-bound-of s = length-map (s .nodes) kept-node
+
+pub edge-bound-of : (s : Survivors) → edge-bound (of-survivors s) ≡ length (s .edges)
+unfolding of-survivors
+edge-bound-of s = length-map (s .edges) kept-edge
+
+-- the slots of survivors as plain lists, all live
+live-nodes-of : (s : Survivors) → live-slots (node-flags (of-survivors s)) ≡ from 0 (length (s .nodes))
+live-nodes-of s = ap live-slots (node-flags-of s) ∙ live-from-all-live 0 (length (s .nodes))
+
+live-edges-of : (s : Survivors) → live-slots (edge-flags (of-survivors s)) ≡ from 0 (length (s .edges))
+live-edges-of s = ap live-slots (edge-flags-of s) ∙ live-from-all-live 0 (length (s .edges))
+
+-- what stands past the end of a list of records, and is never read
+abbrev no-ends : EdgeRecord
+no-ends = record { source = 0; target = 0; payload = 0 }
+
+length-ends-of : (s : Survivors) (d : TraversalDirection) → length (incidence d (of-survivors s) .ends) ≡ length (s .edges)
+unfolding of-survivors
+length-ends-of s Outgoing = length-map (s .edges) source-of
+length-ends-of s Incoming = length-map (s .edges) target-of
+
+module _ (s : Survivors) (sound : Sound s) where
+  -- each direction is fitted
+  fitted-of : (d : TraversalDirection) → Fitted (length (s .nodes)) (incidence d (of-survivors s) .ends) (incidence d (of-survivors s) .lists)
+  unfolding of-survivors
+  fitted-of Outgoing = sound .outs
+  fitted-of Incoming = sound .ins
+
+  -- and so well formed
+  incident-of : (d : TraversalDirection) → Incident (replicate (length (s .edges)) true) (length (s .nodes)) (incidence d (of-survivors s))
+  incident-of d = fitted-incident (length (s .nodes)) (length (s .edges)) (incidence d (of-survivors s)) (length-ends-of s d) (fitted-of d)
+
+  -- the ends are below the number of nodes
+  end-below : (d : TraversalDirection) (e : ℕ) → e < length (s .edges) → end-of d (of-survivors s) e < length (s .nodes)
+  end-below d e h = fitted-of d .ends-below e (subst (λ (m : ℕ). e < m) (sym (length-ends-of s d)) h)
+
+  -- sound survivors as plain lists are well formed
+  pub of-survivors-well-formed : (caps : Capacities) → length (s .nodes) ≤ caps .nodes → length (s .edges) ≤ caps .edges → WellFormed caps (of-survivors s)
+  of-survivors-well-formed caps nodes edges = record {
+    nodes-within = rw node-bound-of nodes;
+    edges-within = rw edge-bound-of edges;
+    outgoing = direction Outgoing;
+    incoming = direction Incoming;
+    ends-live = λ d e live.
+        let below = ltb-true e (length (s .edges)) (sym (live-all-live (length (s .edges)) e) ∙ (rw edge-flags-of at live)) in
+        rw node-flags-of (live-all-live (length (s .nodes)) (end-of d (of-survivors s) e) ∙ lt-ltb (end-of d (of-survivors s) e) (length (s .nodes)) (end-below d e below));
+    node-payloads = λ x. rw node-payload-of (sound .node-payloads x);
+    edge-payloads = λ e. rw edge-payload-of (sound .edge-payloads e);
+  }
+    where
+      direction : (d : TraversalDirection) → Incident (edge-flags (of-survivors s)) (node-bound (of-survivors s)) (incidence d (of-survivors s))
+      direction d =
+          subst₂ (λ (flags : List Bool) (n : ℕ). Incident flags n (incidence d (of-survivors s)))
+          (sym (edge-flags-of s)) (sym (node-bound-of s)) (incident-of d)
+
+  -- an end keeps its number
+  end-again : (d : TraversalDirection) (e : ℕ) → e < length (s .edges) → rank (node-flags (of-survivors s)) (end-of d (of-survivors s) e) ≡ end-of d (of-survivors s) e
+  end-again d e h =
+      ap (λ (flags : List Bool). rank flags (end-of d (of-survivors s) e)) (node-flags-of s)
+      ∙ rank-all-live (length (s .nodes)) (end-of d (of-survivors s) e) (let below = end-below d e h in omega arith)
+
+  -- an edge survives as it was
+  edge-again : (e : ℕ) → e < length (s .edges) → surviving-edge (of-survivors s) e ≡ getD (s .edges) e no-ends
+  unfolding of-survivors
+  edge-again e h = λ i. record {
+    source = (end-again Outgoing e h ∙ List·getD-map source-of (s .edges) e no-ends) i;
+    target = (end-again Incoming e h ∙ List·getD-map target-of (s .edges) e no-ends) i;
+    payload = (edge-payload-of s e ∙ List·getD-map (λ (r : EdgeRecord). r .payload) (s .edges) e no-ends) i;
+  }
+
+  -- and a list
+  list-again : (d : TraversalDirection) (x : ℕ) → surviving-list d (of-survivors s) x ≡ list-of d (of-survivors s) x
+  list-again d x =
+      ap (λ (flags : List Bool). map (rank flags) (list-of d (of-survivors s) x)) (edge-flags-of s)
+      ∙ map-unchanged (rank (replicate (length (s .edges)) true)) (list-of d (of-survivors s) x)
+      (λ e h.
+      let live = and-left (getD (replicate (length (s .edges)) true) e false) (eqb (end-of d (of-survivors s) e) x) (sym (incident-of d .listed x e) ∙ h) in
+      let below = ltb-true e (length (s .edges)) (sym (live-all-live (length (s .edges)) e) ∙ live) in
+      rank-all-live (length (s .edges)) e (omega arith))
+
+  lists-again : (d : TraversalDirection) → map (surviving-list d (of-survivors s)) (live-slots (node-flags (of-survivors s))) ≡ incidence d (of-survivors s) .lists
+  lists-again d =
+      ap (map (surviving-list d (of-survivors s))) (live-nodes-of s)
+      ∙ map-same (surviving-list d (of-survivors s)) (list-of d (of-survivors s)) (from 0 (length (s .nodes))) (λ x h. list-again d x)
+      ∙ ap (λ (n : ℕ). map (list-of d (of-survivors s)) (from 0 n)) (sym (incident-of d .lists-length))
+      ∙ map-getD (incidence d (of-survivors s) .lists) []
+
+  edges-again : map (surviving-edge (of-survivors s)) (live-slots (edge-flags (of-survivors s))) ≡ s .edges
+  edges-again =
+      ap (map (surviving-edge (of-survivors s))) (live-edges-of s)
+      ∙ map-same (surviving-edge (of-survivors s)) (λ e. getD (s .edges) e no-ends) (from 0 (length (s .edges)))
+      (λ e h. edge-again e (ltb-true e (length (s .edges)) (sym (member-below e (length (s .edges))) ∙ h)))
+      ∙ map-getD (s .edges) no-ends
+
+  -- the survivors of survivors as plain lists are they themselves
+  pub survivors-of : survivors (of-survivors s) ≡ s
+  unfolding survivors of-survivors
+  survivors-of = λ i. record {
+    nodes = (ap₂ {B = List ℕ} map (fun-ext (node-payload-of s)) (live-nodes-of s) ∙ map-getD (s .nodes) 0) i;
+    edges = edges-again i;
+    outs = lists-again Outgoing i;
+    ins = lists-again Incoming i;
+  }
+
+-- ---- compaction
+
+module _ (caps : Capacities) (p : Plain) (w : WellFormed caps p) (few-nodes : caps .nodes ≤ LIMIT) (few-edges : caps .edges ≤ LIMIT) where
+  -- compaction leaves well-formed lists
+  pub compacted-well-formed : WellFormed caps (compacted p)
+  unfolding compacted
+  compacted-well-formed =
+      let nodes = surviving-nodes-within p in
+      let edges = surviving-edges-within p in
+      of-survivors-well-formed (survivors p) (survivors-sound caps p w few-nodes few-edges) caps
+      (let bound = w .nodes-within in omega arith) (let bound = w .edges-within in omega arith)
+
+  -- compacting again changes nothing
+  pub compacted-again : compacted (compacted p) ≡ compacted p
+  unfolding compacted
+  compacted-again = ap of-survivors (survivors-of (survivors p) (survivors-sound caps p w few-nodes few-edges))
+
+-- every slot that compaction leaves is live
+pub compacted-nodes-live : (p : Plain) → node-flags (compacted p) ≡ replicate (live-nodes p) true
+unfolding compacted
+compacted-nodes-live p = node-flags-of (survivors p) ∙ ap (λ (n : ℕ). replicate n true) (length-surviving-nodes p)
+
+pub compacted-edges-live : (p : Plain) → edge-flags (compacted p) ≡ replicate (live-edges p) true
+unfolding compacted
+compacted-edges-live p = edge-flags-of (survivors p) ∙ ap (λ (n : ℕ). replicate n true) (length-surviving-edges p)
+
+-- compacting again gives identity maps
+pub node-map-again : (p : Plain) → is-identity-map (renumbering (node-flags (compacted p))) ≡ true
+node-map-again p = rw compacted-nodes-live (identity-all-live (live-nodes p))
+
+pub edge-map-again : (p : Plain) → is-identity-map (renumbering (edge-flags (compacted p))) ≡ true
+edge-map-again p = rw compacted-edges-live (identity-all-live (live-edges p))
