@@ -1,7 +1,7 @@
 -- Compaction: what it leaves is well formed with every slot live, and compacting that changes nothing.
 use Prim.Native.Nat.{ℕ, zero, suc, _+_, _≤_, _<_, _^_}
 use native.Mathlib.Omega.{arith}
-use mathlib.Core.Path.{_≡_, refl, sym, ap, ap₂, _∙_, subst, subst₂}
+use mathlib.Core.Path.{_≡_, refl, sym, ap, ap₂, _∙_, subst, subst₂, fun-ext}
 use mathlib.Core.Bool.{Bool, true, false, _&&_}
 use mathlib.Core.List.{List, [], _∷_, map, map-map, map-id}
 use lib.ListN.{length, getD, replicate, length-map, length-replicate, List·getD-map}
@@ -105,3 +105,229 @@ module _ (nodes edges : List Bool) (n : ℕ) (i : Incidence) (t : Incident edges
         distinct-map (rank edges) (getD (i .lists) x []) (λ e f h k. rank-injective edges e f (listed-live x e h) (listed-live x f k))
         ∙ t .once x);
   }
+
+-- ---- the survivors
+
+-- one direction of well-formed lists
+pub incident : (caps : Capacities) (p : Plain) → WellFormed caps p → (d : TraversalDirection) → Incident (edge-flags p) (node-bound p) (incidence d p)
+incident caps p w Outgoing = w .outgoing
+incident caps p w Incoming = w .incoming
+
+-- one direction of the survivors of well-formed lists is fitted
+pub survivors-fitted : (caps : Capacities) (p : Plain) → WellFormed caps p → (d : TraversalDirection)
+    → Fitted (live-nodes p) (map (λ e. rank (node-flags p) (end-of d p e)) (live-slots (edge-flags p))) (map (surviving-list d p) (live-slots (node-flags p)))
+survivors-fitted caps p w d =
+    let i = compacted-incidence (node-flags p) (edge-flags p) (incidence d p) in
+    incident-fitted (live-nodes p) (live-edges p) i
+    (length-map (live-slots (edge-flags p)) (λ e. rank (node-flags p) (end-of d p e)) ∙ length-live-slots (edge-flags p))
+    (incident-compacted (node-flags p) (edge-flags p) (node-bound p) (incidence d p) (incident caps p w d) (w .ends-live d))
+
+-- as many nodes survive as are live, and as many edges
+pub length-surviving-nodes : (p : Plain) → length (survivors p .nodes) ≡ live-nodes p
+unfolding survivors
+length-surviving-nodes p =
+    length-map (live-slots (node-flags p)) (λ x. getD (p .nodes) x no-node .payload) ∙ length-live-slots (node-flags p)
+
+pub length-surviving-edges : (p : Plain) → length (survivors p .edges) ≡ live-edges p
+unfolding survivors
+length-surviving-edges p = length-map (live-slots (edge-flags p)) (surviving-edge p) ∙ length-live-slots (edge-flags p)
+
+-- no more nodes survive than there are slots, and no more edges
+pub surviving-nodes-within : (p : Plain) → length (survivors p .nodes) ≤ node-bound p
+surviving-nodes-within p =
+    let same = length-surviving-nodes p in
+    let few = count-length (λ f. f) (node-flags p) in
+    let flags = length-map (p .nodes) (λ (s : NodeSlot). s .live) in
+    omega arith
+
+pub surviving-edges-within : (p : Plain) → length (survivors p .edges) ≤ edge-bound p
+surviving-edges-within p =
+    let same = length-surviving-edges p in
+    let few = count-length (λ f. f) (edge-flags p) in
+    let flags = length-map (p .edges) (λ (s : EdgeSlot). s .live) in
+    omega arith
+
+-- the survivors of well-formed lists within the limit have an image
+pub survivors-sound : (caps : Capacities) (p : Plain) → WellFormed caps p → caps .nodes ≤ LIMIT → caps .edges ≤ LIMIT → Sound (survivors p)
+unfolding survivors
+survivors-sound caps p w few-nodes few-edges = record {
+  nodes-within = let slots = surviving-nodes-within p in let bound = w .nodes-within in omega arith;
+  edges-within = let slots = surviving-edges-within p in let bound = w .edges-within in omega arith;
+  node-payloads = getD-map-each (λ (n : ℕ). n < 2 ^ 32) (λ x. getD (p .nodes) x no-node .payload) (live-slots (node-flags p)) 0 (omega arith) (w .node-payloads);
+  edge-payloads =
+      subst (λ (l : List ℕ). (e : ℕ) → getD l e 0 < 2 ^ 32)
+      (sym (map-map (λ (r : EdgeRecord). r .payload) (surviving-edge p) (live-slots (edge-flags p))))
+      (getD-map-each (λ (n : ℕ). n < 2 ^ 32) (λ e. getD (p .edges) e no-edge .payload) (live-slots (edge-flags p)) 0 (omega arith) (w .edge-payloads));
+  outs =
+      subst₂ (λ (n : ℕ) (ends : List ℕ). Fitted n ends (map (surviving-list Outgoing p) (live-slots (node-flags p))))
+      (sym (length-surviving-nodes p)) (sym (map-map source-of (surviving-edge p) (live-slots (edge-flags p))))
+      (survivors-fitted caps p w Outgoing);
+  ins =
+      subst₂ (λ (n : ℕ) (ends : List ℕ). Fitted n ends (map (surviving-list Incoming p) (live-slots (node-flags p))))
+      (sym (length-surviving-nodes p)) (sym (map-map target-of (surviving-edge p) (live-slots (edge-flags p))))
+      (survivors-fitted caps p w Incoming);
+}
+
+-- ---- survivors as plain lists
+
+-- every node slot of survivors as plain lists is live, and every edge slot
+pub node-flags-of : (s : Survivors) → node-flags (of-survivors s) ≡ replicate (length (s .nodes)) true
+unfolding of-survivors
+node-flags-of s = map-map (λ (k : NodeSlot). k .live) kept-node (s .nodes) ∙ map-replicate (λ n. true) true (s .nodes) (λ n. refl)
+
+pub edge-flags-of : (s : Survivors) → edge-flags (of-survivors s) ≡ replicate (length (s .edges)) true
+unfolding of-survivors
+edge-flags-of s = map-map (λ (k : EdgeSlot). k .live) kept-edge (s .edges) ∙ map-replicate (λ (r : EdgeRecord). true) true (s .edges) (λ r. refl)
+
+-- the payloads of survivors as plain lists
+pub node-payload-of : (s : Survivors) (x : ℕ) → getD (of-survivors s .nodes) x no-node .payload ≡ getD (s .nodes) x 0
+unfolding of-survivors
+node-payload-of s x =
+    sym (List·getD-map (λ (k : NodeSlot). k .payload) (map kept-node (s .nodes)) x no-node)
+    ∙ ap (λ (l : List ℕ). getD l x 0) (map-map (λ (k : NodeSlot). k .payload) kept-node (s .nodes) ∙ map-id (s .nodes))
+
+pub edge-payload-of : (s : Survivors) (e : ℕ) → getD (of-survivors s .edges) e no-edge .payload ≡ getD (map (λ (r : EdgeRecord). r .payload) (s .edges)) e 0
+unfolding of-survivors
+edge-payload-of s e =
+    sym (List·getD-map (λ (k : EdgeSlot). k .payload) (map kept-edge (s .edges)) e no-edge)
+    ∙ ap (λ (l : List ℕ). getD l e 0) (map-map (λ (k : EdgeSlot). k .payload) kept-edge (s .edges))
+
+pub node-bound-of : (s : Survivors) → node-bound (of-survivors s) ≡ length (s .nodes)
+unfolding of-survivors
+node-bound-of s = length-map (s .nodes) kept-node
+
+pub edge-bound-of : (s : Survivors) → edge-bound (of-survivors s) ≡ length (s .edges)
+unfolding of-survivors
+edge-bound-of s = length-map (s .edges) kept-edge
+
+-- the slots of survivors as plain lists, all live
+live-nodes-of : (s : Survivors) → live-slots (node-flags (of-survivors s)) ≡ from 0 (length (s .nodes))
+live-nodes-of s = ap live-slots (node-flags-of s) ∙ live-from-all-live 0 (length (s .nodes))
+
+live-edges-of : (s : Survivors) → live-slots (edge-flags (of-survivors s)) ≡ from 0 (length (s .edges))
+live-edges-of s = ap live-slots (edge-flags-of s) ∙ live-from-all-live 0 (length (s .edges))
+
+-- what stands past the end of a list of records, and is never read
+abbrev no-ends : EdgeRecord
+no-ends = record { source = 0; target = 0; payload = 0 }
+
+length-ends-of : (s : Survivors) (d : TraversalDirection) → length (incidence d (of-survivors s) .ends) ≡ length (s .edges)
+unfolding of-survivors
+length-ends-of s Outgoing = length-map (s .edges) source-of
+length-ends-of s Incoming = length-map (s .edges) target-of
+
+module _ (s : Survivors) (sound : Sound s) where
+  -- each direction is fitted
+  fitted-of : (d : TraversalDirection) → Fitted (length (s .nodes)) (incidence d (of-survivors s) .ends) (incidence d (of-survivors s) .lists)
+  unfolding of-survivors
+  fitted-of Outgoing = sound .outs
+  fitted-of Incoming = sound .ins
+
+  -- and so well formed
+  incident-of : (d : TraversalDirection) → Incident (replicate (length (s .edges)) true) (length (s .nodes)) (incidence d (of-survivors s))
+  incident-of d = fitted-incident (length (s .nodes)) (length (s .edges)) (incidence d (of-survivors s)) (length-ends-of s d) (fitted-of d)
+
+  -- the ends are below the number of nodes
+  end-below : (d : TraversalDirection) (e : ℕ) → e < length (s .edges) → end-of d (of-survivors s) e < length (s .nodes)
+  end-below d e h = fitted-of d .ends-below e (subst (λ (m : ℕ). e < m) (sym (length-ends-of s d)) h)
+
+  -- sound survivors as plain lists are well formed
+  pub of-survivors-well-formed : (caps : Capacities) → length (s .nodes) ≤ caps .nodes → length (s .edges) ≤ caps .edges → WellFormed caps (of-survivors s)
+  of-survivors-well-formed caps nodes edges = record {
+    nodes-within = rw node-bound-of nodes;
+    edges-within = rw edge-bound-of edges;
+    outgoing = direction Outgoing;
+    incoming = direction Incoming;
+    ends-live = λ d e live.
+        let below = ltb-true e (length (s .edges)) (sym (live-all-live (length (s .edges)) e) ∙ (rw edge-flags-of at live)) in
+        rw node-flags-of (live-all-live (length (s .nodes)) (end-of d (of-survivors s) e) ∙ lt-ltb (end-of d (of-survivors s) e) (length (s .nodes)) (end-below d e below));
+    node-payloads = λ x. rw node-payload-of (sound .node-payloads x);
+    edge-payloads = λ e. rw edge-payload-of (sound .edge-payloads e);
+  }
+    where
+      direction : (d : TraversalDirection) → Incident (edge-flags (of-survivors s)) (node-bound (of-survivors s)) (incidence d (of-survivors s))
+      direction d =
+          subst₂ (λ (flags : List Bool) (n : ℕ). Incident flags n (incidence d (of-survivors s)))
+          (sym (edge-flags-of s)) (sym (node-bound-of s)) (incident-of d)
+
+  -- an end keeps its number
+  end-again : (d : TraversalDirection) (e : ℕ) → e < length (s .edges) → rank (node-flags (of-survivors s)) (end-of d (of-survivors s) e) ≡ end-of d (of-survivors s) e
+  end-again d e h =
+      ap (λ (flags : List Bool). rank flags (end-of d (of-survivors s) e)) (node-flags-of s)
+      ∙ rank-all-live (length (s .nodes)) (end-of d (of-survivors s) e) (let below = end-below d e h in omega arith)
+
+  -- an edge survives as it was
+  edge-again : (e : ℕ) → e < length (s .edges) → surviving-edge (of-survivors s) e ≡ getD (s .edges) e no-ends
+  unfolding of-survivors
+  edge-again e h = λ i. record {
+    source = (end-again Outgoing e h ∙ List·getD-map source-of (s .edges) e no-ends) i;
+    target = (end-again Incoming e h ∙ List·getD-map target-of (s .edges) e no-ends) i;
+    payload = (edge-payload-of s e ∙ List·getD-map (λ (r : EdgeRecord). r .payload) (s .edges) e no-ends) i;
+  }
+
+  -- and a list
+  list-again : (d : TraversalDirection) (x : ℕ) → surviving-list d (of-survivors s) x ≡ list-of d (of-survivors s) x
+  list-again d x =
+      ap (λ (flags : List Bool). map (rank flags) (list-of d (of-survivors s) x)) (edge-flags-of s)
+      ∙ map-unchanged (rank (replicate (length (s .edges)) true)) (list-of d (of-survivors s) x)
+      (λ e h.
+      let live = and-left (getD (replicate (length (s .edges)) true) e false) (eqb (end-of d (of-survivors s) e) x) (sym (incident-of d .listed x e) ∙ h) in
+      let below = ltb-true e (length (s .edges)) (sym (live-all-live (length (s .edges)) e) ∙ live) in
+      rank-all-live (length (s .edges)) e (omega arith))
+
+  lists-again : (d : TraversalDirection) → map (surviving-list d (of-survivors s)) (live-slots (node-flags (of-survivors s))) ≡ incidence d (of-survivors s) .lists
+  lists-again d =
+      ap (map (surviving-list d (of-survivors s))) (live-nodes-of s)
+      ∙ map-same (surviving-list d (of-survivors s)) (list-of d (of-survivors s)) (from 0 (length (s .nodes))) (λ x h. list-again d x)
+      ∙ ap (λ (n : ℕ). map (list-of d (of-survivors s)) (from 0 n)) (sym (incident-of d .lists-length))
+      ∙ map-getD (incidence d (of-survivors s) .lists) []
+
+  edges-again : map (surviving-edge (of-survivors s)) (live-slots (edge-flags (of-survivors s))) ≡ s .edges
+  edges-again =
+      ap (map (surviving-edge (of-survivors s))) (live-edges-of s)
+      ∙ map-same (surviving-edge (of-survivors s)) (λ e. getD (s .edges) e no-ends) (from 0 (length (s .edges)))
+      (λ e h. edge-again e (ltb-true e (length (s .edges)) (sym (member-below e (length (s .edges))) ∙ h)))
+      ∙ map-getD (s .edges) no-ends
+
+  -- the survivors of survivors as plain lists are they themselves
+  pub survivors-of : survivors (of-survivors s) ≡ s
+  unfolding survivors of-survivors
+  survivors-of = λ i. record {
+    nodes = (ap₂ {B = List ℕ} map (fun-ext (node-payload-of s)) (live-nodes-of s) ∙ map-getD (s .nodes) 0) i;
+    edges = edges-again i;
+    outs = lists-again Outgoing i;
+    ins = lists-again Incoming i;
+  }
+
+-- ---- compaction
+
+module _ (caps : Capacities) (p : Plain) (w : WellFormed caps p) (few-nodes : caps .nodes ≤ LIMIT) (few-edges : caps .edges ≤ LIMIT) where
+  -- compaction leaves well-formed lists
+  pub compacted-well-formed : WellFormed caps (compacted p)
+  unfolding compacted
+  compacted-well-formed =
+      let nodes = surviving-nodes-within p in
+      let edges = surviving-edges-within p in
+      of-survivors-well-formed (survivors p) (survivors-sound caps p w few-nodes few-edges) caps
+      (let bound = w .nodes-within in omega arith) (let bound = w .edges-within in omega arith)
+
+  -- compacting again changes nothing
+  pub compacted-again : compacted (compacted p) ≡ compacted p
+  unfolding compacted
+  compacted-again = ap of-survivors (survivors-of (survivors p) (survivors-sound caps p w few-nodes few-edges))
+
+-- every slot that compaction leaves is live
+pub compacted-nodes-live : (p : Plain) → node-flags (compacted p) ≡ replicate (live-nodes p) true
+unfolding compacted
+compacted-nodes-live p = node-flags-of (survivors p) ∙ ap (λ (n : ℕ). replicate n true) (length-surviving-nodes p)
+
+pub compacted-edges-live : (p : Plain) → edge-flags (compacted p) ≡ replicate (live-edges p) true
+unfolding compacted
+compacted-edges-live p = edge-flags-of (survivors p) ∙ ap (λ (n : ℕ). replicate n true) (length-surviving-edges p)
+
+-- compacting again gives identity maps
+pub node-map-again : (p : Plain) → is-identity-map (renumbering (node-flags (compacted p))) ≡ true
+node-map-again p = rw compacted-nodes-live (identity-all-live (live-nodes p))
+
+pub edge-map-again : (p : Plain) → is-identity-map (renumbering (edge-flags (compacted p))) ≡ true
+edge-map-again p = rw compacted-edges-live (identity-all-live (live-edges p))
