@@ -20,3 +20,4 @@ pub mod ImageBits
 pub mod Refusals
 pub mod ImageLaws
 pub mod Ascending
+pub mod Histories

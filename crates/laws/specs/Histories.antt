@@ -1,0 +1,235 @@
+-- Whole histories on the definitions: they keep the lists well formed, what is refused leaves the store, and document 01's demand 3 on the plain lists.
+use Prim.Native.Nat.{ℕ, zero, suc, _*_, _%_, _≤_, _<_}
+use mathlib.Core.Path.{_≡_, refl, sym, ap, _∙_}
+use mathlib.Core.Bool.{Bool, true, false, cond, not}
+use mathlib.Core.Logic.{_⊎_, inl, inr, ⊎-elim, _↔_}
+use mathlib.Core.Option.{Option, none, some}
+use mathlib.Core.List.{List, [], _∷_}
+use native.Mathlib.Omega.{arith}
+use lib.ListN.{length}
+use lib.Dec.{eqb, ltb}
+use borrow.Author.Tests.{eqb-true, eqb-false}
+use Rattle.plain.specs.Numbers.{LIMIT}
+use Rattle.plain.specs.Plain.{Plain, node-flags, edge-flags}
+use Rattle.plain.specs.Operations.{operations}
+use Rattle.plain.specs.Step.{Capacities, State, run}
+use Rattle.plain.specs.Reads.{Reply, lent}
+use Rattle.plain.specs.Renumbering.{is-identity-map}
+use Rattle.plain.specs.Compaction.{Survivors, survivors, compacted, renumbering}
+use Rattle.plain.specs.Image.{image, broken-image, nodes-in, edges-in, parsed}
+use Rattle.plain.specs.Memory.{first-short, exact, live-words, axis-words}
+use Rattle.plain.specs.Calls.{strip, fresh-state, limits, Compacted, compacting, compaction, compaction-slices, reading-slices, read-image, read-state, write-image}
+use Rattle.plain.specs.History.{Call, Strip, Compaction, Reading, Called, call, history-from, history, closing-image}
+use Rattle.laws.specs.WellFormed.{WellFormed, Sound}
+use Rattle.laws.specs.Booleans.{by-test, below-or-not}
+use Rattle.laws.specs.Operating.{empty-well-formed}
+use Rattle.laws.specs.Stepping.{run-well-formed, Words, operations-fitting}
+use Rattle.laws.specs.CallCases.{LongEnough, FirstShort, slice-fits, long-or-short, read-broken, read-short, read-done, compaction-done, write-compact, lent-short, lent-done}
+use Rattle.laws.specs.Compacting.{survivors-sound, of-survivors-well-formed, survivors-of, compacted-well-formed, compacted-again, node-map-again, edge-map-again}
+use Rattle.laws.specs.ImageLaws.{image-injective, parsed-sound, nodes-length, edges-length}
+
+-- capacities that a fresh store takes
+pub record Within (caps : Capacities) : Type 0 where
+  pub nodes : caps .nodes ≤ LIMIT
+  pub edges : caps .edges ≤ LIMIT
+
+-- a call whose words are words
+abbrev pub Legal : Call → Type 0
+Legal (Strip words room) = Words words
+Legal (Compaction node-map edge-map work) = Unit
+Legal (Reading bytes) = Unit
+
+pub data AllLegal : List Call → Type 0 where
+  no-call : AllLegal []
+  one-call : {c : Call} {calls : List Call} → Legal c → AllLegal calls → AllLegal (c ∷ calls)
+
+-- ---- one call
+
+-- reading into a store's own memory: unreadable, too short or done
+pub data ReadCase (caps : Capacities) (bytes : List ℕ) : ℕ → ℕ → Type 0 where
+  unreadable : {rule : ℕ} → broken-image bytes ≡ suc rule → ReadCase caps bytes 12 (suc rule)
+  read-too-short : {n : ℕ} → broken-image bytes ≡ 0 → FirstShort (reading-slices (nodes-in bytes) (edges-in bytes) (exact caps)) n → ReadCase caps bytes 2 n
+  read-fits : broken-image bytes ≡ 0 → LongEnough (reading-slices (nodes-in bytes) (edges-in bytes) (exact caps)) → ReadCase caps bytes 0 0
+
+module _ (caps : Capacities) (w : Within caps) (bytes : List ℕ) where
+  read-case-of : (rule : ℕ) → broken-image bytes ≡ rule → ReadCase caps bytes (read-image (exact caps) bytes .number) (read-image (exact caps) bytes .value)
+  unfolding read-image
+  read-case-of (suc rule) e = rw (read-broken limits 13 (exact caps) (w .nodes) (w .edges) bytes rule e) (unreadable e)
+  read-case-of zero e =
+      ⊎-elim (λ l. rw (read-done limits 13 (exact caps) (w .nodes) (w .edges) bytes e l) (read-fits e l))
+      (λ s. rw (read-short limits 13 (exact caps) (w .nodes) (w .edges) bytes (s .0) e (s .1)) (read-too-short e (s .1)))
+      (long-or-short (reading-slices (nodes-in bytes) (edges-in bytes) (exact caps)))
+
+  pub read-case : ReadCase caps bytes (read-image (exact caps) bytes .number) (read-image (exact caps) bytes .value)
+  read-case = read-case-of (broken-image bytes) refl
+
+-- the lists that an accepted image leaves
+read-well-formed : (caps : Capacities) (bytes : List ℕ) → broken-image bytes ≡ 0 → LongEnough (reading-slices (nodes-in bytes) (edges-in bytes) (exact caps))
+    → WellFormed caps (read-state bytes .lists)
+read-well-formed caps bytes e (slice-fits h (slice-fits k rest)) =
+    of-survivors-well-formed (parsed bytes) (parsed-sound bytes e) caps (rw nodes-length h) (rw edges-length k)
+
+reading-well-formed : (caps : Capacities) (bytes : List ℕ) (s : State) {number value : ℕ} → ReadCase caps bytes number value → WellFormed caps (s .lists)
+    → WellFormed caps (cond (eqb number 0) (read-state bytes) s .lists)
+reading-well-formed caps bytes s (unreadable e) h = h
+reading-well-formed caps bytes s (read-too-short e f) h = h
+reading-well-formed caps bytes s (read-fits e f) h = read-well-formed caps bytes e f
+
+compacting-well-formed : (caps : Capacities) → Within caps → (short : Option ℕ) (s : State) → WellFormed caps (s .lists)
+    → WellFormed caps (compacting short s .after .lists)
+compacting-well-formed caps w none s h = compacted-well-formed caps (s .lists) h (w .nodes) (w .edges)
+compacting-well-formed caps w (some needed) s h = h
+
+strip-well-formed : (caps : Capacities) (s : State) (words : List ℕ) (room : ℕ) → Words words → WellFormed caps (s .lists)
+    → WellFormed caps (strip caps s words room .after .lists)
+unfolding strip
+strip-well-formed caps s words room fits h =
+    by-test (eqb (length words % 4) 0)
+    (λ q. rw q (by-test (ltb room (2 * length (operations words))) (λ r. rw r h) (λ r. rw r (run-well-formed s (operations-fitting words fits) h))))
+    (λ q. rw q h)
+
+-- a call keeps the lists well formed
+pub call-well-formed : (caps : Capacities) → Within caps → (s : State) (c : Call) → Legal c → WellFormed caps (s .lists) → WellFormed caps (call caps s c .after .lists)
+unfolding call compaction
+call-well-formed caps w s (Strip words room) l h = strip-well-formed caps s words room l h
+call-well-formed caps w s (Compaction node-map edge-map work) l h =
+    compacting-well-formed caps w (first-short (compaction-slices (s .lists) node-map edge-map work)) s h
+call-well-formed caps w s (Reading bytes) l h = reading-well-formed caps bytes s (read-case caps w bytes) h
+
+-- "A refused call leaves the plain lists and the store as they were."
+reading-refused : (caps : Capacities) (bytes : List ℕ) (s : State) {number value : ℕ} → ReadCase caps bytes number value → (number ≡ 0 → ⊥)
+    → cond (eqb number 0) (read-state bytes) s ≡ s
+reading-refused caps bytes s (unreadable e) h = refl
+reading-refused caps bytes s (read-too-short e f) h = refl
+reading-refused caps bytes s (read-fits e f) h = absurd (h refl)
+
+compacting-refused : (short : Option ℕ) (s : State) → (compacting short s .number ≡ 0 → ⊥) → compacting short s .after ≡ s
+compacting-refused none s h = absurd (h refl)
+compacting-refused (some needed) s h = refl
+
+strip-refused : (caps : Capacities) (s : State) (words : List ℕ) (room : ℕ) → (strip caps s words room .number ≡ 0 → ⊥) → strip caps s words room .after ≡ s
+unfolding strip
+strip-refused caps s words room =
+    by-test (eqb (length words % 4) 0) (λ q. rw q (by-test (ltb room (2 * length (operations words))) (λ r. rw r (λ h. refl)) (λ r. rw r (λ h. absurd (h refl)))))
+    (λ q. rw q (λ h. refl))
+
+pub call-refused : (caps : Capacities) → Within caps → (s : State) (c : Call) → (call caps s c .number ≡ 0 → ⊥) → call caps s c .after ≡ s
+unfolding call compaction
+call-refused caps w s (Strip words room) h = strip-refused caps s words room h
+call-refused caps w s (Compaction node-map edge-map work) h =
+    compacting-refused (first-short (compaction-slices (s .lists) node-map edge-map work)) s h
+call-refused caps w s (Reading bytes) h = reading-refused caps bytes s (read-case caps w bytes) h
+
+-- ---- whole histories
+
+history-from-well-formed : (caps : Capacities) → Within caps → (s : State) {calls : List Call} → AllLegal calls → WellFormed caps (s .lists)
+    → WellFormed caps (history-from caps s calls .lists)
+unfolding history-from
+history-from-well-formed caps w s no-call h = h
+history-from-well-formed caps w s (one-call {c} l ls) h = history-from-well-formed caps w (call caps s c .after) ls (call-well-formed caps w s c l h)
+
+-- every history leaves well-formed lists
+pub history-well-formed : (caps : Capacities) → Within caps → {calls : List Call} → AllLegal calls → WellFormed caps (history caps calls .lists)
+unfolding history
+history-well-formed caps w l = history-from-well-formed caps w fresh-state l (empty-well-formed caps)
+
+-- and survivors that have an image
+pub history-sound : (caps : Capacities) → Within caps → {calls : List Call} → AllLegal calls → Sound (survivors (history caps calls .lists))
+history-sound caps w {calls} l = survivors-sound caps (history caps calls .lists) (history-well-formed caps w l) (w .nodes) (w .edges)
+
+-- DEMAND 3 on the definitions: for any two lists of calls, of any capacities, the images of what survives are equal, length and bytes, exactly when the
+-- survivors are equal: payloads, ends, both lists of each lot in order.
+pub same-image : (caps₁ caps₂ : Capacities) → Within caps₁ → Within caps₂ → {calls₁ calls₂ : List Call} → AllLegal calls₁ → AllLegal calls₂
+    → (image (survivors (history caps₁ calls₁ .lists)) ≡ image (survivors (history caps₂ calls₂ .lists)))
+    ↔ (survivors (history caps₁ calls₁ .lists) ≡ survivors (history caps₂ calls₂ .lists))
+same-image caps₁ caps₂ w₁ w₂ {calls₁} {calls₂} l₁ l₂ =
+    (image-injective (survivors (history caps₁ calls₁ .lists)) (survivors (history caps₂ calls₂ .lists)) (history-sound caps₁ w₁ l₁) (history-sound caps₂ w₂ l₂), ap image)
+
+-- ---- the closing compaction and image writing
+
+-- a compaction is done or, for want of room, refused with 2
+compacting-number : (short : Option ℕ) (s : State) → (compacting short s .number ≡ 0) ⊎ (compacting short s .number ≡ 2)
+compacting-number none s = inl refl
+compacting-number (some needed) s = inr refl
+
+compacting-done : (short : Option ℕ) (s : State) → compacting short s .number ≡ 0 → compacting short s ≡ compacting none s
+compacting-done none s h = refl
+compacting-done (some needed) s h = absurd (omega arith)
+
+lent-number : (room value : ℕ) (words : List ℕ) → (lent room value words .number ≡ 0) ⊎ (lent room value words .number ≡ 2)
+lent-number room value words =
+    ⊎-elim (λ h. inr (ap (λ (r : Reply). r .number) (lent-short room value words h))) (λ h. inl (ap (λ (r : Reply). r .number) (lent-done room value words h)))
+    (below-or-not room (length words))
+
+-- what is answered with 0 is written whole
+lent-words : (room value : ℕ) (words : List ℕ) → lent room value words .number ≡ 0 → lent room value words ≡ record { number = 0; value = value; words = words }
+lent-words room value words e =
+    ⊎-elim (λ h. absurd (let z = sym (ap (λ (r : Reply). r .number) (lent-short room value words h)) ∙ e in omega arith)) (λ h. lent-done room value words h)
+    (below-or-not room (length words))
+
+-- what a compaction leaves that answers 0
+pub compaction-state : (s : State) (node-map edge-map work : ℕ) → compaction s node-map edge-map work .number ≡ 0 → compaction s node-map edge-map work ≡ compacting none s
+unfolding compaction
+compaction-state s node-map edge-map work e = compacting-done (first-short (compaction-slices (s .lists) node-map edge-map work)) s e
+
+module _ (caps : Capacities) (w : Within caps) (s : State) (h : WellFormed caps (s .lists)) (node-map edge-map work : ℕ) where
+  -- "the only other number they can give is 2": the compaction
+  pub closing-compaction-number : (compaction s node-map edge-map work .number ≡ 0) ⊎ (compaction s node-map edge-map work .number ≡ 2)
+  unfolding compaction
+  closing-compaction-number = compacting-number (first-short (compaction-slices (s .lists) node-map edge-map work)) s
+
+  -- compaction keeps the survivors
+  pub survivors-compacted : survivors (compacted (s .lists)) ≡ survivors (s .lists)
+  unfolding compacted
+  survivors-compacted = survivors-of (survivors (s .lists)) (survivors-sound caps (s .lists) h (w .nodes) (w .edges))
+
+  -- the image after a compaction that answers 0 is that of the survivors, if the slice is long enough
+  pub closing-image-is : compaction s node-map edge-map work .number ≡ 0 → (room : ℕ)
+      → closing-image s node-map edge-map work room ≡ lent room (length (image (survivors (s .lists)))) (image (survivors (s .lists)))
+  closing-image-is e room =
+      rw (compaction-state s node-map edge-map work e)
+      (write-compact (compacting none s .after) room refl
+      ∙ ap (λ (t : Survivors). lent room (length (image t)) (image t)) survivors-compacted)
+
+  -- "the only other number they can give is 2": the image writing
+  pub closing-image-number : compaction s node-map edge-map work .number ≡ 0 → (room : ℕ)
+      → (closing-image s node-map edge-map work room .number ≡ 0) ⊎ (closing-image s node-map edge-map work room .number ≡ 2)
+  closing-image-number e room =
+      rw (closing-image-is e room) (lent-number room (length (image (survivors (s .lists)))) (image (survivors (s .lists))))
+
+  -- the bytes of a closing image that answers 0
+  pub closing-bytes : compaction s node-map edge-map work .number ≡ 0 → (room : ℕ) → closing-image s node-map edge-map work room .number ≡ 0
+      → closing-image s node-map edge-map work room
+      ≡ record { number = 0; value = length (image (survivors (s .lists))); words = image (survivors (s .lists)) }
+  closing-bytes e room k =
+      let r = closing-image-is e room in
+      r ∙ lent-words room (length (image (survivors (s .lists)))) (image (survivors (s .lists))) (sym (ap (λ (t : Reply). t .number) r) ∙ k)
+
+  -- "compacting again changes no field and gives identity maps": the store that a compaction left is left by the next, whatever is lent to it
+  pub compaction-again : compaction s node-map edge-map work .number ≡ 0 → (nodes edges room : ℕ)
+      → let t = compaction s node-map edge-map work .after in
+      compaction t nodes edges room .number ≡ 0 → (compaction t nodes edges room .after ≡ t)
+      × (is-identity-map (compaction t nodes edges room .node-map) ≡ true) × (is-identity-map (compaction t nodes edges room .edge-map) ≡ true)
+  compaction-again e nodes edges room k =
+      let first = compaction-state s node-map edge-map work e in
+      let second = compaction-state (compaction s node-map edge-map work .after) nodes edges room k in (
+        ap (λ (c : Compacted). c .after) second
+            ∙ rw first (ap (λ (p : Plain). record { lists = p; compact = true }) (compacted-again caps (s .lists) h (w .nodes) (w .edges))),
+        rw (second, first) (node-map-again (s .lists)),
+        rw (second, first) (edge-map-again (s .lists)),
+      )
+
+-- DEMAND 3 through the closing calls: where the closing compactions and image writings of two histories answer 0, the images are equal, length and bytes,
+-- exactly when the survivors are equal.
+pub same-closing-image : (caps₁ caps₂ : Capacities) → Within caps₁ → Within caps₂ → {calls₁ calls₂ : List Call} → AllLegal calls₁ → AllLegal calls₂
+    → (n₁ e₁ w₁ r₁ n₂ e₂ w₂ r₂ : ℕ) → let s₁ = history caps₁ calls₁ in let s₂ = history caps₂ calls₂ in
+    compaction s₁ n₁ e₁ w₁ .number ≡ 0 → closing-image s₁ n₁ e₁ w₁ r₁ .number ≡ 0 → compaction s₂ n₂ e₂ w₂ .number ≡ 0 → closing-image s₂ n₂ e₂ w₂ r₂ .number ≡ 0
+    → (closing-image s₁ n₁ e₁ w₁ r₁ ≡ closing-image s₂ n₂ e₂ w₂ r₂) ↔ (survivors (s₁ .lists) ≡ survivors (s₂ .lists))
+same-closing-image caps₁ caps₂ l₁ l₂ {calls₁} {calls₂} a₁ a₂ n₁ e₁ w₁ r₁ n₂ e₂ w₂ r₂ c₁ i₁ c₂ i₂ =
+    let s₁ = history caps₁ calls₁ in
+    let s₂ = history caps₂ calls₂ in
+    let b₁ = closing-bytes caps₁ l₁ s₁ (history-well-formed caps₁ l₁ a₁) n₁ e₁ w₁ c₁ r₁ i₁ in
+    let b₂ = closing-bytes caps₂ l₂ s₂ (history-well-formed caps₂ l₂ a₂) n₂ e₂ w₂ c₂ r₂ i₂ in (
+      λ q. same-image caps₁ caps₂ l₁ l₂ a₁ a₂ .0 (ap (λ (r : Reply). r .words) (sym b₁ ∙ q ∙ b₂)),
+      λ q. b₁ ∙ ap (λ (t : Survivors). record { number = 0; value = length (image t); words = image t }) q ∙ sym b₂,
+    )
