@@ -1,8 +1,8 @@
 -- Laws of tests: cases on a test, equality of two tests, conjunction, and when two comparisons give the same.
-use Prim.Native.Nat.{ℕ, suc, _≤_, _<_}
+use Prim.Native.Nat.{ℕ, _≤_}
 use mathlib.Core.Path.{_≡_, refl, sym, _∙_}
-use mathlib.Core.Bool.{Bool, true, false, _&&_, _||_, not, true≢false}
-use lib.Dec.{eqb, leb, ltb}
+use mathlib.Core.Bool.{Bool, true, false, _&&_, _||_, true≢false}
+use lib.Dec.{eqb, leb}
 use borrow.Author.Tests.{leb-true, le-leb, eqb-true, eq-eqb}
 
 -- by cases on a test

@@ -1,5 +1,5 @@
 -- One direction whose edges are all live: to be well formed (`Incident`) and to have an image (`Fitted`) are the same.
-use Prim.Native.Nat.{ℕ, zero, suc, _+_, _≤_, _<_}
+use Prim.Native.Nat.{ℕ, zero, suc, _+_, _<_}
 use native.Mathlib.Nat.{zero-add}
 use native.Mathlib.Omega.{arith}
 use mathlib.Core.Path.{_≡_, refl, sym, ap, ap₂, _∙_, subst}
@@ -12,7 +12,7 @@ use Rattle.plain.specs.Lists.{member, distinct, from, keep, all, count, joined}
 use Rattle.plain.specs.Plain.{Incidence}
 use Rattle.plain.specs.Image.{list-lengths, at-their-nodes, lists-right}
 use Rattle.laws.specs.WellFormed.{Incident, Fitted}
-use Rattle.laws.specs.Booleans.{by-test, true-false, same-truth, and-left, and-right, both-true, eqb-comm}
+use Rattle.laws.specs.Booleans.{true-false, same-truth, and-left, and-right, both-true, eqb-comm}
 use Rattle.laws.specs.ListLaws.{getD-map, map-same, map-getD, all-of, all-member, member-keep, distinct-keep, length-keep, count-indices, length-from, getD-from, member-below, distinct-from, distinct-length, distinct-full, member-joined, joined-member, distinct-at, distinct-joined}
 use Rattle.laws.specs.Rank.{live-all-live}
 

@@ -3,17 +3,17 @@ use Prim.Native.Nat.{ℕ, zero, suc, _+_, _≤_, _<_, zero-le, suc-le-suc}
 use native.Mathlib.Nat.{not-suc-le-zero, le-of-suc-le-suc, suc-inj, zero-add}
 use native.Mathlib.Numerals.{one-add}
 use native.Mathlib.Omega.{arith}
-use mathlib.Core.Path.{_≡_, refl, sym, ap, ap₂, _∙_, subst, fun-ext}
+use mathlib.Core.Path.{_≡_, refl, sym, ap, _∙_, subst, fun-ext}
 use mathlib.Core.Bool.{Bool, true, false, cond, _&&_, and-false}
 use mathlib.Core.List.{List, [], _∷_, _++_, map, map-map}
-use lib.ListN.{length, getD, set, replicate, List·getD-map}
+use lib.ListN.{length, getD, set, replicate, length-append, List·getD-map}
 use lib.Dec.{ltb, leb·suc-zero, leb·suc-suc, eqb·suc-zero}
 use borrow.Author.Tests.{ltb-true, ltb-false, lt-ltb, le-ltb}
 use Rattle.plain.specs.Lists.{member, distinct, from, count}
 use Rattle.plain.specs.Reads.{live-count, live-from, live-slots}
 use Rattle.plain.specs.Compaction.{rank}
 use Rattle.laws.specs.Booleans.{by-test, true-false}
-use Rattle.laws.specs.ListLaws.{member-map, member-zero-suc, member-at, from-suc, getD-from, getD-default, distinct-map, distinct-from, map-unchanged}
+use Rattle.laws.specs.ListLaws.{getD-default, getD-map, member-map, member-zero-suc, member-at, count-append, from-suc, getD-from, distinct-map, distinct-from, map-unchanged}
 
 -- ---- rank
 
@@ -91,6 +91,19 @@ rank-append (flag ∷ flags) more (suc x) h = ap (λ (n : ℕ). cond flag 1 0 + 
 -- the rank of an appended slot is the number of live slots before it
 pub rank-appended : (flags more : List Bool) → rank (flags ++ more) (length flags) ≡ live-count flags
 rank-appended flags more = rank-append flags more (length flags) (omega arith) ∙ rank-end flags (length flags) (omega arith)
+
+-- what a live slot appended gives to the ranks: one, after it
+pub rank-pushed : (flags : List Bool) (x : ℕ) → rank (flags ++ (true ∷ [])) x ≡ rank flags x + cond (ltb (length flags) x) 1 0
+unfolding count
+rank-pushed flags x = by-test (ltb (length flags) x) past (λ h. rw h (let same = rank-append flags (true ∷ []) x (ltb-false (length flags) x h) in omega arith))
+  where
+    past : ltb (length flags) x ≡ true → rank (flags ++ (true ∷ [])) x ≡ rank flags x + cond (ltb (length flags) x) 1 0
+    past h =
+        let long = ltb-true (length flags) x h in
+        let one-more = length-append flags (true ∷ []) in
+        let now = rank-end (flags ++ (true ∷ [])) x (omega arith) ∙ count-append (λ f. f) flags (true ∷ []) in
+        let before = rank-end flags x (omega arith) in
+        rw h (omega arith)
 
 -- what a removal takes from the ranks: one, after a live slot removed
 pub rank-removal : (flags : List Bool) (x y : ℕ) → rank flags y ≡ rank (set flags x false) y + cond (getD flags x false && ltb x y) 1 0
@@ -199,6 +212,13 @@ live-slot-rank flags x d live =
     getD-default (live-slots flags) (rank flags x) d 0 (subst (λ (n : ℕ). rank flags x < n) (sym (length-live-slots flags)) below)
     ∙ rank-injective flags (getD (live-slots flags) (rank flags x) 0) x
     (live-slot-live flags (rank flags x) 0 below) live (rank-live-slot flags (rank flags x) below)
+
+-- a list of values at the live slots has the value at a live slot at the slot's rank
+pub getD-at-rank : {A : Type 0} (f : ℕ → A) (flags : List Bool) (x : ℕ) (d : A) → getD flags x false ≡ true
+    → getD (map f (live-slots flags)) (rank flags x) d ≡ f x
+getD-at-rank f flags x d live =
+    getD-map f (live-slots flags) (rank flags x) 0 d (subst (λ (n : ℕ). rank flags x < n) (sym (length-live-slots flags)) (rank-live flags x live))
+    ∙ ap f (live-slot-rank flags x 0 live)
 
 -- the live slots ascend
 pub live-slots-ascend : (flags : List Bool) (i j : ℕ) → i < j → j < live-count flags → getD (live-slots flags) i 0 < getD (live-slots flags) j 0
