@@ -25,11 +25,12 @@ pub refuted : (a : Bool) → (a ≡ true → ⊥) → a ≡ false
 refuted true h = absurd (h refl)
 refuted false h = refl
 
--- both parts of a conjunction hold where it does
+-- the first part of a conjunction holds where it does
 pub and-left : (a b : Bool) → (a && b) ≡ true → a ≡ true
 and-left true b h = refl
 and-left false b h = h
 
+-- and so does the second
 pub and-right : (a b : Bool) → (a && b) ≡ true → b ≡ true
 and-right true b h = h
 and-right false b h = true-false h refl
@@ -42,10 +43,11 @@ both-true h k = rw (h, k)
 pub or-other : {a b : Bool} → (a || b) ≡ true → a ≡ false → b ≡ true
 or-other h k = rw k at h
 
--- comparisons give the same where each passes if the other does
+-- two comparisons give the same where each passes if the other does
 pub leb-same : (a b c d : ℕ) → (a ≤ b → c ≤ d) → (c ≤ d → a ≤ b) → leb a b ≡ leb c d
 leb-same a b c d f g = same-truth (leb a b) (leb c d) (λ h. le-leb c d (f (leb-true a b h))) (λ h. le-leb a b (g (leb-true c d h)))
 
+-- and so do two tests for equality
 pub eqb-same : (a b c d : ℕ) → (a ≡ b → c ≡ d) → (c ≡ d → a ≡ b) → eqb a b ≡ eqb c d
 eqb-same a b c d f g = same-truth (eqb a b) (eqb c d) (λ h. eq-eqb c d (f (eqb-true a b h))) (λ h. eq-eqb a b (g (eqb-true c d h)))
 

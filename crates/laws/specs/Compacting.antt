@@ -134,17 +134,18 @@ compacted-incidence p Incoming = λ i. record {
   lists = map (surviving-list Incoming p) (live-slots (node-flags p));
 }
 
--- as many nodes survive as are live, and as many edges
+-- as many nodes survive as are live
 pub length-surviving-nodes : (p : Plain) → length (survivors p .nodes) ≡ live-nodes p
 unfolding survivors
 length-surviving-nodes p =
     length-map (live-slots (node-flags p)) (λ x. getD (p .nodes) x no-node .payload) ∙ length-live-slots (node-flags p)
 
+-- and as many edges
 pub length-surviving-edges : (p : Plain) → length (survivors p .edges) ≡ live-edges p
 unfolding survivors
 length-surviving-edges p = length-map (live-slots (edge-flags p)) (surviving-edge p) ∙ length-live-slots (edge-flags p)
 
--- no more nodes survive than there are slots, and no more edges
+-- no more nodes survive than there are slots
 pub surviving-nodes-within : (p : Plain) → length (survivors p .nodes) ≤ node-bound p
 surviving-nodes-within p =
     let same = length-surviving-nodes p in
@@ -152,6 +153,7 @@ surviving-nodes-within p =
     let flags = length-map (p .nodes) (λ (s : NodeSlot). s .live) in
     omega arith
 
+-- and no more edges
 pub surviving-edges-within : (p : Plain) → length (survivors p .edges) ≤ edge-bound p
 surviving-edges-within p =
     let same = length-surviving-edges p in
@@ -185,32 +187,36 @@ survivors-sound caps p w few-nodes few-edges = record {
 
 -- ---- survivors as plain lists
 
--- every node slot of survivors as plain lists is live, and every edge slot
+-- every node slot of survivors as plain lists is live
 pub node-flags-of : (s : Survivors) → node-flags (of-survivors s) ≡ replicate (length (s .nodes)) true
 unfolding of-survivors
 node-flags-of s = map-map (λ (k : NodeSlot). k .live) kept-node (s .nodes) ∙ map-replicate (λ n. true) true (s .nodes) (λ n. refl)
 
+-- and every edge slot
 pub edge-flags-of : (s : Survivors) → edge-flags (of-survivors s) ≡ replicate (length (s .edges)) true
 unfolding of-survivors
 edge-flags-of s = map-map (λ (k : EdgeSlot). k .live) kept-edge (s .edges) ∙ map-replicate (λ (r : EdgeRecord). true) true (s .edges) (λ r. refl)
 
--- the payloads of survivors as plain lists
+-- the payloads of their nodes are the survivors' payloads
 pub node-payload-of : (s : Survivors) (x : ℕ) → getD (of-survivors s .nodes) x no-node .payload ≡ getD (s .nodes) x 0
 unfolding of-survivors
 node-payload-of s x =
     sym (List·getD-map (λ (k : NodeSlot). k .payload) (map kept-node (s .nodes)) x no-node)
     ∙ ap (λ (l : List ℕ). getD l x 0) (map-map (λ (k : NodeSlot). k .payload) kept-node (s .nodes) ∙ map-id (s .nodes))
 
+-- and those of their edges
 pub edge-payload-of : (s : Survivors) (e : ℕ) → getD (of-survivors s .edges) e no-edge .payload ≡ getD (map (λ (r : EdgeRecord). r .payload) (s .edges)) e 0
 unfolding of-survivors
 edge-payload-of s e =
     sym (List·getD-map (λ (k : EdgeSlot). k .payload) (map kept-edge (s .edges)) e no-edge)
     ∙ ap (λ (l : List ℕ). getD l e 0) (map-map (λ (k : EdgeSlot). k .payload) kept-edge (s .edges))
 
+-- the node bound is the number of nodes that survive
 pub node-bound-of : (s : Survivors) → node-bound (of-survivors s) ≡ length (s .nodes)
 unfolding of-survivors
 node-bound-of s = length-map (s .nodes) kept-node
 
+-- the edge bound is the number of edges that survive
 pub edge-bound-of : (s : Survivors) → edge-bound (of-survivors s) ≡ length (s .edges)
 unfolding of-survivors
 edge-bound-of s = length-map (s .edges) kept-edge
@@ -226,6 +232,7 @@ live-edges-of s = ap live-slots (edge-flags-of s) ∙ live-from-all-live 0 (leng
 abbrev no-ends : EdgeRecord
 no-ends = record { source = 0; target = 0; payload = 0 }
 
+-- each direction has one end an edge
 length-ends-of : (s : Survivors) (d : TraversalDirection) → length (incidence d (of-survivors s) .ends) ≡ length (s .edges)
 unfolding of-survivors
 length-ends-of s Outgoing = length-map (s .edges) source-of
@@ -271,6 +278,7 @@ module _ (s : Survivors) (sound : Sound s) where
       let below = ltb-true e (length (s .edges)) (sym (live-all-live (length (s .edges)) e) ∙ live) in
       rank-all-live (length (s .edges)) e (omega arith))
 
+  -- so all lists survive
   lists-again : (d : TraversalDirection) → map (surviving-list d (of-survivors s)) (live-slots (node-flags (of-survivors s))) ≡ incidence d (of-survivors s) .lists
   lists-again d =
       ap (map (surviving-list d (of-survivors s))) (live-nodes-of s)
@@ -278,6 +286,7 @@ module _ (s : Survivors) (sound : Sound s) where
       ∙ ap (λ (n : ℕ). map (list-of d (of-survivors s)) (from 0 n)) (sym (incident-of d .lists-length))
       ∙ map-getD (incidence d (of-survivors s) .lists) []
 
+  -- and all edges
   edges-again : map (surviving-edge (of-survivors s)) (live-slots (edge-flags (of-survivors s))) ≡ s .edges
   edges-again =
       ap (map (surviving-edge (of-survivors s))) (live-edges-of s)
@@ -333,27 +342,30 @@ module _ (caps : Capacities) (p : Plain) (w : WellFormed caps p) (few-nodes : ca
   unfolding compacted
   compacted-again = ap of-survivors (survivors-of (survivors p) (survivors-sound caps p w few-nodes few-edges))
 
--- every slot that compaction leaves is live
+-- every node slot that compaction leaves is live
 pub compacted-nodes-live : (p : Plain) → node-flags (compacted p) ≡ replicate (live-nodes p) true
 unfolding compacted
 compacted-nodes-live p = node-flags-of (survivors p) ∙ ap (λ (n : ℕ). replicate n true) (length-surviving-nodes p)
 
+-- and every edge slot
 pub compacted-edges-live : (p : Plain) → edge-flags (compacted p) ≡ replicate (live-edges p) true
 unfolding compacted
 compacted-edges-live p = edge-flags-of (survivors p) ∙ ap (λ (n : ℕ). replicate n true) (length-surviving-edges p)
 
--- compacting again gives identity maps
+-- compacting again gives an identity map of the nodes
 pub node-map-again : (p : Plain) → is-identity-map (renumbering (node-flags (compacted p))) ≡ true
 node-map-again p = rw compacted-nodes-live (identity-all-live (live-nodes p))
 
+-- and of the edges
 pub edge-map-again : (p : Plain) → is-identity-map (renumbering (edge-flags (compacted p))) ≡ true
 edge-map-again p = rw compacted-edges-live (identity-all-live (live-edges p))
 
--- the bounds afterwards are the counts of live nodes and of live edges
+-- the node bound afterwards is the number of live nodes
 pub compacted-node-bound : (p : Plain) → node-bound (compacted p) ≡ live-nodes p
 unfolding compacted
 compacted-node-bound p = node-bound-of (survivors p) ∙ length-surviving-nodes p
 
+-- the edge bound afterwards is the number of live edges
 pub compacted-edge-bound : (p : Plain) → edge-bound (compacted p) ≡ live-edges p
 unfolding compacted
 compacted-edge-bound p = edge-bound-of (survivors p) ∙ length-surviving-edges p
@@ -372,13 +384,14 @@ compacted-end p d e live =
     ap (λ (i : Incidence). getD (i .ends) (rank (edge-flags p) e) 0) (compacted-incidence p d)
     ∙ renumbered-end (node-flags p) (edge-flags p) (incidence d p) e live
 
--- live nodes and edges keep their payloads
+-- a live node keeps its payload
 pub compacted-node-payload : (p : Plain) (x : ℕ) → getD (node-flags p) x false ≡ true
     → getD (compacted p .nodes) (rank (node-flags p) x) no-node .payload ≡ getD (p .nodes) x no-node .payload
 unfolding survivors compacted
 compacted-node-payload p x live =
     node-payload-of (survivors p) (rank (node-flags p) x) ∙ getD-at-rank (λ x. getD (p .nodes) x no-node .payload) (node-flags p) x 0 live
 
+-- and a live edge
 pub compacted-edge-payload : (p : Plain) (e : ℕ) → getD (edge-flags p) e false ≡ true
     → getD (compacted p .edges) (rank (edge-flags p) e) no-edge .payload ≡ getD (p .edges) e no-edge .payload
 unfolding survivors compacted

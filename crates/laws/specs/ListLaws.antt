@@ -185,13 +185,14 @@ without-absent x [] h = refl
 without-absent x (y ∷ ys) h =
     by-test (eqb x y) (λ q. true-false (rw q at (sym h)) refl) (λ q. rw q (ap (λ (l : List ℕ). y ∷ l) (without-absent x ys (rw q at h))))
 
--- deleting leaves no more entries, and fewer where there is one to delete
+-- deleting leaves no more entries
 pub length-without : (x : ℕ) (xs : List ℕ) → length (without x xs) ≤ length xs
 length-without x xs =
     let kept = ap length (without-keep x xs) ∙ length-keep (λ y. not (eqb x y)) xs in
     let few = count-length (λ y. not (eqb x y)) xs in
     omega arith
 
+-- and fewer where there is one to delete
 pub length-without-member : (x : ℕ) (xs : List ℕ) → member x xs ≡ true → length (without x xs) < length xs
 unfolding member without
 length-without-member x [] h = true-false h refl
@@ -201,11 +202,12 @@ length-without-member x (y ∷ ys) h =
 
 -- ---- lists without repeats
 
--- of a list without repeats, the first entry is not in the rest, and the rest has no repeats
+-- of a list without repeats, the first entry is not in the rest
 pub distinct-head : (x : ℕ) (xs : List ℕ) → distinct (x ∷ xs) ≡ true → member x xs ≡ false
 unfolding distinct
 distinct-head x xs once = not-true (member x xs) (and-left (not (member x xs)) (distinct xs) once)
 
+-- and the rest has no repeats
 pub distinct-tail : (x : ℕ) (xs : List ℕ) → distinct (x ∷ xs) ≡ true → distinct xs ≡ true
 unfolding distinct
 distinct-tail x xs once = and-right (not (member x xs)) (distinct xs) once
@@ -225,11 +227,12 @@ distinct-append (x ∷ xs) ys =
     regroup false true false d e = refl
     regroup false false c d e = refl
 
--- so neither has repeats where both together have none
+-- so the first has no repeats where both together have none
 pub distinct-left : (xs ys : List ℕ) → distinct (xs ++ ys) ≡ true → distinct xs ≡ true
 distinct-left xs ys once =
     and-left (distinct xs) (distinct ys && all (λ e. not (member e ys)) xs) (sym (distinct-append xs ys) ∙ once)
 
+-- nor has the second
 pub distinct-right : (xs ys : List ℕ) → distinct (xs ++ ys) ≡ true → distinct ys ≡ true
 distinct-right xs ys once =
     and-left (distinct ys) (all (λ e. not (member e ys)) xs)
