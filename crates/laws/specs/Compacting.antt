@@ -1,36 +1,50 @@
 -- Compaction: what it leaves is well formed with every slot live, and compacting that changes nothing.
-use Prim.Native.Nat.{ℕ, zero, suc, _+_, _≤_, _<_, _^_}
+use Prim.Native.Nat.{ℕ, _≤_, _<_, _^_}
 use native.Mathlib.Omega.{arith}
 use mathlib.Core.Path.{_≡_, refl, sym, ap, ap₂, _∙_, subst, subst₂, fun-ext}
-use mathlib.Core.Bool.{Bool, true, false, _&&_}
-use mathlib.Core.List.{List, [], _∷_, map, map-map, map-id}
+use mathlib.Core.Bool.{Bool, true, false}
+use mathlib.Core.List.{List, [], map, map-map, map-id}
 use lib.ListN.{length, getD, replicate, length-map, length-replicate, List·getD-map}
-use lib.Dec.{eqb, ltb}
+use lib.Dec.{eqb}
 use borrow.Author.Tests.{eqb-true, eq-eqb, ltb-true, lt-ltb}
 use Rattle.plain.specs.declared.TraversalDirection.{TraversalDirection}
 use Rattle.plain.specs.declared.TraversalDirection.the-variants.{Outgoing, Incoming}
 use Rattle.plain.specs.Numbers.{LIMIT}
-use Rattle.plain.specs.Lists.{member, distinct, from, count}
+use Rattle.plain.specs.Lists.{member, distinct, from}
 use Rattle.plain.specs.Plain.{Plain, Incidence, NodeSlot, EdgeSlot, no-node, no-edge, node-flags, edge-flags, node-bound, edge-bound, incidence, end-of, list-of}
 use Rattle.plain.specs.Step.{Capacities}
 use Rattle.plain.specs.Reads.{live-count, live-slots, live-nodes, live-edges}
 use Rattle.plain.specs.Renumbering.{is-identity-map}
 use Rattle.plain.specs.Compaction.{rank, renumbering, EdgeRecord, Survivors, surviving-edge, surviving-list, survivors, kept-node, kept-edge, source-of, target-of, of-survivors, compacted}
 use Rattle.laws.specs.WellFormed.{Incident, WellFormed, Fitted, Sound}
-use Rattle.laws.specs.Booleans.{by-test, same-truth, and-left, and-right, both-true}
-use Rattle.laws.specs.ListLaws.{getD-map, getD-map-each, member-mapped, member-source, member-getD-map, distinct-map, map-same, map-unchanged, map-getD, map-replicate, count-length, member-below}
-use Rattle.laws.specs.Rank.{rank-live, rank-injective, rank-all-live, length-live-slots, live-slot-live, live-slot-rank, rank-live-slot, live-all-live, live-from-all-live}
-use Rattle.laws.specs.Renumberings.{renumbering-all-live, identity-all-live}
+use Rattle.laws.specs.Booleans.{same-truth, and-left, and-right, both-true}
+use Rattle.laws.specs.ListLaws.{getD-map-each, member-mapped, member-source, member-getD-map, distinct-map, map-same, map-unchanged, map-getD, map-replicate, count-length, member-below}
+use Rattle.laws.specs.Rank.{rank-live, rank-injective, rank-all-live, length-live-slots, live-slot-live, rank-live-slot, getD-at-rank, live-all-live, live-from-all-live}
+use Rattle.laws.specs.Renumberings.{identity-all-live}
 use Rattle.laws.specs.Fitting.{has-end, has-end-below, has-end-at, live-has-end, incident-fitted, fitted-incident}
 
 -- ---- one direction
 
--- one direction, compacted: the ends of the live edges and the lists of the live nodes, by new numbers
-abbrev pub compacted-incidence : List Bool → List Bool → Incidence → Incidence
-compacted-incidence nodes edges i = record {
+-- one direction by new numbers: the ends of the live edges and the lists of the live nodes
+abbrev pub renumbered : List Bool → List Bool → Incidence → Incidence
+renumbered nodes edges i = record {
   ends = map (λ e. rank nodes (getD (i .ends) e 0)) (live-slots edges);
   lists = map (λ x. map (rank edges) (getD (i .lists) x [])) (live-slots nodes);
 }
+
+-- as many ends as live edges
+length-renumbered : (nodes edges : List Bool) (i : Incidence) → length (renumbered nodes edges i .ends) ≡ live-count edges
+length-renumbered nodes edges i = length-map (live-slots edges) (λ e. rank nodes (getD (i .ends) e 0)) ∙ length-live-slots edges
+
+-- the end of a live edge, found at its new number, is the new number of the end that it had
+renumbered-end : (nodes edges : List Bool) (i : Incidence) (e : ℕ) → getD edges e false ≡ true
+    → getD (renumbered nodes edges i .ends) (rank edges e) 0 ≡ rank nodes (getD (i .ends) e 0)
+renumbered-end nodes edges i e live = getD-at-rank (λ e. rank nodes (getD (i .ends) e 0)) edges e 0 live
+
+-- the list of a live node, found at its new number, is the list that it had, by new numbers
+renumbered-list : (nodes edges : List Bool) (i : Incidence) (x : ℕ) → getD nodes x false ≡ true
+    → getD (renumbered nodes edges i .lists) (rank nodes x) [] ≡ map (rank edges) (getD (i .lists) x [])
+renumbered-list nodes edges i x live = getD-at-rank (λ x. map (rank edges) (getD (i .lists) x [])) nodes x [] live
 
 module _ (nodes edges : List Bool) (n : ℕ) (i : Incidence) (t : Incident edges n i)
     (ends-live : (e : ℕ) → getD edges e false ≡ true → getD nodes (getD (i .ends) e 0) false ≡ true) where
@@ -41,65 +55,60 @@ module _ (nodes edges : List Bool) (n : ℕ) (i : Incidence) (t : Incident edges
   listed-end : (x e : ℕ) → member e (getD (i .lists) x []) ≡ true → getD (i .ends) e 0 ≡ x
   listed-end x e h = eqb-true (getD (i .ends) e 0) x (and-right (getD edges e false) (eqb (getD (i .ends) e 0) x) (sym (t .listed x e) ∙ h))
 
-  -- the end of a survivor is the rank of the end that it had
-  compacted-end : (k : ℕ) → k < live-count edges
-      → getD (compacted-incidence nodes edges i .ends) k 0 ≡ rank nodes (getD (i .ends) (getD (live-slots edges) k 0) 0)
-  compacted-end k below =
-      getD-map (λ e. rank nodes (getD (i .ends) e 0)) (live-slots edges) k 0 0 (subst (λ (m : ℕ). k < m) (sym (length-live-slots edges)) below)
-
-  length-ends : length (compacted-incidence nodes edges i .ends) ≡ live-count edges
-  length-ends = length-map (live-slots edges) (λ e. rank nodes (getD (i .ends) e 0)) ∙ length-live-slots edges
-
-  -- what stands in a compacted list has that node for its end
-  compacted-at-end : (x k : ℕ) → member k (getD (compacted-incidence nodes edges i .lists) x []) ≡ true
-      → has-end (compacted-incidence nodes edges i .ends) x k ≡ true
-  compacted-at-end x k h =
+  -- what stands in a list by new numbers has that node for its end
+  renumbered-at-end : (x k : ℕ) → member k (getD (renumbered nodes edges i .lists) x []) ≡ true → has-end (renumbered nodes edges i .ends) x k ≡ true
+  renumbered-at-end x k h =
       let at = member-getD-map (λ x. map (rank edges) (getD (i .lists) x [])) (live-slots nodes) x k h in
       let old = getD (live-slots nodes) x 0 in
       let found = member-source (rank edges) k (getD (i .lists) old []) (at .1) in
-      let live = listed-live old (found .0) (found .1) in
-      let below = subst (λ (r : ℕ). r < live-count edges) (found .2) (rank-live edges (found .0) live) in
-      let again : getD (live-slots edges) k 0 ≡ found .0 =
-      ap (λ (r : ℕ). getD (live-slots edges) r 0) (sym (found .2)) ∙ live-slot-rank edges (found .0) 0 live in
-      both-true (lt-ltb k (length (compacted-incidence nodes edges i .ends)) (subst (λ (m : ℕ). k < m) (sym length-ends) below))
-      (eq-eqb (getD (compacted-incidence nodes edges i .ends) k 0) x
-      (compacted-end k below
-      ∙ ap (λ (e : ℕ). rank nodes (getD (i .ends) e 0)) again
-      ∙ ap (rank nodes) (listed-end old (found .0) (found .1))
-      ∙ rank-live-slot nodes x (subst (λ (m : ℕ). x < m) (length-live-slots nodes) (at .0))))
+      let e = found .0 in
+      let live = listed-live old e (found .1) in
+      let there : getD (renumbered nodes edges i .ends) (rank edges e) 0 ≡ x =
+      renumbered-end nodes edges i e live
+      ∙ ap (rank nodes) (listed-end old e (found .1))
+      ∙ rank-live-slot nodes x (subst (λ (m : ℕ). x < m) (length-live-slots nodes) (at .0)) in
+      subst (λ (r : ℕ). has-end (renumbered nodes edges i .ends) x r ≡ true) (found .2)
+      (both-true
+      (lt-ltb (rank edges e) (length (renumbered nodes edges i .ends))
+      (subst (λ (m : ℕ). rank edges e < m) (sym (length-renumbered nodes edges i)) (rank-live edges e live)))
+      (eq-eqb (getD (renumbered nodes edges i .ends) (rank edges e) 0) x there))
 
-  -- a survivor stands in the compacted list of its end
-  compacted-listed : (x k : ℕ) → has-end (compacted-incidence nodes edges i .ends) x k ≡ true
-      → member k (getD (compacted-incidence nodes edges i .lists) x []) ≡ true
-  compacted-listed x k h =
-      let below = subst (λ (m : ℕ). k < m) length-ends (has-end-below (compacted-incidence nodes edges i .ends) x k h) in
+  -- a survivor stands in the list of its end
+  renumbered-listed : (x k : ℕ) → has-end (renumbered nodes edges i .ends) x k ≡ true → member k (getD (renumbered nodes edges i .lists) x []) ≡ true
+  renumbered-listed x k h =
+      let below = subst (λ (m : ℕ). k < m) (length-renumbered nodes edges i) (has-end-below (renumbered nodes edges i .ends) x k h) in
       let e = getD (live-slots edges) k 0 in
       let live = live-slot-live edges k 0 below in
       let old = getD (i .ends) e 0 in
-      let new : rank nodes old ≡ x = sym (compacted-end k below) ∙ has-end-at (compacted-incidence nodes edges i .ends) x k h in
-      let inside = subst (λ (r : ℕ). r < live-count nodes) new (rank-live nodes old (ends-live e live)) in
-      let again : getD (live-slots nodes) x 0 ≡ old =
-      ap (λ (r : ℕ). getD (live-slots nodes) r 0) (sym new) ∙ live-slot-rank nodes old 0 (ends-live e live) in
-      ap₂ member (sym (rank-live-slot edges k below))
-      (getD-map (λ x. map (rank edges) (getD (i .lists) x [])) (live-slots nodes) x 0 [] (subst (λ (m : ℕ). x < m) (sym (length-live-slots nodes)) inside)
-      ∙ ap (λ (y : ℕ). map (rank edges) (getD (i .lists) y [])) again)
-      ∙ member-mapped (rank edges) e (getD (i .lists) old []) (t .listed old e ∙ both-true live (eq-eqb old old refl))
+      let again = rank-live-slot edges k below in
+      let there : rank nodes old ≡ x =
+      sym (renumbered-end nodes edges i e live)
+      ∙ ap (λ (r : ℕ). getD (renumbered nodes edges i .ends) r 0) again
+      ∙ has-end-at (renumbered nodes edges i .ends) x k h in
+      subst₂ (λ (y r : ℕ). member r (getD (renumbered nodes edges i .lists) y []) ≡ true) there again
+      (ap (member (rank edges e)) (renumbered-list nodes edges i old (ends-live e live))
+      ∙ member-mapped (rank edges) e (getD (i .lists) old []) (t .listed old e ∙ both-true live (eq-eqb old old refl)))
 
-  -- compaction leaves one direction well formed, with every edge live
-  pub incident-compacted : Incident (replicate (live-count edges) true) (live-count nodes) (compacted-incidence nodes edges i)
+  -- the ends are below the number of live nodes
+  renumbered-below : (k : ℕ) → k < live-count edges → getD (renumbered nodes edges i .ends) k 0 < live-count nodes
+  renumbered-below k below =
+      let e = getD (live-slots edges) k 0 in
+      let live = live-slot-live edges k 0 below in
+      let there = rank-live nodes (getD (i .ends) e 0) (ends-live e live) in
+      subst (λ (r : ℕ). getD (renumbered nodes edges i .ends) r 0 < live-count nodes) (rank-live-slot edges k below)
+      (rw (renumbered-end nodes edges i e live) there)
+
+  -- one direction by new numbers is well formed, with every edge live
+  pub renumbered-incident : Incident (replicate (live-count edges) true) (live-count nodes) (renumbered nodes edges i)
   unfolding distinct
-  incident-compacted = record {
-    ends-length = length-ends ∙ sym (length-replicate (live-count edges) true);
+  renumbered-incident = record {
+    ends-length = length-renumbered nodes edges i ∙ sym (length-replicate (live-count edges) true);
     lists-length = length-map (live-slots nodes) (λ x. map (rank edges) (getD (i .lists) x [])) ∙ length-live-slots nodes;
-    ends-below = λ k h.
-        let below = subst (λ (m : ℕ). k < m) (length-replicate (live-count edges) true) h in
-        let e = getD (live-slots edges) k 0 in
-        subst (λ (r : ℕ). r < live-count nodes) (sym (compacted-end k below))
-        (rank-live nodes (getD (i .ends) e 0) (ends-live e (live-slot-live edges k 0 below)));
+    ends-below = λ k h. renumbered-below k (subst (λ (m : ℕ). k < m) (length-replicate (live-count edges) true) h);
     listed = λ x k.
-        same-truth (member k (getD (compacted-incidence nodes edges i .lists) x [])) (has-end (compacted-incidence nodes edges i .ends) x k)
-        (compacted-at-end x k) (compacted-listed x k)
-        ∙ sym (live-has-end (compacted-incidence nodes edges i .ends) (live-count edges) x k length-ends);
+        same-truth (member k (getD (renumbered nodes edges i .lists) x [])) (has-end (renumbered nodes edges i .ends) x k)
+        (renumbered-at-end x k) (renumbered-listed x k)
+        ∙ sym (live-has-end (renumbered nodes edges i .ends) (live-count edges) x k (length-renumbered nodes edges i));
     once = getD-map-each (λ (l : List ℕ). distinct l ≡ true) (λ x. map (rank edges) (getD (i .lists) x [])) (live-slots nodes) [] refl
         (λ x.
         distinct-map (rank edges) (getD (i .lists) x []) (λ e f h k. rank-injective edges e f (listed-live x e h) (listed-live x f k))
@@ -113,26 +122,30 @@ pub incident : (caps : Capacities) (p : Plain) → WellFormed caps p → (d : Tr
 incident caps p w Outgoing = w .outgoing
 incident caps p w Incoming = w .incoming
 
--- one direction of the survivors of well-formed lists is fitted
-pub survivors-fitted : (caps : Capacities) (p : Plain) → WellFormed caps p → (d : TraversalDirection)
-    → Fitted (live-nodes p) (map (λ e. rank (node-flags p) (end-of d p e)) (live-slots (edge-flags p))) (map (surviving-list d p) (live-slots (node-flags p)))
-survivors-fitted caps p w d =
-    let i = compacted-incidence (node-flags p) (edge-flags p) (incidence d p) in
-    incident-fitted (live-nodes p) (live-edges p) i
-    (length-map (live-slots (edge-flags p)) (λ e. rank (node-flags p) (end-of d p e)) ∙ length-live-slots (edge-flags p))
-    (incident-compacted (node-flags p) (edge-flags p) (node-bound p) (incidence d p) (incident caps p w d) (w .ends-live d))
+-- compaction renumbers each direction
+pub compacted-incidence : (p : Plain) (d : TraversalDirection) → incidence d (compacted p) ≡ renumbered (node-flags p) (edge-flags p) (incidence d p)
+unfolding survivors of-survivors compacted
+compacted-incidence p Outgoing = λ i. record {
+  ends = map-map source-of (surviving-edge p) (live-slots (edge-flags p)) i;
+  lists = map (surviving-list Outgoing p) (live-slots (node-flags p));
+}
+compacted-incidence p Incoming = λ i. record {
+  ends = map-map target-of (surviving-edge p) (live-slots (edge-flags p)) i;
+  lists = map (surviving-list Incoming p) (live-slots (node-flags p));
+}
 
--- as many nodes survive as are live, and as many edges
+-- as many nodes survive as are live
 pub length-surviving-nodes : (p : Plain) → length (survivors p .nodes) ≡ live-nodes p
 unfolding survivors
 length-surviving-nodes p =
     length-map (live-slots (node-flags p)) (λ x. getD (p .nodes) x no-node .payload) ∙ length-live-slots (node-flags p)
 
+-- and as many edges
 pub length-surviving-edges : (p : Plain) → length (survivors p .edges) ≡ live-edges p
 unfolding survivors
 length-surviving-edges p = length-map (live-slots (edge-flags p)) (surviving-edge p) ∙ length-live-slots (edge-flags p)
 
--- no more nodes survive than there are slots, and no more edges
+-- no more nodes survive than there are slots
 pub surviving-nodes-within : (p : Plain) → length (survivors p .nodes) ≤ node-bound p
 surviving-nodes-within p =
     let same = length-surviving-nodes p in
@@ -140,6 +153,7 @@ surviving-nodes-within p =
     let flags = length-map (p .nodes) (λ (s : NodeSlot). s .live) in
     omega arith
 
+-- and no more edges
 pub surviving-edges-within : (p : Plain) → length (survivors p .edges) ≤ edge-bound p
 surviving-edges-within p =
     let same = length-surviving-edges p in
@@ -147,9 +161,18 @@ surviving-edges-within p =
     let flags = length-map (p .edges) (λ (s : EdgeSlot). s .live) in
     omega arith
 
+-- each direction of the survivors of well-formed lists is fitted
+survivors-fitted : (caps : Capacities) (p : Plain) → WellFormed caps p → (d : TraversalDirection)
+    → Fitted (length (survivors p .nodes)) (incidence d (compacted p) .ends) (incidence d (compacted p) .lists)
+survivors-fitted caps p w d =
+    subst₂ (λ (n : ℕ) (i : Incidence). Fitted n (i .ends) (i .lists)) (sym (length-surviving-nodes p)) (sym (compacted-incidence p d))
+    (incident-fitted (live-nodes p) (live-edges p) (renumbered (node-flags p) (edge-flags p) (incidence d p))
+    (length-renumbered (node-flags p) (edge-flags p) (incidence d p))
+    (renumbered-incident (node-flags p) (edge-flags p) (node-bound p) (incidence d p) (incident caps p w d) (w .ends-live d)))
+
 -- the survivors of well-formed lists within the limit have an image
 pub survivors-sound : (caps : Capacities) (p : Plain) → WellFormed caps p → caps .nodes ≤ LIMIT → caps .edges ≤ LIMIT → Sound (survivors p)
-unfolding survivors
+unfolding survivors of-survivors compacted
 survivors-sound caps p w few-nodes few-edges = record {
   nodes-within = let slots = surviving-nodes-within p in let bound = w .nodes-within in omega arith;
   edges-within = let slots = surviving-edges-within p in let bound = w .edges-within in omega arith;
@@ -158,44 +181,42 @@ survivors-sound caps p w few-nodes few-edges = record {
       subst (λ (l : List ℕ). (e : ℕ) → getD l e 0 < 2 ^ 32)
       (sym (map-map (λ (r : EdgeRecord). r .payload) (surviving-edge p) (live-slots (edge-flags p))))
       (getD-map-each (λ (n : ℕ). n < 2 ^ 32) (λ e. getD (p .edges) e no-edge .payload) (live-slots (edge-flags p)) 0 (omega arith) (w .edge-payloads));
-  outs =
-      subst₂ (λ (n : ℕ) (ends : List ℕ). Fitted n ends (map (surviving-list Outgoing p) (live-slots (node-flags p))))
-      (sym (length-surviving-nodes p)) (sym (map-map source-of (surviving-edge p) (live-slots (edge-flags p))))
-      (survivors-fitted caps p w Outgoing);
-  ins =
-      subst₂ (λ (n : ℕ) (ends : List ℕ). Fitted n ends (map (surviving-list Incoming p) (live-slots (node-flags p))))
-      (sym (length-surviving-nodes p)) (sym (map-map target-of (surviving-edge p) (live-slots (edge-flags p))))
-      (survivors-fitted caps p w Incoming);
+  outs = survivors-fitted caps p w Outgoing;
+  ins = survivors-fitted caps p w Incoming;
 }
 
 -- ---- survivors as plain lists
 
--- every node slot of survivors as plain lists is live, and every edge slot
+-- every node slot of survivors as plain lists is live
 pub node-flags-of : (s : Survivors) → node-flags (of-survivors s) ≡ replicate (length (s .nodes)) true
 unfolding of-survivors
 node-flags-of s = map-map (λ (k : NodeSlot). k .live) kept-node (s .nodes) ∙ map-replicate (λ n. true) true (s .nodes) (λ n. refl)
 
+-- and every edge slot
 pub edge-flags-of : (s : Survivors) → edge-flags (of-survivors s) ≡ replicate (length (s .edges)) true
 unfolding of-survivors
 edge-flags-of s = map-map (λ (k : EdgeSlot). k .live) kept-edge (s .edges) ∙ map-replicate (λ (r : EdgeRecord). true) true (s .edges) (λ r. refl)
 
--- the payloads of survivors as plain lists
+-- the payloads of their nodes are the survivors' payloads
 pub node-payload-of : (s : Survivors) (x : ℕ) → getD (of-survivors s .nodes) x no-node .payload ≡ getD (s .nodes) x 0
 unfolding of-survivors
 node-payload-of s x =
     sym (List·getD-map (λ (k : NodeSlot). k .payload) (map kept-node (s .nodes)) x no-node)
     ∙ ap (λ (l : List ℕ). getD l x 0) (map-map (λ (k : NodeSlot). k .payload) kept-node (s .nodes) ∙ map-id (s .nodes))
 
+-- and those of their edges
 pub edge-payload-of : (s : Survivors) (e : ℕ) → getD (of-survivors s .edges) e no-edge .payload ≡ getD (map (λ (r : EdgeRecord). r .payload) (s .edges)) e 0
 unfolding of-survivors
 edge-payload-of s e =
     sym (List·getD-map (λ (k : EdgeSlot). k .payload) (map kept-edge (s .edges)) e no-edge)
     ∙ ap (λ (l : List ℕ). getD l e 0) (map-map (λ (k : EdgeSlot). k .payload) kept-edge (s .edges))
 
+-- the node bound is the number of nodes that survive
 pub node-bound-of : (s : Survivors) → node-bound (of-survivors s) ≡ length (s .nodes)
 unfolding of-survivors
 node-bound-of s = length-map (s .nodes) kept-node
 
+-- the edge bound is the number of edges that survive
 pub edge-bound-of : (s : Survivors) → edge-bound (of-survivors s) ≡ length (s .edges)
 unfolding of-survivors
 edge-bound-of s = length-map (s .edges) kept-edge
@@ -211,6 +232,7 @@ live-edges-of s = ap live-slots (edge-flags-of s) ∙ live-from-all-live 0 (leng
 abbrev no-ends : EdgeRecord
 no-ends = record { source = 0; target = 0; payload = 0 }
 
+-- each direction has one end an edge
 length-ends-of : (s : Survivors) (d : TraversalDirection) → length (incidence d (of-survivors s) .ends) ≡ length (s .edges)
 unfolding of-survivors
 length-ends-of s Outgoing = length-map (s .edges) source-of
@@ -230,25 +252,6 @@ module _ (s : Survivors) (sound : Sound s) where
   -- the ends are below the number of nodes
   end-below : (d : TraversalDirection) (e : ℕ) → e < length (s .edges) → end-of d (of-survivors s) e < length (s .nodes)
   end-below d e h = fitted-of d .ends-below e (subst (λ (m : ℕ). e < m) (sym (length-ends-of s d)) h)
-
-  -- sound survivors as plain lists are well formed
-  pub of-survivors-well-formed : (caps : Capacities) → length (s .nodes) ≤ caps .nodes → length (s .edges) ≤ caps .edges → WellFormed caps (of-survivors s)
-  of-survivors-well-formed caps nodes edges = record {
-    nodes-within = rw node-bound-of nodes;
-    edges-within = rw edge-bound-of edges;
-    outgoing = direction Outgoing;
-    incoming = direction Incoming;
-    ends-live = λ d e live.
-        let below = ltb-true e (length (s .edges)) (sym (live-all-live (length (s .edges)) e) ∙ (rw edge-flags-of at live)) in
-        rw node-flags-of (live-all-live (length (s .nodes)) (end-of d (of-survivors s) e) ∙ lt-ltb (end-of d (of-survivors s) e) (length (s .nodes)) (end-below d e below));
-    node-payloads = λ x. rw node-payload-of (sound .node-payloads x);
-    edge-payloads = λ e. rw edge-payload-of (sound .edge-payloads e);
-  }
-    where
-      direction : (d : TraversalDirection) → Incident (edge-flags (of-survivors s)) (node-bound (of-survivors s)) (incidence d (of-survivors s))
-      direction d =
-          subst₂ (λ (flags : List Bool) (n : ℕ). Incident flags n (incidence d (of-survivors s)))
-          (sym (edge-flags-of s)) (sym (node-bound-of s)) (incident-of d)
 
   -- an end keeps its number
   end-again : (d : TraversalDirection) (e : ℕ) → e < length (s .edges) → rank (node-flags (of-survivors s)) (end-of d (of-survivors s) e) ≡ end-of d (of-survivors s) e
@@ -275,6 +278,7 @@ module _ (s : Survivors) (sound : Sound s) where
       let below = ltb-true e (length (s .edges)) (sym (live-all-live (length (s .edges)) e) ∙ live) in
       rank-all-live (length (s .edges)) e (omega arith))
 
+  -- so all lists survive
   lists-again : (d : TraversalDirection) → map (surviving-list d (of-survivors s)) (live-slots (node-flags (of-survivors s))) ≡ incidence d (of-survivors s) .lists
   lists-again d =
       ap (map (surviving-list d (of-survivors s))) (live-nodes-of s)
@@ -282,6 +286,7 @@ module _ (s : Survivors) (sound : Sound s) where
       ∙ ap (λ (n : ℕ). map (list-of d (of-survivors s)) (from 0 n)) (sym (incident-of d .lists-length))
       ∙ map-getD (incidence d (of-survivors s) .lists) []
 
+  -- and all edges
   edges-again : map (surviving-edge (of-survivors s)) (live-slots (edge-flags (of-survivors s))) ≡ s .edges
   edges-again =
       ap (map (surviving-edge (of-survivors s))) (live-edges-of s)
@@ -299,6 +304,27 @@ module _ (s : Survivors) (sound : Sound s) where
     ins = lists-again Incoming i;
   }
 
+-- sound survivors as plain lists are well formed
+pub of-survivors-well-formed : (caps : Capacities) (s : Survivors) → Sound s → length (s .nodes) ≤ caps .nodes → length (s .edges) ≤ caps .edges
+    → WellFormed caps (of-survivors s)
+of-survivors-well-formed caps s sound nodes edges = record {
+  nodes-within = rw node-bound-of nodes;
+  edges-within = rw edge-bound-of edges;
+  outgoing = direction Outgoing;
+  incoming = direction Incoming;
+  ends-live = λ d e live.
+      let below = ltb-true e (length (s .edges)) (sym (live-all-live (length (s .edges)) e) ∙ (rw edge-flags-of at live)) in
+      let x = end-of d (of-survivors s) e in
+      rw node-flags-of (live-all-live (length (s .nodes)) x ∙ lt-ltb x (length (s .nodes)) (end-below s sound d e below));
+  node-payloads = λ x. rw node-payload-of (sound .node-payloads x);
+  edge-payloads = λ e. rw edge-payload-of (sound .edge-payloads e);
+}
+  where
+    direction : (d : TraversalDirection) → Incident (edge-flags (of-survivors s)) (node-bound (of-survivors s)) (incidence d (of-survivors s))
+    direction d =
+        subst₂ (λ (flags : List Bool) (n : ℕ). Incident flags n (incidence d (of-survivors s)))
+        (sym (edge-flags-of s)) (sym (node-bound-of s)) (incident-of s sound d)
+
 -- ---- compaction
 
 module _ (caps : Capacities) (p : Plain) (w : WellFormed caps p) (few-nodes : caps .nodes ≤ LIMIT) (few-edges : caps .edges ≤ LIMIT) where
@@ -308,7 +334,7 @@ module _ (caps : Capacities) (p : Plain) (w : WellFormed caps p) (few-nodes : ca
   compacted-well-formed =
       let nodes = surviving-nodes-within p in
       let edges = surviving-edges-within p in
-      of-survivors-well-formed (survivors p) (survivors-sound caps p w few-nodes few-edges) caps
+      of-survivors-well-formed caps (survivors p) (survivors-sound caps p w few-nodes few-edges)
       (let bound = w .nodes-within in omega arith) (let bound = w .edges-within in omega arith)
 
   -- compacting again changes nothing
@@ -316,18 +342,60 @@ module _ (caps : Capacities) (p : Plain) (w : WellFormed caps p) (few-nodes : ca
   unfolding compacted
   compacted-again = ap of-survivors (survivors-of (survivors p) (survivors-sound caps p w few-nodes few-edges))
 
--- every slot that compaction leaves is live
+-- every node slot that compaction leaves is live
 pub compacted-nodes-live : (p : Plain) → node-flags (compacted p) ≡ replicate (live-nodes p) true
 unfolding compacted
 compacted-nodes-live p = node-flags-of (survivors p) ∙ ap (λ (n : ℕ). replicate n true) (length-surviving-nodes p)
 
+-- and every edge slot
 pub compacted-edges-live : (p : Plain) → edge-flags (compacted p) ≡ replicate (live-edges p) true
 unfolding compacted
 compacted-edges-live p = edge-flags-of (survivors p) ∙ ap (λ (n : ℕ). replicate n true) (length-surviving-edges p)
 
--- compacting again gives identity maps
+-- compacting again gives an identity map of the nodes
 pub node-map-again : (p : Plain) → is-identity-map (renumbering (node-flags (compacted p))) ≡ true
 node-map-again p = rw compacted-nodes-live (identity-all-live (live-nodes p))
 
+-- and of the edges
 pub edge-map-again : (p : Plain) → is-identity-map (renumbering (edge-flags (compacted p))) ≡ true
 edge-map-again p = rw compacted-edges-live (identity-all-live (live-edges p))
+
+-- the node bound afterwards is the number of live nodes
+pub compacted-node-bound : (p : Plain) → node-bound (compacted p) ≡ live-nodes p
+unfolding compacted
+compacted-node-bound p = node-bound-of (survivors p) ∙ length-surviving-nodes p
+
+-- the edge bound afterwards is the number of live edges
+pub compacted-edge-bound : (p : Plain) → edge-bound (compacted p) ≡ live-edges p
+unfolding compacted
+compacted-edge-bound p = edge-bound-of (survivors p) ∙ length-surviving-edges p
+
+-- a live node keeps its list in its order, by new numbers
+pub compacted-list : (p : Plain) (d : TraversalDirection) (x : ℕ) → getD (node-flags p) x false ≡ true
+    → list-of d (compacted p) (rank (node-flags p) x) ≡ map (rank (edge-flags p)) (list-of d p x)
+compacted-list p d x live =
+    ap (λ (i : Incidence). getD (i .lists) (rank (node-flags p) x) []) (compacted-incidence p d)
+    ∙ renumbered-list (node-flags p) (edge-flags p) (incidence d p) x live
+
+-- a live edge keeps its ends, by new numbers
+pub compacted-end : (p : Plain) (d : TraversalDirection) (e : ℕ) → getD (edge-flags p) e false ≡ true
+    → end-of d (compacted p) (rank (edge-flags p) e) ≡ rank (node-flags p) (end-of d p e)
+compacted-end p d e live =
+    ap (λ (i : Incidence). getD (i .ends) (rank (edge-flags p) e) 0) (compacted-incidence p d)
+    ∙ renumbered-end (node-flags p) (edge-flags p) (incidence d p) e live
+
+-- a live node keeps its payload
+pub compacted-node-payload : (p : Plain) (x : ℕ) → getD (node-flags p) x false ≡ true
+    → getD (compacted p .nodes) (rank (node-flags p) x) no-node .payload ≡ getD (p .nodes) x no-node .payload
+unfolding survivors compacted
+compacted-node-payload p x live =
+    node-payload-of (survivors p) (rank (node-flags p) x) ∙ getD-at-rank (λ x. getD (p .nodes) x no-node .payload) (node-flags p) x 0 live
+
+-- and a live edge
+pub compacted-edge-payload : (p : Plain) (e : ℕ) → getD (edge-flags p) e false ≡ true
+    → getD (compacted p .edges) (rank (edge-flags p) e) no-edge .payload ≡ getD (p .edges) e no-edge .payload
+unfolding survivors compacted
+compacted-edge-payload p e live =
+    edge-payload-of (survivors p) (rank (edge-flags p) e)
+    ∙ ap (λ (l : List ℕ). getD l (rank (edge-flags p) e) 0) (map-map (λ (r : EdgeRecord). r .payload) (surviving-edge p) (live-slots (edge-flags p)))
+    ∙ getD-at-rank (λ e. getD (p .edges) e no-edge .payload) (edge-flags p) e 0 live

@@ -1,5 +1,5 @@
 -- One direction whose edges are all live: to be well formed (`Incident`) and to have an image (`Fitted`) are the same.
-use Prim.Native.Nat.{ℕ, zero, suc, _+_, _≤_, _<_}
+use Prim.Native.Nat.{ℕ, zero, suc, _+_, _<_}
 use native.Mathlib.Nat.{zero-add}
 use native.Mathlib.Omega.{arith}
 use mathlib.Core.Path.{_≡_, refl, sym, ap, ap₂, _∙_, subst}
@@ -12,13 +12,13 @@ use Rattle.plain.specs.Lists.{member, distinct, from, keep, all, count, joined}
 use Rattle.plain.specs.Plain.{Incidence}
 use Rattle.plain.specs.Image.{list-lengths, at-their-nodes, lists-right}
 use Rattle.laws.specs.WellFormed.{Incident, Fitted}
-use Rattle.laws.specs.Booleans.{by-test, true-false, same-truth, and-left, and-right, both-true, eqb-comm}
+use Rattle.laws.specs.Booleans.{true-false, same-truth, and-left, and-right, both-true, eqb-comm}
 use Rattle.laws.specs.ListLaws.{getD-map, map-same, map-getD, all-of, all-member, member-keep, distinct-keep, length-keep, count-indices, length-from, getD-from, member-below, distinct-from, distinct-length, distinct-full, member-joined, joined-member, distinct-at, distinct-joined}
 use Rattle.laws.specs.Rank.{live-all-live}
 
 -- ---- rule 6 of an image, by index
 
--- the entries of each list have its node for their end
+-- the test passes where the entries of each list have its node for their end
 pub at-their-nodes-of : (ends : List ℕ) (a : ℕ) (lists : List (List ℕ))
     → ((x e : ℕ) → member e (getD lists x []) ≡ true → getD ends e 0 ≡ a + x) → at-their-nodes ends a lists ≡ true
 unfolding at-their-nodes
@@ -27,6 +27,7 @@ at-their-nodes-of ends a (list ∷ lists) owned =
     both-true (all-of (λ e. eqb (getD ends e 0) a) list (λ e h. eq-eqb (getD ends e 0) a (let here = owned 0 e h in omega arith)))
     (at-their-nodes-of ends (suc a) lists (λ x e h. let here = owned (suc x) e h in omega arith))
 
+-- and only there
 pub at-their-nodes-at : (ends : List ℕ) (a : ℕ) (lists : List (List ℕ)) → at-their-nodes ends a lists ≡ true
     → (x e : ℕ) → member e (getD lists x []) ≡ true → getD ends e 0 ≡ a + x
 unfolding at-their-nodes member
@@ -44,9 +45,11 @@ at-their-nodes-at ends a (list ∷ lists) right (suc x) e h =
 abbrev pub has-end : List ℕ → ℕ → ℕ → Bool
 has-end ends x e = ltb e (length ends) && eqb (getD ends e 0) x
 
+-- such an edge is below the number of edges
 pub has-end-below : (ends : List ℕ) (x e : ℕ) → has-end ends x e ≡ true → e < length ends
 has-end-below ends x e h = ltb-true e (length ends) (and-left (ltb e (length ends)) (eqb (getD ends e 0) x) h)
 
+-- and its end is x
 pub has-end-at : (ends : List ℕ) (x e : ℕ) → has-end ends x e ≡ true → getD ends e 0 ≡ x
 has-end-at ends x e h = eqb-true (getD ends e 0) x (and-right (ltb e (length ends)) (eqb (getD ends e 0) x) h)
 
@@ -55,6 +58,7 @@ pub record Right (ends : List ℕ) (lists : List (List ℕ)) : Type 0 where
   pub once : (x : ℕ) → distinct (getD lists x []) ≡ true
   pub at-end : (x e : ℕ) → member e (getD lists x []) ≡ true → has-end ends x e ≡ true
 
+-- rule 6 holds where each list is right
 pub right-of : (ends : List ℕ) (lists : List (List ℕ)) → Right ends lists → lists-right ends lists ≡ true
 unfolding lists-right
 right-of ends lists r =
@@ -67,6 +71,7 @@ right-of ends lists r =
     owned : (x e : ℕ) → member e (getD lists x []) ≡ true → getD ends e 0 ≡ 0 + x
     owned x e h = has-end-at ends x e (r .at-end x e h) ∙ sym (zero-add x)
 
+-- and only there
 pub right-at : (ends : List ℕ) (lists : List (List ℕ)) → lists-right ends lists ≡ true → Right ends lists
 unfolding lists-right
 right-at ends lists right =
@@ -86,13 +91,16 @@ right-at ends lists right =
 abbrev edges-at : List ℕ → ℕ → List ℕ
 edges-at ends x = keep (λ e. eqb x (getD ends e 0)) (from 0 (length ends))
 
+-- as many as the image's length of list x
 length-edges-at : (ends : List ℕ) (x : ℕ) → length (edges-at ends x) ≡ count (eqb x) ends
 length-edges-at ends x = length-keep (λ e. eqb x (getD ends e 0)) (from 0 (length ends)) ∙ sym (count-indices (eqb x) ends 0)
 
+-- they are exactly the edges with end x
 member-edges-at : (ends : List ℕ) (x e : ℕ) → member e (edges-at ends x) ≡ has-end ends x e
 member-edges-at ends x e =
     member-keep (λ e. eqb x (getD ends e 0)) e (from 0 (length ends)) ∙ ap₂ _&&_ (member-below e (length ends)) (eqb-comm x (getD ends e 0))
 
+-- none stands there twice
 distinct-edges-at : (ends : List ℕ) (x : ℕ) → distinct (edges-at ends x) ≡ true
 distinct-edges-at ends x = distinct-keep (λ e. eqb x (getD ends e 0)) (from 0 (length ends)) (distinct-from 0 (length ends))
 

@@ -67,7 +67,7 @@ module _ (caps : Capacities) (w : Within caps) (bytes : List ℕ) where
 read-well-formed : (caps : Capacities) (bytes : List ℕ) → broken-image bytes ≡ 0 → LongEnough (reading-slices (nodes-in bytes) (edges-in bytes) (exact caps))
     → WellFormed caps (read-state bytes .lists)
 read-well-formed caps bytes e (slice-fits h (slice-fits k rest)) =
-    of-survivors-well-formed (parsed bytes) (parsed-sound bytes e) caps (rw nodes-length h) (rw edges-length k)
+    of-survivors-well-formed caps (parsed bytes) (parsed-sound bytes e) (rw nodes-length h) (rw edges-length k)
 
 reading-well-formed : (caps : Capacities) (bytes : List ℕ) (s : State) {number value : ℕ} → ReadCase caps bytes number value → WellFormed caps (s .lists)
     → WellFormed caps (cond (eqb number 0) (read-state bytes) s .lists)

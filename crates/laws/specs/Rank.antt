@@ -3,17 +3,17 @@ use Prim.Native.Nat.{ℕ, zero, suc, _+_, _≤_, _<_, zero-le, suc-le-suc}
 use native.Mathlib.Nat.{not-suc-le-zero, le-of-suc-le-suc, suc-inj, zero-add}
 use native.Mathlib.Numerals.{one-add}
 use native.Mathlib.Omega.{arith}
-use mathlib.Core.Path.{_≡_, refl, sym, ap, ap₂, _∙_, subst, fun-ext}
+use mathlib.Core.Path.{_≡_, refl, sym, ap, _∙_, subst, fun-ext}
 use mathlib.Core.Bool.{Bool, true, false, cond, _&&_, and-false}
 use mathlib.Core.List.{List, [], _∷_, _++_, map, map-map}
-use lib.ListN.{length, getD, set, replicate, List·getD-map}
+use lib.ListN.{length, getD, set, replicate, length-append, length-set, List·getD-map}
 use lib.Dec.{ltb, leb·suc-zero, leb·suc-suc, eqb·suc-zero}
 use borrow.Author.Tests.{ltb-true, ltb-false, lt-ltb, le-ltb}
 use Rattle.plain.specs.Lists.{member, distinct, from, count}
 use Rattle.plain.specs.Reads.{live-count, live-from, live-slots}
 use Rattle.plain.specs.Compaction.{rank}
 use Rattle.laws.specs.Booleans.{by-test, true-false}
-use Rattle.laws.specs.ListLaws.{member-map, member-zero-suc, member-at, from-suc, getD-from, getD-default, distinct-map, distinct-from, map-unchanged}
+use Rattle.laws.specs.ListLaws.{getD-default, getD-map, member-map, member-zero-suc, member-at, count-append, from-suc, getD-from, distinct-map, distinct-from, map-unchanged}
 
 -- ---- rank
 
@@ -92,6 +92,19 @@ rank-append (flag ∷ flags) more (suc x) h = ap (λ (n : ℕ). cond flag 1 0 + 
 pub rank-appended : (flags more : List Bool) → rank (flags ++ more) (length flags) ≡ live-count flags
 rank-appended flags more = rank-append flags more (length flags) (omega arith) ∙ rank-end flags (length flags) (omega arith)
 
+-- what a live slot appended gives to the ranks: one, after it
+pub rank-pushed : (flags : List Bool) (x : ℕ) → rank (flags ++ (true ∷ [])) x ≡ rank flags x + cond (ltb (length flags) x) 1 0
+unfolding count
+rank-pushed flags x = by-test (ltb (length flags) x) past (λ h. rw h (let same = rank-append flags (true ∷ []) x (ltb-false (length flags) x h) in omega arith))
+  where
+    past : ltb (length flags) x ≡ true → rank (flags ++ (true ∷ [])) x ≡ rank flags x + cond (ltb (length flags) x) 1 0
+    past h =
+        let long = ltb-true (length flags) x h in
+        let one-more = length-append flags (true ∷ []) in
+        let now = rank-end (flags ++ (true ∷ [])) x (omega arith) ∙ count-append (λ f. f) flags (true ∷ []) in
+        let before = rank-end flags x (omega arith) in
+        rw h (omega arith)
+
 -- what a removal takes from the ranks: one, after a live slot removed
 pub rank-removal : (flags : List Bool) (x y : ℕ) → rank flags y ≡ rank (set flags x false) y + cond (getD flags x false && ltb x y) 1 0
 unfolding rank
@@ -113,6 +126,20 @@ rank-after-removed flags x y live h =
     let law = rw (live, lt-ltb x y h) at (rank-removal flags x y) in
     omega arith
 
+-- a live slot removed leaves one live slot less
+pub live-count-removed : (flags : List Bool) (x : ℕ) → getD flags x false ≡ true → suc (live-count (set flags x false)) ≡ live-count flags
+live-count-removed flags x live =
+    let long = length-set flags x false in
+    let now = rank-end (set flags x false) (length flags) (omega arith) in
+    let before = rank-end flags (length flags) (omega arith) in
+    let law = rank-after-removed flags x (length flags) live (live-below flags x live) in
+    omega arith
+
+-- a live slot appended is one live slot more
+pub live-count-pushed : (flags : List Bool) → live-count (flags ++ (true ∷ [])) ≡ suc (live-count flags)
+unfolding count
+live-count-pushed flags = let law = count-append (λ f. f) flags (true ∷ []) in omega arith
+
 -- where every slot is live, a slot's rank is its number
 pub rank-all-live : (n x : ℕ) → x ≤ n → rank (replicate n true) x ≡ x
 unfolding rank
@@ -122,13 +149,14 @@ rank-all-live (suc n) (suc x) h = let rest = rank-all-live n x (le-of-suc-le-suc
 
 -- ---- the live slots, in slot order
 
--- there are as many as are counted
+-- there are as many as are counted, from whatever number on
 pub length-live-from : (a : ℕ) (flags : List Bool) → length (live-from a flags) ≡ live-count flags
 unfolding live-from count
 length-live-from a [] = refl
 length-live-from a (true ∷ flags) = let rest = length-live-from (suc a) flags in omega arith
 length-live-from a (false ∷ flags) = let rest = length-live-from (suc a) flags in omega arith
 
+-- there are as many live slots as are counted
 pub length-live-slots : (flags : List Bool) → length (live-slots flags) ≡ live-count flags
 length-live-slots flags = length-live-from 0 flags
 
@@ -139,6 +167,7 @@ live-from-suc a [] = refl
 live-from-suc a (true ∷ flags) = ap (λ (l : List ℕ). suc a ∷ l) (live-from-suc (suc a) flags)
 live-from-suc a (false ∷ flags) = live-from-suc (suc a) flags
 
+-- a slot is live after the first one where the slot before it is live without the first one
 member-live-later : (flags : List Bool) (x : ℕ) → member (suc x) (live-from 1 flags) ≡ member x (live-slots flags)
 member-live-later flags x = rw (live-from-suc 0 flags) (member-map suc x (live-slots flags) (λ y h. suc-inj))
 
@@ -151,6 +180,7 @@ member-live-slots (true ∷ flags) (suc x) = rw (eqb·suc-zero x) (member-live-l
 member-live-slots (false ∷ flags) zero = rw (live-from-suc 0 flags) (member-zero-suc (live-slots flags))
 member-live-slots (false ∷ flags) (suc x) = member-live-later flags x ∙ member-live-slots flags x
 
+-- after the first slot, ranks are those without it, and one more if it is live
 map-rank-later : (flag : Bool) (flags : List Bool)
     → map (rank (flag ∷ flags)) (live-from 1 flags) ≡ map (λ n. cond flag 1 0 + n) (map (rank flags) (live-slots flags))
 unfolding rank
@@ -200,6 +230,13 @@ live-slot-rank flags x d live =
     ∙ rank-injective flags (getD (live-slots flags) (rank flags x) 0) x
     (live-slot-live flags (rank flags x) 0 below) live (rank-live-slot flags (rank flags x) below)
 
+-- a list of values at the live slots has the value at a live slot at the slot's rank
+pub getD-at-rank : {A : Type 0} (f : ℕ → A) (flags : List Bool) (x : ℕ) (d : A) → getD flags x false ≡ true
+    → getD (map f (live-slots flags)) (rank flags x) d ≡ f x
+getD-at-rank f flags x d live =
+    getD-map f (live-slots flags) (rank flags x) 0 d (subst (λ (n : ℕ). rank flags x < n) (sym (length-live-slots flags)) (rank-live flags x live))
+    ∙ ap f (live-slot-rank flags x 0 live)
+
 -- the live slots ascend
 pub live-slots-ascend : (flags : List Bool) (i j : ℕ) → i < j → j < live-count flags → getD (live-slots flags) i 0 < getD (live-slots flags) j 0
 live-slots-ascend flags i j h below =
@@ -220,12 +257,13 @@ distinct-live-slots flags =
     ∙ ap distinct (map-rank-live-slots flags)
     ∙ distinct-from 0 (live-count flags)
 
--- where every slot is live, the live slots are the numbers below the bound
+-- where every slot is live, as many are live as there are
 pub live-count-all-live : (n : ℕ) → live-count (replicate n true) ≡ n
 unfolding count
 live-count-all-live zero = refl
 live-count-all-live (suc n) = let rest = live-count-all-live n in omega arith
 
+-- where every slot is live, the live slots are consecutive numbers
 pub live-from-all-live : (a n : ℕ) → live-from a (replicate n true) ≡ from a n
 unfolding live-from from
 live-from-all-live a zero = refl

@@ -26,6 +26,7 @@ length-renumbering next [] = refl
 length-renumbering next (true ∷ flags) = ap suc (length-renumbering (suc next) flags)
 length-renumbering next (false ∷ flags) = ap suc (length-renumbering next flags)
 
+-- the numbers that a map gives from `next` on
 lookup-from : (next : ℕ) (flags : List Bool) (x : ℕ) → lookup (renumbering-from next flags) x ≡ cond (getD flags x false) (next + rank flags x) NONE
 unfolding renumbering-from lookup rank
 lookup-from next [] x = refl
@@ -60,6 +61,7 @@ both (false ∷ first) second = false ∷ both first second
 both (true ∷ first) [] = false ∷ both first []
 both (true ∷ first) (flag ∷ second) = flag ∷ both first second
 
+-- both are flags of the slots before the first
 pub length-both : (first second : List Bool) → length (both first second) ≡ length first
 unfolding both
 length-both [] second = refl
@@ -94,6 +96,7 @@ rank-both (true ∷ first) (flag ∷ second) (suc x) =
 abbrev then : List Bool → ℕ → ℕ
 then second slot = cond (eqb slot NONE) NONE (lookup (renumbering second) slot)
 
+-- a composed map gives what the map of both gives, at each slot
 lookup-composed : (first second : List Bool) (x : ℕ) → live-count first ≤ NONE
     → then second (lookup (renumbering first) x) ≡ lookup (renumbering (both first second)) x
 lookup-composed first second x few =
