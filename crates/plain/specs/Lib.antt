@@ -13,3 +13,4 @@ pub mod Calls
 pub mod Lotstrip
 pub mod History
 pub mod Examples
+pub mod Laws

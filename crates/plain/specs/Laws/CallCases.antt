@@ -10,23 +10,23 @@ use native.Mathlib.Omega.{arith}
 use lib.ListN.{length, getD, getElem?, length-map, List·getD-map}
 use lib.Dec.{eqb, leb, ltb}
 use borrow.Author.Tests.{eq-eqb, ne-eqb, le-leb, lt-leb, lt-ltb, le-ltb}
 use Rattle.plain.specs.declared.TraversalDirection.{TraversalDirection}
 use Rattle.plain.specs.declared.TraversalDirection.the-variants.{Outgoing, Incoming}
 use Rattle.plain.specs.declared.Answer.{Answer}
 use Rattle.plain.specs.declared.Record.{Record}
 use Rattle.plain.specs.Numbers.{NONE}
 use Rattle.plain.specs.Plain.{Plain, NodeSlot, EdgeSlot, no-node, no-edge, node-bound, edge-bound, node-flags, edge-flags, node-slot, edge-slot, list-of, end-of, opposite}
 use Rattle.plain.specs.Operations.{operations}
 use Rattle.plain.specs.Step.{Capacities, State, live-node, live-edge, node-missing, run, answers}
 use Rattle.plain.specs.Reads.{Reply, lent, listing, reply-unless, answer-unless, answered, yes-or-no, no-record, walk, neighbors, degree, node-payload, edge-record, live-edge-record, contains-node, contains-edge, is-live, find-fault}
 use Rattle.plain.specs.Renumbering.{composed, compose}
 use Rattle.plain.specs.Compaction.{survivors}
 use Rattle.plain.specs.Image.{image, broken-image, nodes-in, edges-in}
 use Rattle.plain.specs.Memory.{Slice, first-short, Lengths, other-slices}
 use Rattle.plain.specs.Calls.{Stripped, strip, short-answer, within, fresh-within, Compacted, compaction-slices, compacting, compaction, write-image, reading-slices, read-within}
-use Rattle.laws.specs.Booleans.{by-test, below-or-not}
-use Rattle.laws.specs.Operating.{edge-below}
-use Rattle.laws.specs.Cases.{Absent, Removed, Live, Slot, absent, removed, live, slot, flag-absent, flag-removed, flag-live, fault-absent, fault-below}
+use Rattle.plain.specs.Laws.Booleans.{by-test, below-or-not}
+use Rattle.plain.specs.Laws.Operating.{edge-below}
+use Rattle.plain.specs.Laws.Cases.{Absent, Removed, Live, Slot, absent, removed, live, slot, flag-absent, flag-removed, flag-live, fault-absent, fault-below}
 
 -- ---- lent slices
 

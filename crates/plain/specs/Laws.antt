@@ -1,3 +1,4 @@
+-- The laws of the definitions: proofs alone, for the crates above to cite. The order is from general lists to whole histories.
 pub mod Booleans
 pub mod ListLaws
 pub mod Deleting

@@ -6,9 +6,9 @@ use native.Mathlib.Omega.{arith}
 use native.Mathlib.Nat.{zero-add, suc-add, mod-eq-of-lt, zero-div}
 use lib.ListN.{length, take, drop, replicate, length-append, length-take, length-drop, length-replicate}
 use lib.Seq.{take-at, take-add, take-take, take-all, take-length, take-nil, drop-drop, take-append-seam, take-append-add, drop-append-seam}
 use Rattle.plain.specs.Bits.{bits-of, value-of, bits, field-at, fields-at, row, bytes-for, bytes-of, pack}
-use Rattle.laws.specs.Below.{Below, none, more, below-append, below-take, below-drop}
-use Rattle.laws.specs.Bits.{length-bits-of, bits-of-split, below-bits-of, value-of-bits-of, value-of-lt, bits-of-value-of, length-bits, below-bits, bits-injective}
+use Rattle.plain.specs.Laws.Below.{Below, none, more, below-append, below-take, below-drop}
+use Rattle.plain.specs.Laws.Bits.{length-bits-of, bits-of-split, below-bits-of, value-of-bits-of, value-of-lt, bits-of-value-of, length-bits, below-bits, bits-injective}
 
 -- ---- bits that stand at a place
 

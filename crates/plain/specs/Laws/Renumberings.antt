@@ -10,14 +10,14 @@ use lib.ListN.{length, getD, replicate, length-map, List·getD-map}
 use lib.Seq.{ext-getD}
 use lib.Dec.{eqb}
 use borrow.Author.Tests.{ne-eqb}
 use Rattle.plain.specs.Numbers.{NONE}
 use Rattle.plain.specs.Lists.{from}
 use Rattle.plain.specs.Reads.{live-count}
 use Rattle.plain.specs.Renumbering.{lookup, composed, is-identity-map}
 use Rattle.plain.specs.Compaction.{rank, renumbering-from, renumbering}
-use Rattle.laws.specs.Booleans.{by-test}
-use Rattle.laws.specs.ListLaws.{length-from, same-refl}
-use Rattle.laws.specs.Rank.{rank-none, rank-live}
+use Rattle.plain.specs.Laws.Booleans.{by-test}
+use Rattle.plain.specs.Laws.ListLaws.{length-from, same-refl}
+use Rattle.plain.specs.Laws.Rank.{rank-none, rank-live}
 
 -- the map has one entry a slot
 pub length-renumbering : (next : ℕ) (flags : List Bool) → length (renumbering-from next flags) ≡ length flags

@@ -9,12 +9,12 @@ use mathlib.Core.List.{List, [], _∷_, _++_, map}
 use lib.ListN.{length, take, drop, getD}
 use lib.Dec.{eqb, leb, ltb}
 use borrow.Author.Tests.{leb-true, le-leb, eqb-true, eqb-false, eq-eqb, ne-eqb}
 use Rattle.plain.specs.Lists.{member, distinct, from, keep, all, count, joined}
 use Rattle.plain.specs.Image.{cut, list-lengths, at-their-nodes, lists-right}
-use Rattle.laws.specs.Booleans.{by-test, same-truth, and-left, and-right, both-true}
-use Rattle.laws.specs.ListLaws.{member-keep, distinct-keep, length-keep, count-map, member-below, distinct-from, distinct-length, distinct-full, length-from, count-indices, all-member}
-use Rattle.laws.specs.Below.{Below}
-use Rattle.laws.specs.Cutting.{joined-cut, sum-list-lengths}
+use Rattle.plain.specs.Laws.Booleans.{by-test, same-truth, and-left, and-right, both-true}
+use Rattle.plain.specs.Laws.ListLaws.{member-keep, distinct-keep, length-keep, count-map, member-below, distinct-from, distinct-length, distinct-full, length-from, count-indices, all-member}
+use Rattle.plain.specs.Laws.Below.{Below}
+use Rattle.plain.specs.Laws.Cutting.{joined-cut, sum-list-lengths}
 
 -- whether numbers do not descend, and start no lower than x
 unfoldable pub ascending : ℕ → List ℕ → Bool

@@ -8,14 +8,14 @@ use native.Mathlib.Omega.{arith}
 use lib.ListN.{length, getD, length-map}
 use lib.Dec.{eqb, ltb}
 use borrow.Author.Tests.{ltb-true, ltb-false, lt-ltb, le-ltb, eqb-true, eq-eqb, ne-eqb, not-false}
 use Rattle.plain.specs.Numbers.{LIMIT}
 use Rattle.plain.specs.Lists.{member, distinct, from, all, count, joined}
 use Rattle.plain.specs.Compaction.{EdgeRecord, source-of, target-of}
 use Rattle.plain.specs.Bits.{bits-of, value-of, bits, field-at, fields-at, bytes-for, least-from, least-width}
 use Rattle.plain.specs.Image.{nodes-in, edges-in, image-size, records-at, cut, parsed, at-their-nodes, lists-right, broken-image}
-use Rattle.laws.specs.Booleans.{refuted}
-use Rattle.laws.specs.Below.{Below, none, more, below-of, below-within}
-use Rattle.laws.specs.ImageBits.{length-records-at}
+use Rattle.plain.specs.Laws.Booleans.{refuted}
+use Rattle.plain.specs.Laws.Below.{Below, none, more, below-of, below-within}
+use Rattle.plain.specs.Laws.ImageBits.{length-records-at}
 
 -- ---- what the rules say
 

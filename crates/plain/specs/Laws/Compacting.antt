@@ -7,21 +7,22 @@ use mathlib.Core.List.{List, [], map, map-map, map-id}
 use lib.ListN.{length, getD, replicate, length-map, length-replicate, List·getD-map}
 use lib.Dec.{eqb}
 use borrow.Author.Tests.{eqb-true, eq-eqb, ltb-true, lt-ltb}
 use Rattle.plain.specs.declared.TraversalDirection.{TraversalDirection}
 use Rattle.plain.specs.declared.TraversalDirection.the-variants.{Outgoing, Incoming}
 use Rattle.plain.specs.Numbers.{LIMIT}
 use Rattle.plain.specs.Lists.{member, distinct, from}
 use Rattle.plain.specs.Plain.{Plain, Incidence, NodeSlot, EdgeSlot, no-node, no-edge, node-flags, edge-flags, node-bound, edge-bound, incidence, end-of, list-of}
 use Rattle.plain.specs.Step.{Capacities}
 use Rattle.plain.specs.Reads.{live-count, live-slots, live-nodes, live-edges}
 use Rattle.plain.specs.Renumbering.{is-identity-map}
 use Rattle.plain.specs.Compaction.{rank, renumbering, EdgeRecord, Survivors, surviving-edge, surviving-list, survivors, kept-node, kept-edge, source-of, target-of, of-survivors, compacted}
-use Rattle.laws.specs.WellFormed.{Incident, WellFormed, Fitted, Sound}
-use Rattle.laws.specs.Booleans.{same-truth, and-left, and-right, both-true}
-use Rattle.laws.specs.ListLaws.{getD-map-each, member-mapped, member-source, member-getD-map, distinct-map, map-same, map-unchanged, map-getD, map-replicate, count-length, member-below}
-use Rattle.laws.specs.Rank.{rank-live, rank-injective, rank-all-live, length-live-slots, live-slot-live, rank-live-slot, getD-at-rank, live-all-live, live-from-all-live}
-use Rattle.laws.specs.Renumberings.{identity-all-live}
-use Rattle.laws.specs.Fitting.{has-end, has-end-below, has-end-at, live-has-end, incident-fitted, fitted-incident}
+use Rattle.plain.specs.Laws.WellFormed.{Incident, WellFormed, Fitted, Sound}
+use Rattle.plain.specs.Laws.Booleans.{same-truth, and-left, and-right, both-true}
+use Rattle.plain.specs.Laws.ListLaws.{getD-map-each, member-mapped, member-source, member-getD-map, distinct-map, map-same, map-unchanged, map-getD, map-replicate, count-length, member-below}
+use Rattle.plain.specs.Laws.Operating.{incident}
+use Rattle.plain.specs.Laws.Rank.{rank-live, rank-injective, rank-all-live, length-live-slots, live-slot-live, rank-live-slot, getD-at-rank, live-all-live, live-from-all-live}
+use Rattle.plain.specs.Laws.Renumberings.{identity-all-live}
+use Rattle.plain.specs.Laws.Fitting.{has-end, has-end-below, has-end-at, live-has-end, incident-fitted, fitted-incident}
 
 -- ---- one direction
 
@@ -117,11 +118,6 @@ module _ (nodes edges : List Bool) (n : ℕ) (i : Incidence) (t : Incident edges
 
 -- ---- the survivors
 
--- one direction of well-formed lists
-pub incident : (caps : Capacities) (p : Plain) → WellFormed caps p → (d : TraversalDirection) → Incident (edge-flags p) (node-bound p) (incidence d p)
-incident caps p w Outgoing = w .outgoing
-incident caps p w Incoming = w .incoming
-
 -- compaction renumbers each direction
 pub compacted-incidence : (p : Plain) (d : TraversalDirection) → incidence d (compacted p) ≡ renumbered (node-flags p) (edge-flags p) (incidence d p)
 unfolding survivors of-survivors compacted
@@ -168,7 +164,7 @@ survivors-fitted caps p w d =
     subst₂ (λ (n : ℕ) (i : Incidence). Fitted n (i .ends) (i .lists)) (sym (length-surviving-nodes p)) (sym (compacted-incidence p d))
     (incident-fitted (live-nodes p) (live-edges p) (renumbered (node-flags p) (edge-flags p) (incidence d p))
     (length-renumbered (node-flags p) (edge-flags p) (incidence d p))
-    (renumbered-incident (node-flags p) (edge-flags p) (node-bound p) (incidence d p) (incident caps p w d) (w .ends-live d)))
+    (renumbered-incident (node-flags p) (edge-flags p) (node-bound p) (incidence d p) (incident w d) (w .ends-live d)))
 
 -- the survivors of well-formed lists within the limit have an image
 pub survivors-sound : (caps : Capacities) (p : Plain) → WellFormed caps p → caps .nodes ≤ LIMIT → caps .edges ≤ LIMIT → Sound (survivors p)

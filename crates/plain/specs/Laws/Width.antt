@@ -7,8 +7,8 @@ use native.Mathlib.Nat.{add-zero, eq-or-lt-of-le}
 use lib.Dec.{ltb}
 use lib.Pow.{pow-pos}
 use borrow.Author.Tests.{ltb-true, ltb-false}
 use Rattle.plain.specs.Bits.{least-from, least-width}
-use Rattle.laws.specs.Booleans.{by-test}
+use Rattle.plain.specs.Laws.Booleans.{by-test}
 
 from-holds : (t w k : ℕ) → k < 2 ^ (w + t) → k < 2 ^ least-from t w k
 unfolding least-from

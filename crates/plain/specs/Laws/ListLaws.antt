@@ -9,8 +9,8 @@ use mathlib.Core.List.{List, [], _∷_, _++_, map, map-map, map-id}
 use lib.ListN.{length, getD, replicate}
 use lib.Dec.{eqb, leb, ltb, eqb·zero-suc}
 use borrow.Author.Tests.{eqb-true, eqb-false, eq-eqb, ne-eqb, leb-true, le-leb, lt-leb, lt-ltb, ltb-true, not-true}
 use Rattle.plain.specs.Lists.{member, without, distinct, same, from, keep, all, count, joined}
-use Rattle.laws.specs.Booleans.{by-test, true-false, refuted, and-left, and-right, both-true, or-other, leb-same, eqb-same}
+use Rattle.plain.specs.Laws.Booleans.{by-test, true-false, refuted, and-left, and-right, both-true, or-other, leb-same, eqb-same}
 
 -- ---- elements and maps
 

@@ -8,15 +8,17 @@ use lib.ListN.{length, getD, set, length-set, length-append, length-map, List·g
 use lib.Seq.{map-set-same, set-getD}
 use lib.Dec.{eqb, lit<}
 use borrow.Author.Tests.{eq-eqb, ne-eqb, eqb-true, not-true}
 use Rattle.plain.specs.declared.TraversalDirection.{TraversalDirection}
 use Rattle.plain.specs.declared.TraversalDirection.the-variants.{Outgoing, Incoming}
 use Rattle.plain.specs.Lists.{member, without, distinct}
 use Rattle.plain.specs.Plain.{Plain, NodeSlot, EdgeSlot, Incidence, incidence, with-incidence, no-node, no-edge, killed-node, killed-edge, node-bound, edge-bound, node-flags, edge-flags, list-of, end-of, widened, attached, detached, redirected, moved, empty, node-added, edge-added, edge-removed, edges-removed, node-removed, payload-set}
 use Rattle.plain.specs.Step.{Capacities}
-use Rattle.laws.specs.WellFormed.{Incident, WellFormed}
-use Rattle.laws.specs.Booleans.{by-test, true-false, and-left, and-right, and-false, and-true, or-true, or-other, refuted}
-use Rattle.laws.specs.Deleting.{getD-set, getD-snoc, map-set, member-append, without-absent, without-all}
-use Rattle.laws.specs.Directions.{widened-incident, attached-incident, attached-end, detached-incident, detached-list, elsewhere, list-at, end-at, redirected-incident, redirected-end, moved-incident, moved-end, moving-live, flag-past, live-below}
+use Rattle.plain.specs.Laws.WellFormed.{Incident, WellFormed}
+use Rattle.plain.specs.Laws.Booleans.{by-test, true-false, and-left, and-right, and-false, and-true, or-true, or-other, refuted}
+use Rattle.plain.specs.Laws.Deleting.{getD-set, getD-snoc, map-set, without-all}
+use Rattle.plain.specs.Laws.ListLaws.{member-append, without-absent}
+use Rattle.plain.specs.Laws.Rank.{live-below}
+use Rattle.plain.specs.Laws.Directions.{widened-incident, attached-incident, attached-end, detached-incident, detached-list, elsewhere, list-at, end-at, redirected-incident, redirected-end, moved-incident, moved-end, moving-live}
 
 -- ---- both directions at once
 

@@ -10,12 +10,12 @@ use native.Mathlib.Omega.{arith}
 use lib.ListN.{length, getD, getElem?, length-map}
 use lib.Dec.{eqb, leb}
 use borrow.Author.Tests.{eq-eqb, ne-eqb, eqb-true, eqb-false, le-leb, lt-leb, leb-true, leb-false}
 use Rattle.plain.specs.declared.TraversalDirection.{TraversalDirection}
 use Rattle.plain.specs.declared.Operation.{Operation}
 use Rattle.plain.specs.declared.Operation.the-variants.{AddNode, AddEdge, RemoveEdge, RemoveNode, Redirect, Move, SetPayload, Unknown}
 use Rattle.plain.specs.Plain.{Plain, NodeSlot, EdgeSlot, incidence, with-incidence, node-bound, edge-bound, node-flags, edge-flags, node-slot, edge-slot, list-of, end-of, node-added, edge-added, edge-removed, node-removed, redirected, moved, payload-set}
 use Rattle.plain.specs.Step.{Capacities, Outcome, refused, unchanged, changed, unless, slot-fault, live-node, live-edge, node-fault, node-missing, edge-fault, edge-missing, moving, step}
-use Rattle.laws.specs.Booleans.{by-test, below-or-not, true-false}
+use Rattle.plain.specs.Laws.Booleans.{by-test, below-or-not, true-false}
 
 -- ---- what a slot is: at or above the bound, removed or live
 

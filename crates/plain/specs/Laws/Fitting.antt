@@ -8,13 +8,13 @@ use mathlib.Core.List.{List, [], _∷_, map, map-map}
 use lib.ListN.{length, getD, replicate, length-map, length-replicate, List·getD-map}
 use lib.Dec.{eqb, ltb}
 use borrow.Author.Tests.{eqb-true, eq-eqb, ltb-true, lt-ltb}
 use Rattle.plain.specs.Lists.{member, distinct, from, keep, all, count, joined}
 use Rattle.plain.specs.Plain.{Incidence}
 use Rattle.plain.specs.Image.{list-lengths, at-their-nodes, lists-right}
-use Rattle.laws.specs.WellFormed.{Incident, Fitted}
-use Rattle.laws.specs.Booleans.{true-false, same-truth, and-left, and-right, both-true, eqb-comm}
-use Rattle.laws.specs.ListLaws.{getD-map, map-same, map-getD, all-of, all-member, member-keep, distinct-keep, length-keep, count-indices, length-from, getD-from, member-below, distinct-from, distinct-length, distinct-full, member-joined, joined-member, distinct-at, distinct-joined}
-use Rattle.laws.specs.Rank.{live-all-live}
+use Rattle.plain.specs.Laws.WellFormed.{Incident, Fitted}
+use Rattle.plain.specs.Laws.Booleans.{true-false, same-truth, and-left, and-right, both-true, eqb-comm}
+use Rattle.plain.specs.Laws.ListLaws.{getD-map, map-same, map-getD, all-of, all-member, member-keep, distinct-keep, length-keep, count-indices, length-from, getD-from, member-below, distinct-from, distinct-length, distinct-full, member-joined, joined-member, distinct-at, distinct-joined}
+use Rattle.plain.specs.Laws.Rank.{live-all-live}
 
 -- ---- rule 6 of an image, by index
 

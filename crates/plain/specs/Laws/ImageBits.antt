@@ -4,14 +4,14 @@ use mathlib.Core.Path.{_≡_, refl, ap, _∙_}
 use mathlib.Core.List.{List, [], _∷_, _++_, map}
 use native.Mathlib.Omega.{arith}
 use lib.ListN.{length, length-append}
 use Rattle.plain.specs.Lists.{joined}
 use Rattle.plain.specs.Plain.{EdgePayload}
 use Rattle.plain.specs.Compaction.{EdgeRecord, Survivors, source-of, target-of}
 use Rattle.plain.specs.Bits.{bits-of, field-at, row}
 use Rattle.plain.specs.Image.{edge-bits, image-bits, records-at, record-width, edges-start}
-use Rattle.laws.specs.Below.{Below, none, more, below-append}
-use Rattle.laws.specs.Bits.{length-bits-of, below-bits-of, field-at-lt, length-row, below-row}
-use Rattle.laws.specs.Packing.{Stands, stands-front, stands-rest, stands-append, stands-at, stands-field, field-stands}
+use Rattle.plain.specs.Laws.Below.{Below, none, more, below-append}
+use Rattle.plain.specs.Laws.Bits.{length-bits-of, below-bits-of, field-at-lt, length-row, below-row}
+use Rattle.plain.specs.Laws.Packing.{Stands, stands-front, stands-rest, stands-append, stands-at, stands-field, field-stands}
 
 abbrev pub payload-of : EdgeRecord → EdgePayload
 payload-of r = r .payload

@@ -9,11 +9,13 @@ use native.Mathlib.Nat.{le-refl}
 use lib.ListN.{length, getD, set, length-set, length-append, List·getD-eq-default}
 use lib.Dec.{eqb}
 use borrow.Author.Tests.{eq-eqb, ne-eqb, eqb-true, eqb-false}
 use Rattle.plain.specs.Lists.{member, without, distinct, append-at, delete-at, set-all}
 use Rattle.plain.specs.Plain.{Incidence, widened, attached, detached, redirected, moved}
-use Rattle.laws.specs.WellFormed.{Incident}
-use Rattle.laws.specs.Booleans.{by-test, true-false, and-left, and-right, and-false, or-true, or-false, eqb-comm, below-or-not}
-use Rattle.laws.specs.Deleting.{getD-set, getD-snoc, member-append, member-gone, member-kept, distinct-without, distinct-append, distinct-snoc, getD-append-at, getD-delete-at, length-append-at, length-delete-at, length-set-all, getD-set-all}
+use Rattle.plain.specs.Laws.WellFormed.{Incident}
+use Rattle.plain.specs.Laws.Booleans.{by-test, true-false, and-left, and-right, and-false, or-true, or-false, eqb-comm, below-or-not}
+use Rattle.plain.specs.Laws.ListLaws.{member-append, distinct-without}
+use Rattle.plain.specs.Laws.Rank.{live-below}
+use Rattle.plain.specs.Laws.Deleting.{getD-set, getD-snoc, member-gone, member-kept, distinct-appended, distinct-snoc, getD-append-at, getD-delete-at, length-append-at, length-delete-at, length-set-all, getD-set-all}
 
 -- a list of empty default with an empty list appended reads as before
 getD-default : {A : Type 0} (l : List A) (d : A) (x : ℕ) → getD (l ++ (d ∷ [])) x d ≡ getD l x d
@@ -41,10 +43,6 @@ end-at i e = getD (i .ends) e 0
 -- past the end no flag is set
 pub flag-past : (flags : List Bool) (e : ℕ) → length flags ≤ e → getD flags e false ≡ false
 flag-past flags e h = List·getD-eq-default flags false h
-
--- a live slot is below the bound
-pub live-below : (flags : List Bool) (e : ℕ) → getD flags e false ≡ true → e < length flags
-live-below flags e h = ⊎-elim (λ l. l) (λ l. true-false h (flag-past flags e l)) (below-or-not e (length flags))
 
 -- a list of one entry
 member-one : (e y : ℕ) → member e (y ∷ []) ≡ eqb e y
@@ -199,6 +197,6 @@ module _ {flags : List Bool} {n : ℕ} {i : Incidence} (old new : ℕ) (low-old 
     once = λ z. rw (moved-list z)
         (by-test (eqb z old) (λ q. rw q)
         (λ q. rw q (by-test (eqb z new)
-        (λ r. rw r (distinct-append (list-at i new) (list-at i old) (h .once new) (h .once old)
+        (λ r. rw r (distinct-appended (list-at i new) (list-at i old) (h .once new) (h .once old)
         (λ e m. by-test (member e (list-at i old)) (λ k. true-false m (moving-elsewhere new e other k)) (λ k. k)))) (λ r. rw r (h .once z)))));
   }

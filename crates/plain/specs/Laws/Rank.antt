@@ -9,11 +9,11 @@ use mathlib.Core.List.{List, [], _∷_, _++_, map, map-map}
 use lib.ListN.{length, getD, set, replicate, length-append, length-set, List·getD-map}
 use lib.Dec.{ltb, leb·suc-zero, leb·suc-suc, eqb·suc-zero}
 use borrow.Author.Tests.{ltb-true, ltb-false, lt-ltb, le-ltb}
 use Rattle.plain.specs.Lists.{member, distinct, from, count}
 use Rattle.plain.specs.Reads.{live-count, live-from, live-slots}
 use Rattle.plain.specs.Compaction.{rank}
-use Rattle.laws.specs.Booleans.{by-test, true-false}
-use Rattle.laws.specs.ListLaws.{getD-default, getD-map, member-map, member-zero-suc, member-at, count-append, from-suc, getD-from, distinct-map, distinct-from, map-unchanged}
+use Rattle.plain.specs.Laws.Booleans.{by-test, true-false}
+use Rattle.plain.specs.Laws.ListLaws.{getD-default, getD-map, member-map, member-zero-suc, member-at, count-append, from-suc, getD-from, distinct-map, distinct-from, map-unchanged}
 
 -- ---- rank
 

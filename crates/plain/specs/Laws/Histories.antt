@@ -9,24 +9,24 @@ use native.Mathlib.Omega.{arith}
 use lib.ListN.{length}
 use lib.Dec.{eqb, ltb}
 use borrow.Author.Tests.{eqb-true, eqb-false}
 use Rattle.plain.specs.Numbers.{LIMIT}
 use Rattle.plain.specs.Plain.{Plain, node-flags, edge-flags}
 use Rattle.plain.specs.Operations.{operations}
 use Rattle.plain.specs.Step.{Capacities, State, run}
 use Rattle.plain.specs.Reads.{Reply, lent}
 use Rattle.plain.specs.Renumbering.{is-identity-map}
 use Rattle.plain.specs.Compaction.{Survivors, survivors, compacted, renumbering}
 use Rattle.plain.specs.Image.{image, broken-image, nodes-in, edges-in, parsed}
 use Rattle.plain.specs.Memory.{first-short, exact, live-words, axis-words}
 use Rattle.plain.specs.Calls.{strip, fresh-state, limits, Compacted, compacting, compaction, compaction-slices, reading-slices, read-image, read-state, write-image}
 use Rattle.plain.specs.History.{Call, Strip, Compaction, Reading, Called, call, history-from, history, closing-image}
-use Rattle.laws.specs.WellFormed.{WellFormed, Sound}
-use Rattle.laws.specs.Booleans.{by-test, below-or-not}
-use Rattle.laws.specs.Operating.{empty-well-formed}
-use Rattle.laws.specs.Stepping.{run-well-formed, Words, operations-fitting}
-use Rattle.laws.specs.CallCases.{LongEnough, FirstShort, slice-fits, long-or-short, read-broken, read-short, read-done, compaction-done, write-compact, lent-short, lent-done}
-use Rattle.laws.specs.Compacting.{survivors-sound, of-survivors-well-formed, survivors-of, compacted-well-formed, compacted-again, node-map-again, edge-map-again}
-use Rattle.laws.specs.ImageLaws.{image-injective, parsed-sound, nodes-length, edges-length}
+use Rattle.plain.specs.Laws.WellFormed.{WellFormed, Sound}
+use Rattle.plain.specs.Laws.Booleans.{by-test, below-or-not}
+use Rattle.plain.specs.Laws.Operating.{empty-well-formed}
+use Rattle.plain.specs.Laws.Stepping.{run-well-formed, Words, operations-fitting}
+use Rattle.plain.specs.Laws.CallCases.{LongEnough, FirstShort, slice-fits, long-or-short, read-broken, read-short, read-done, compaction-done, write-compact, lent-short, lent-done}
+use Rattle.plain.specs.Laws.Compacting.{survivors-sound, of-survivors-well-formed, survivors-of, compacted-well-formed, compacted-again, node-map-again, edge-map-again}
+use Rattle.plain.specs.Laws.ImageLaws.{image-injective, parsed-sound, nodes-length, edges-length}
 
 -- capacities that a fresh store takes
 pub record Within (caps : Capacities) : Type 0 where

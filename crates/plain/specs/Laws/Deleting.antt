@@ -9,8 +9,9 @@ use lib.ListN.{length, getD, set, length-set, length-append}
 use lib.Seq.{getD-set-same, getD-set-other, getD-append-add}
 use lib.Dec.{eqb, eqb·zero-suc, eqb·suc-zero, eqb·suc-suc}
 use borrow.Author.Tests.{eq-eqb, eqb-true, eqb-false, not-true}
 use Rattle.plain.specs.Lists.{member, without, distinct, keep, append-at, delete-at, set-all}
-use Rattle.laws.specs.Booleans.{by-test, true-false, and-left, and-right, and-false, or-true, eqb-comm}
+use Rattle.plain.specs.Laws.Booleans.{by-test, true-false, and-left, and-right, and-true, and-false, or-true, eqb-comm}
+use Rattle.plain.specs.Laws.ListLaws.{member-without, without-absent, distinct-append, all-of}
 
 -- ---- one entry set, one appended
 
@@ -32,21 +33,6 @@ module _ {A : Type 0} where
 
 -- ---- members
 
-pub member-append : (e : ℕ) (a b : List ℕ) → member e (a ++ b) ≡ (member e a || member e b)
-unfolding member
-member-append e [] b = refl
-member-append e (x ∷ a) b = by-test (eqb e x) (λ h. rw h) (λ h. rw h (member-append e a b))
-
-pub member-without : (e y : ℕ) (l : List ℕ) → member e (without y l) ≡ (not (eqb e y) && member e l)
-unfolding member without
-member-without e y [] = by-test (eqb e y) (λ h. rw h) (λ h. rw h)
-member-without e y (x ∷ l) =
-    by-test (eqb y x)
-    (λ h. rw (h, member-without e y l)
-    (by-test (eqb e y) (λ k. rw k) (λ k. rw (k, ← eqb-true y x h, k))))
-    (λ h. rw (h, member-without e y l)
-    (by-test (eqb e y) (λ k. rw (k, ap (λ (z : ℕ). eqb z x) (eqb-true e y k), h)) (λ k. rw k)))
-
 keep-all : (l : List ℕ) → keep (λ e. true) l ≡ l
 unfolding keep
 keep-all [] = refl
@@ -60,17 +46,11 @@ keep-without y ys (x ∷ l) =
 
 -- what is deleted is no member
 pub member-gone : (y : ℕ) (l : List ℕ) → member y (without y l) ≡ false
-member-gone y l = rw (member-without y y l, eq-eqb y y refl)
+member-gone y l = rw (member-without y y l, eq-eqb y y refl, and-false (member y l))
 
 -- deleting leaves the other members
 pub member-kept : (e y : ℕ) (l : List ℕ) → eqb e y ≡ false → member e (without y l) ≡ member e l
-member-kept e y l h = rw (member-without e y l, h)
-
--- deleting what is no member changes nothing
-pub without-absent : (y : ℕ) (l : List ℕ) → member y l ≡ false → without y l ≡ l
-unfolding member without
-without-absent y [] h = refl
-without-absent y (x ∷ l) h = by-test (eqb y x) (λ q. true-false (rw q) h) (λ q. rw (q, without-absent y l (rw q at h)))
+member-kept e y l h = rw (member-without e y l, eqb-comm y e, h, and-true (member e l))
 
 -- a list without several entries, one deleted after the other, is what is left of it
 unfoldable pub without-all : List ℕ → List ℕ → List ℕ
@@ -84,38 +64,24 @@ without-all-keeps (y ∷ ys) l = without-all-keeps ys (without y l) ∙ keep-wit
 
 -- ---- no repeats
 
-pub distinct-without : (y : ℕ) (l : List ℕ) → distinct l ≡ true → distinct (without y l) ≡ true
-unfolding distinct without
-distinct-without y [] h = refl
-distinct-without y (x ∷ l) h =
-    let gone : member x l ≡ false = not-true (member x l) (and-left (not (member x l)) (distinct l) h) in
-    let rest : distinct (without y l) ≡ true = distinct-without y l (and-right (not (member x l)) (distinct l) h) in
-    by-test (eqb y x) (λ k. rw k rest) (λ k. rw (k, member-without x y l, gone, and-false (not (eqb x y))) rest)
-
 -- deleting a member of a list without repeats takes one entry
-pub length-without : (y : ℕ) (l : List ℕ) → distinct l ≡ true → member y l ≡ true → suc (length (without y l)) ≡ length l
+pub length-deleted : (y : ℕ) (l : List ℕ) → distinct l ≡ true → member y l ≡ true → suc (length (without y l)) ≡ length l
 unfolding distinct member without
-length-without y [] h m = absurd (false≢true m)
-length-without y (x ∷ l) h m =
+length-deleted y [] h m = absurd (false≢true m)
+length-deleted y (x ∷ l) h m =
     by-test (eqb y x)
     (λ q. rw (q, without-absent y l (ap (λ (z : ℕ). member z l) (eqb-true y x q) ∙ not-true (member x l) (and-left (not (member x l)) (distinct l) h))))
-    (λ q. rw q (ap suc (length-without y l (and-right (not (member x l)) (distinct l) h) (rw q at m))))
+    (λ q. rw q (ap suc (length-deleted y l (and-right (not (member x l)) (distinct l) h) (rw q at m))))
 
 -- lists without repeats that share no entry, one after the other
-pub distinct-append : (a b : List ℕ) → distinct a ≡ true → distinct b ≡ true → ((e : ℕ) → member e a ≡ true → member e b ≡ false) → distinct (a ++ b) ≡ true
-unfolding distinct member
-distinct-append [] b h k apart = k
-distinct-append (x ∷ a) b h k apart =
-    let gone : member x a ≡ false = not-true (member x a) (and-left (not (member x a)) (distinct a) h) in
-    let other : member x b ≡ false = apart x (rw (eq-eqb x x refl)) in
-    rw (member-append x a b, gone, other)
-    (distinct-append a b (and-right (not (member x a)) (distinct a) h) k (λ e m. apart e (rw (m, or-true (eqb e x)))))
+pub distinct-appended : (a b : List ℕ) → distinct a ≡ true → distinct b ≡ true → ((e : ℕ) → member e a ≡ true → member e b ≡ false) → distinct (a ++ b) ≡ true
+distinct-appended a b h k apart = rw (distinct-append a b, h, k) (all-of (λ e. not (member e b)) a (λ e m. rw (apart e m)))
 
 -- one entry more
 pub distinct-snoc : (a : List ℕ) (e : ℕ) → distinct a ≡ true → member e a ≡ false → distinct (a ++ (e ∷ [])) ≡ true
 unfolding distinct member
 distinct-snoc a e h k =
-    distinct-append a (e ∷ []) h refl
+    distinct-appended a (e ∷ []) h refl
     (λ y m. by-test (eqb y e) (λ q. true-false m (ap (λ (z : ℕ). member z a) (eqb-true y e q) ∙ k)) (λ q. rw q))
 
 -- ---- a list of lists after one of them is appended to or deleted from

@@ -9,8 +9,8 @@ use lib.ListN.{length, take, drop, length-append, length-take}
 use lib.Seq.{take-at, drop-at}
 use lib.Pow.{pow-add, pow-mono, shr-shr, mod-pow-add, mod-mod-pow, field, high, low}
 use lib.Arith.{digits-lt}
 use Rattle.plain.specs.Bits.{bits-of, value-of, bits, field-at, fields-at, row}
-use Rattle.laws.specs.Below.{Below, none, more, below-append, below-take, below-drop}
+use Rattle.plain.specs.Laws.Below.{Below, none, more, below-append, below-take, below-drop}
 
 -- ---- a number and its bits
 
