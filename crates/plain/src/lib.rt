@@ -54,14 +54,17 @@ pub enum Operation {
     Unknown,
 }
 
+// The counts of one kind of slot: all slots, those that the compressed base holds, those that are live.
+pub struct Slots {
+    pub bound: u32,
+    pub base: u32,
+    pub live: u32,
+}
+
 // The counts of a store, by value beside its six slices. Any values are legal input: the check judges them.
 pub struct Counts {
-    pub node_bound: u32,
-    pub edge_bound: u32,
-    pub base_nodes: u32,
-    pub base_edges: u32,
-    pub live_nodes: u32,
-    pub live_edges: u32,
+    pub nodes: Slots,
+    pub edges: Slots,
 }
 
 // What a call answers: the number and the value of document 01's table. The value is wide enough for any length or capacity.
