@@ -1,0 +1,77 @@
+-- What a store is that passes the check, `Checked`, and what holds besides of every store that a fresh one or an image led to, `Reached`.
+use Prim.Native.Nat.{ℕ, suc, _+_, _*_, _≤_, _<_}
+use mathlib.Core.Path.{_≡_}
+use mathlib.Core.Bool.{Bool, true, false}
+use mathlib.Core.Logic.{_⊎_}
+use mathlib.Core.List.{List}
+use lib.ListN.{length, getD}
+use Rattle.plain.specs.declared.TraversalDirection.{TraversalDirection}
+use Rattle.plain.specs.declared.Slots.{Slots}
+use Rattle.plain.specs.declared.Counts.{Counts}
+use Rattle.plain.specs.Numbers.{LIMIT}
+use Rattle.plain.specs.Reads.{live-count}
+use Rattle.plain.specs.Memory.{live-words}
+use Rattle.plain.specs.Laws.WellFormed.{WellFormed}
+use Rattle.liveness.specs.Flags.{packed}
+use Rattle.shape.specs.Columns.{Sized, cell, end-at, adjacency-at, last-at, first-at, tail-at, count-at, mark-at, offset-at}
+use Rattle.shape.specs.Chains.{In, Run, Ring}
+use Rattle.shape.specs.Shape.{Words, capacities, node-live, edge-live, axis-words, run-list, ring-of, Shape, shape-of, plain-of, adjacency-of, part, ascends}
+
+-- rule 1 for one kind of slot, of capacity c
+pub record Bounded (c : ℕ) (s : Slots) : Type 0 where
+  pub bound-within : s .bound ≤ c
+  pub base-within : s .base ≤ s .bound
+
+-- rule 2 for one kind of slot: "live bits agree with both counts and the last word's unused bits are 0"
+pub record LiveRight (words : List ℕ) (flags : List Bool) (s : Slots) : Type 0 where
+  pub unused-clear : packed words (s .bound) ≡ true
+  pub live-right : s .live ≡ live-count flags
+
+-- rule 4: the compressed index, of bn nodes and be edges; "no index word being read where both base counts are 0"
+pub record Indexed (ws : List ℕ) (ce cn bn be : ℕ) : Type 0 where
+  pub starts : offset-at ws ce cn 0 ≡ 0
+  pub ascends : (x : ℕ) → x < bn → offset-at ws ce cn x ≤ offset-at ws ce cn (suc x)
+  pub stops : offset-at ws ce cn bn ≡ be
+  pub entries : (i : ℕ) → i < be → adjacency-at ws ce i < be
+
+abbrev pub Index : List ℕ → ℕ → ℕ → ℕ → ℕ → Type 0
+Index ws ce cn bn be = ((bn ≡ 0) × (be ≡ 0)) ⊎ Indexed ws ce cn bn be
+
+-- rule 5: every node slot below nb, removed or not, has a ring of its own edges among be up to eb
+pub record Rings (ws : List ℕ) (ce nb be eb : ℕ) : Type 0 where
+  pub ring : (x : ℕ) → x < nb → Ring (cell ws (2 * ce)) be eb (last-at ws ce x) (ring-of ws ce be eb x)
+  pub own : (x e : ℕ) → x < nb → In e (ring-of ws ce be eb x) → end-at ws e ≡ x
+
+-- rule 6: "run entries below the edge bound, none twice in one direction, lengths true", of every node slot with a mark, removed or not
+pub record Runs (ws : List ℕ) (ce cn nb eb : ℕ) : Type 0 where
+  pub run : (x : ℕ) → x < nb → (mark-at ws ce cn x ≡ 0 → ⊥)
+      → Run (cell ws (3 * ce)) eb (first-at ws ce cn x) (tail-at ws ce cn x) (count-at ws ce cn x) (run-list ws ce cn x)
+  pub apart : (x y e : ℕ) → x < nb → y < nb → In e (run-list ws ce cn x) → In e (run-list ws ce cn y) → x ≡ y
+
+-- one direction: rules 3 to 6
+pub record AxisChecked (ws : List ℕ) (ce cn : ℕ) (counts : Counts) (nodes edges : List Bool) : Type 0 where
+  pub sized : Sized ws ce cn
+  -- "ends below the node bound"
+  pub ends-below : (e : ℕ) → e < counts .edges .bound → end-at ws e < counts .nodes .bound
+  pub index : Index ws ce cn (counts .nodes .base) (counts .edges .base)
+  pub rings : Rings ws ce (counts .nodes .bound) (counts .edges .base) (counts .edges .bound)
+  pub runs : Runs ws ce cn (counts .nodes .bound) (counts .edges .bound)
+  -- "no live edge in a removed node's run"
+  pub removed-runs : (x e : ℕ) → x < counts .nodes .bound → getD nodes x false ≡ false → In e (run-list ws ce cn x) → getD edges e false ≡ false
+
+-- A store that passes the check.
+pub record Checked (w : Words) : Type 0 where
+  pub nodes : Bounded (length (w .nodes)) (w .counts .nodes)
+  pub edges : Bounded (length (w .edges)) (w .counts .edges)
+  pub live-nodes-long : live-words (length (w .nodes)) ≤ length (w .live-nodes)
+  pub live-edges-long : live-words (length (w .edges)) ≤ length (w .live-edges)
+  pub nodes-live : LiveRight (w .live-nodes) (node-live w) (w .counts .nodes)
+  pub edges-live : LiveRight (w .live-edges) (edge-live w) (w .counts .edges)
+  pub axis : (d : TraversalDirection) → AxisChecked (axis-words d w) (length (w .edges)) (length (w .nodes)) (w .counts) (node-live w) (edge-live w)
+  -- rule 7: "each live edge exactly once in its source's out-walk and once in its target's in-walk, both ends live, and no walk listing anything else"
+  pub walks : WellFormed (capacities w) (plain-of (shape-of w))
+
+-- Stores that a fresh one or an image led to: rings ascend, and a node's run or base entries are below its ring's.
+pub record Reached (s : Shape) : Type 0 where
+  pub rings : (d : TraversalDirection) (x : ℕ) → ascends (adjacency-of d s x .ring) ≡ true
+  pub order : (d : TraversalDirection) (x e f : ℕ) → In e (part (adjacency-of d s x)) → In f (adjacency-of d s x .ring) → e < f

@@ -1,0 +1,4 @@
+pub mod Columns
+pub mod Chains
+pub mod Shape
+pub mod Checked

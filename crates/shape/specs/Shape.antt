@@ -1,0 +1,199 @@
+-- The shape of a store: what the Rust holds in its vectors, as lists of edge numbers, dead entries included. It is a total function of the counts and the six
+-- lists of words; the plain lists are a total function of it.
+use Prim.Native.Nat.{ℕ, zero, suc, _+_, _-_, _*_}
+use mathlib.Core.Bool.{Bool, true, false, cond, _&&_, not}
+use mathlib.Core.Option.{Option, none, some}
+use mathlib.Core.List.{List, [], _∷_, _++_, map}
+use lib.ListN.{length, getD}
+use lib.Dec.{eqb, leb, ltb}
+use Rattle.plain.specs.declared.TraversalDirection.{TraversalDirection}
+use Rattle.plain.specs.declared.TraversalDirection.the-variants.{Outgoing, Incoming}
+use Rattle.plain.specs.declared.Slots.{Slots}
+use Rattle.plain.specs.declared.Counts.{Counts}
+use Rattle.plain.specs.Lists.{member, keep, all, from}
+use Rattle.plain.specs.Plain.{Plain, NodeSlot, EdgeSlot, Incidence}
+use Rattle.plain.specs.Step.{Capacities}
+use Rattle.liveness.specs.Flags.{live-flags}
+use Rattle.shape.specs.Columns.{adjacency-at, next-at, link-at, last-at, first-at, count-at, mark-at, offset-at, cell}
+use Rattle.shape.specs.Chains.{chain, ring}
+
+-- ---- one node of one direction, from the words of its axis
+
+-- the entries of a column from a up to b
+abbrev pub between : (ℕ → ℕ) → ℕ → ℕ → List ℕ
+between column a b = map column (from a (b - a))
+
+-- the base part: the compressed index's entries of a node, none for a node that came later
+unfoldable pub base-of : List ℕ → ℕ → ℕ → ℕ → ℕ → List ℕ
+base-of ws ce cn bn x = cond (ltb x bn) (between (cell ws ce) (offset-at ws ce cn x) (offset-at ws ce cn (suc x))) []
+
+-- the entries of a node's run, none where it has no run
+unfoldable pub run-list : List ℕ → ℕ → ℕ → ℕ → List ℕ
+run-list ws ce cn x = cond (eqb (mark-at ws ce cn x) 0) [] (chain (cell ws (3 * ce)) (count-at ws ce cn x) (first-at ws ce cn x))
+
+-- the run, or none: "a mark 'has a run' per node: an empty run still hides the base"
+unfoldable pub run-of : List ℕ → ℕ → ℕ → ℕ → Option (List ℕ)
+run-of ws ce cn x = cond (eqb (mark-at ws ce cn x) 0) none (some (run-list ws ce cn x))
+
+-- the ring: the edges appended since the base was built or the run took them over, from base count `be` to bound `eb`
+unfoldable pub ring-of : List ℕ → ℕ → ℕ → ℕ → ℕ → List ℕ
+ring-of ws ce be eb x = ring (cell ws (2 * ce)) (eb - be) (last-at ws ce x)
+
+-- ---- the shape
+
+-- A node's adjacency in one direction.
+pub record Adjacency : Type 0 where
+  pub base : List ℕ
+  pub run : Option (List ℕ)
+  pub ring : List ℕ
+
+-- One direction: the end of each edge slot and the adjacency of each node slot.
+pub record Axis : Type 0 where
+  pub ends : List ℕ
+  pub nodes : List Adjacency
+
+pub record Shape : Type 0 where
+  pub nodes : List NodeSlot
+  pub edges : List EdgeSlot
+  pub base-nodes : ℕ
+  pub base-edges : ℕ
+  pub outgoing : Axis
+  pub incoming : Axis
+
+-- A store as it is lent: counts and six lists of words.
+pub record Words : Type 0 where
+  pub counts : Counts
+  pub nodes : List ℕ
+  pub edges : List ℕ
+  pub live-nodes : List ℕ
+  pub live-edges : List ℕ
+  pub outgoing : List ℕ
+  pub incoming : List ℕ
+
+abbrev pub capacities : Words → Capacities
+capacities w = record { nodes = length (w .nodes); edges = length (w .edges) }
+
+abbrev pub node-live : Words → List Bool
+node-live w = live-flags (w .live-nodes) (w .counts .nodes .bound)
+
+abbrev pub edge-live : Words → List Bool
+edge-live w = live-flags (w .live-edges) (w .counts .edges .bound)
+
+abbrev pub axis-words : TraversalDirection → Words → List ℕ
+axis-words Outgoing w = w .outgoing
+axis-words Incoming w = w .incoming
+
+-- one direction, of capacities ce and cn and these counts
+unfoldable pub axis-of : List ℕ → ℕ → ℕ → Counts → Axis
+axis-of ws ce cn counts = record {
+  ends = map (λ e. getD ws e 0) (from 0 (counts .edges .bound));
+  nodes = map (λ x. record {
+    base = base-of ws ce cn (counts .nodes .base) x;
+    run = run-of ws ce cn x;
+    ring = ring-of ws ce (counts .edges .base) (counts .edges .bound) x;
+  }) (from 0 (counts .nodes .bound));
+}
+
+unfoldable pub shape-of : Words → Shape
+shape-of w = record {
+  nodes = map (λ x. record { payload = getD (w .nodes) x 0; live = getD (node-live w) x false }) (from 0 (w .counts .nodes .bound));
+  edges = map (λ e. record { payload = getD (w .edges) e 0; live = getD (edge-live w) e false }) (from 0 (w .counts .edges .bound));
+  base-nodes = w .counts .nodes .base;
+  base-edges = w .counts .edges .base;
+  outgoing = axis-of (w .outgoing) (length (w .edges)) (length (w .nodes)) (w .counts);
+  incoming = axis-of (w .incoming) (length (w .edges)) (length (w .nodes)) (w .counts);
+}
+
+-- ---- from the shape to the plain lists
+
+abbrev pub hiding : Option (List ℕ) → List ℕ → List ℕ
+hiding none base = base
+hiding (some run) base = run
+
+-- what is read before the ring: the run where there is one, else the base part
+abbrev pub part : Adjacency → List ℕ
+part a = hiding (a .run) (a .base)
+
+-- a node's adjacency, dead entries included
+abbrev pub raw : Adjacency → List ℕ
+raw a = part a ++ a .ring
+
+-- the edges that are live
+abbrev pub live-in : List Bool → ℕ → Bool
+live-in flags e = getD flags e false
+
+-- the walk of a node: the live entries of its adjacency; "a removed node walks empty"
+abbrev pub walk-of : List Bool → Bool → Adjacency → List ℕ
+walk-of flags live a = cond live (keep (live-in flags) (raw a)) []
+
+-- the adjacency past the last node, which is never read
+abbrev pub no-adjacency : Adjacency
+no-adjacency = record { base = []; run = none; ring = [] }
+
+abbrev pub axis-in : TraversalDirection → Shape → Axis
+axis-in Outgoing s = s .outgoing
+axis-in Incoming s = s .incoming
+
+abbrev pub adjacency-of : TraversalDirection → Shape → ℕ → Adjacency
+adjacency-of d s x = getD (axis-in d s .nodes) x no-adjacency
+
+abbrev pub node-flags-of : Shape → List Bool
+node-flags-of s = map (λ (n : NodeSlot). n .live) (s .nodes)
+
+abbrev pub edge-flags-of : Shape → List Bool
+edge-flags-of s = map (λ (e : EdgeSlot). e .live) (s .edges)
+
+-- one direction of the plain lists, where `list` is read of each node
+abbrev pub incidence-by : (Bool → Adjacency → List ℕ) → List Bool → Axis → Incidence
+incidence-by list nodes axis = record {
+  ends = axis .ends;
+  lists = map (λ x. list (getD nodes x false) (getD (axis .nodes) x no-adjacency)) (from 0 (length (axis .nodes)));
+}
+
+abbrev pub plain-by : (Bool → Adjacency → List ℕ) → Shape → Plain
+plain-by list s = record {
+  nodes = s .nodes;
+  edges = s .edges;
+  outgoing = incidence-by list (node-flags-of s) (s .outgoing);
+  incoming = incidence-by list (node-flags-of s) (s .incoming);
+}
+
+-- the plain lists of a shape: each node's list is its walk
+unfoldable pub plain-of : Shape → Plain
+plain-of s = plain-by (walk-of (edge-flags-of s)) s
+
+-- ---- what compaction sees
+
+-- whether a list ascends, weakly, as the Rust's `is_sorted`
+unfoldable pub ascends : List ℕ → Bool
+ascends [] = true
+ascends (x ∷ []) = true
+ascends (x ∷ y ∷ l) = leb x y && ascends (y ∷ l)
+
+-- the entries of a list in slot order, of edges below n
+abbrev pub in-slot-order : ℕ → List ℕ → List ℕ
+in-slot-order n l = keep (λ e. member e l) (from 0 n)
+
+-- "a list whose base part or run ascends (its dead entries read too) comes out in slot order"
+abbrev pub settled-walk : List Bool → Bool → Adjacency → List ℕ
+settled-walk flags live a =
+    let walk = walk-of flags live a in
+    cond (ascends (part a)) (in-slot-order (length flags) walk) walk
+
+-- the plain lists as compaction leaves their order; on stores that a fresh one or an image led to they are `plain-of`
+unfoldable pub settled : Shape → Plain
+settled s = plain-by (settled-walk (edge-flags-of s)) s
+
+abbrev pub has-run : Adjacency → Bool
+has-run a = marked (a .run)
+  where
+    marked : Option (List ℕ) → Bool
+    marked none = false
+    marked (some run) = true
+
+-- no delta, nothing removed, no run
+unfoldable pub is-compact : Shape → Bool
+is-compact s =
+    eqb (s .base-nodes) (length (s .nodes)) && (eqb (s .base-edges) (length (s .edges))
+    && (all (λ f. f) (node-flags-of s) && (all (λ f. f) (edge-flags-of s)
+    && (all (λ a. not (has-run a)) (s .outgoing .nodes) && all (λ a. not (has-run a)) (s .incoming .nodes)))))
