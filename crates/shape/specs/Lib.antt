@@ -2,3 +2,4 @@ pub mod Columns
 pub mod Chains
 pub mod Shape
 pub mod Checked
+pub mod Laws

@@ -1,0 +1,1 @@
+-- The laws of the shape, for the crates above to cite.
