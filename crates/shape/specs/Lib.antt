@@ -2,4 +2,5 @@ pub mod Columns
 pub mod Chains
 pub mod Shape
 pub mod Checked
+pub mod Steps
 pub mod Laws
