@@ -3,7 +3,6 @@
 
 use crate::calls::{self, Lots};
 use crate::generate::Step;
-use crate::graph::edge_view::EdgeView;
 use crate::graph::store::Renumbering;
 use crate::image;
 use crate::model::{self, Capacities, Compaction, DIRECTIONS, Model, NONE, Operation, Plain};
@@ -83,6 +82,7 @@ impl Trio {
     }
 
     /// A store from elsewhere, with what its own reads tell as plain lists.
+    #[cfg(feature = "serde")]
     pub fn foreign(rust: RustStore) -> Self {
         let model = Model {
             capacities: rust.capacities,
@@ -175,13 +175,20 @@ impl Trio {
         }
     }
 
+    /// Whether compaction puts some list in slot order that is not.
+    #[cfg(feature = "serde")]
+    pub fn walks_differ_from_settled(&self) -> bool {
+        let mut settled = self.clone();
+        settled.settle();
+        self.foreign && settled.model.plain != self.model.plain
+    }
+
     /// A compacted store: its image, the store that reading the image leaves,
     /// and a second compaction, which changes nothing.
     fn compare_compacted(&self, tally: &mut Tally) -> Same {
         let place = || "after a compaction".to_string();
-        let bytes = image::write(&self.model.plain);
-        let given = image::write(&self.rust.plain());
-        tally.same(Thing::Image, place, &bytes, &given)?;
+        let bytes = self.model.image();
+        tally.same(Thing::Image, place, &bytes, &self.rust.image())?;
 
         let read = image::read(&bytes);
         tally.same(Thing::Reading, place, &read, &Ok(self.model.plain.clone()))?;
@@ -224,13 +231,11 @@ impl Trio {
         }
         self.compare_whole(tally)?;
 
-        let graph = &self.rust.graph;
-        let nodes: Vec<u32> = graph.node_ids().map(|id| id.raw()).collect();
-        let edges: Vec<u32> = graph.edge_ids().map(|id| id.raw()).collect();
         let place = || "the store".to_string();
+        let (nodes, edges) = (self.rust.live_nodes(), self.rust.live_edges());
         tally.same(Thing::LiveList, place, plain.live_nodes(), nodes)?;
         tally.same(Thing::LiveList, place, plain.live_edges(), edges)?;
-        let shape = Shape::of(graph);
+        let shape = Shape::of(&self.rust.graph);
         tally.same(Thing::Parts, place, &self.shape, &shape)?;
         if !self.foreign {
             tally.same(Thing::Reached, place, None, shape.not_reached())?;
@@ -281,17 +286,13 @@ impl Trio {
         let (plain, graph) = (&self.model.plain, &self.rust.graph);
         let place = || format!("edge {slot}");
         let expected = plain.record(slot).expect("below the bound");
-        let record = graph.edge(edge(slot));
-        let (source, target) = (record.source().raw(), record.target().raw());
-        let given = [source, target, *record.payload()];
+        let given = rust_store::record(graph, slot);
         tally.same(Thing::Record, place, expected, given)?;
         let live = plain.edges[slot as usize].live;
         let contained = graph.contains_edge(edge(slot));
         tally.same(Thing::Liveness, place, live, contained)?;
         if live {
-            let record = EdgeView::edge(graph, edge(slot));
-            let (source, target) = (record.source().raw(), record.target().raw());
-            let given = [source, target, *record.data()];
+            let given = rust_store::live_record(graph, slot);
             tally.same(Thing::LiveRecord, place, expected, given)?;
         }
         Ok(())
@@ -314,8 +315,8 @@ impl Trio {
         tally.same(Thing::Compact, place, self.shape.is_compact(), compact)?;
         for above in [0, 1, NONE] {
             let slots = bounds.map(|bound| (bound as u32).saturating_add(above));
-            let contained = graph.contains_node(node(slots[0]))
-                || graph.contains_edge(edge(slots[1]));
+            let contained =
+                graph.contains_node(node(slots[0])) || graph.contains_edge(edge(slots[1]));
             tally.same(Thing::Liveness, place, false, contained)?;
         }
         Ok(())

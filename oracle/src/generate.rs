@@ -2,6 +2,7 @@
 //! looking at the model's present lists, so that most operations are done and
 //! every kind of refusal comes up.
 
+use crate::calls::LOTSTRIP;
 use crate::image;
 use crate::model::{Capacities, DIRECTIONS, Model, NONE, Plain, Slot};
 use crate::rng::Rng;
@@ -53,6 +54,16 @@ pub const LONG: Size = Size {
     steps: [5_000, 15_000],
     rarity: 60,
     every: 128,
+};
+
+/// One strip within the capacities of `lotstrip`, which can replay it.
+pub const STRIP: Size = Size {
+    name: "strip",
+    nodes: [LOTSTRIP.nodes as usize; 2],
+    edges: [LOTSTRIP.edges as usize; 2],
+    steps: [300, 500],
+    rarity: 1,
+    every: 1,
 };
 
 impl Size {
@@ -126,21 +137,25 @@ pub struct Generator<'r> {
 
 impl Generator<'_> {
     pub fn step(&mut self, model: &Model) -> Step {
+        let (plain, capacities) = (&model.plain, model.capacities);
+        let full = [
+            plain.nodes.len() == capacities.nodes as usize,
+            plain.edges.len() == capacities.edges as usize,
+        ];
         loop {
-            match self.kind(model) {
+            match self.kind() {
+                // Of the additions for which there is no room, most are passed over.
+                code @ 1..=2 if full[code as usize - 1] && !self.rng.one_in(6) => {}
                 code @ 1..=9 => return Step::Operation(self.operation(model, code)),
                 _ if !self.rng.one_in(self.size.rarity) => {}
                 10 => return Step::Compact,
-                _ => return Step::Read(image(self.rng, model.capacities)),
+                _ => return Step::Read(image::write(&compact_lists(self.rng, capacities))),
             }
         }
     }
 
     /// 1 to 9 the code of an operation, 10 compaction, 11 image reading.
-    fn kind(&mut self, model: &Model) -> u32 {
-        if model.plain.nodes.is_empty() && !self.rng.one_in(4) {
-            return 1;
-        }
+    fn kind(&mut self) -> u32 {
         let mut left = self.rng.below(self.mix.weights.iter().sum());
         for (kind, &weight) in (1..).zip(&self.mix.weights) {
             if left < weight {
@@ -236,19 +251,24 @@ impl Generator<'_> {
     }
 }
 
-/// The image of a random compact store within the capacities, its lists in any
-/// order.
-pub fn image(rng: &mut Rng, capacities: Capacities) -> Vec<u8> {
-    let slot = |payload| Slot {
-        payload,
-        live: true,
-    };
-    let mut plain = Plain::default();
+/// The plain lists of a random compact store within the capacities, its lists in
+/// any order.
+pub fn compact_lists(rng: &mut Rng, capacities: Capacities) -> Plain {
     let nodes = rng.below(capacities.nodes as usize + 1);
     let most = if nodes == 0 { 0 } else { capacities.edges };
     let edges = rng.below(most as usize + 1);
-    plain.nodes = (0..nodes).map(|_| slot(rng.word())).collect();
-    plain.edges = (0..edges).map(|_| slot(rng.word())).collect();
+    let mut slots = |count: usize| -> Vec<Slot> {
+        let slot = |payload| Slot {
+            payload,
+            live: true,
+        };
+        (0..count).map(|_| slot(rng.word())).collect()
+    };
+    let mut plain = Plain {
+        nodes: slots(nodes),
+        edges: slots(edges),
+        ..Plain::default()
+    };
     for incidence in [&mut plain.outgoing, &mut plain.incoming] {
         incidence.lists = vec![Vec::new(); nodes];
         for edge in 0..edges as u32 {
@@ -260,5 +280,5 @@ pub fn image(rng: &mut Rng, capacities: Capacities) -> Vec<u8> {
             rng.shuffle(list);
         }
     }
-    image::write(&plain)
+    plain
 }

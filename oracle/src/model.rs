@@ -337,7 +337,11 @@ impl Plain {
         let edge = |edge: u32| {
             let (source, target) = self.ends(edge as usize);
             let payload = self.edges[edge as usize].payload;
-            (rank(&self.nodes, source), rank(&self.nodes, target), payload)
+            (
+                rank(&self.nodes, source),
+                rank(&self.nodes, target),
+                payload,
+            )
         };
         let lists = |node: u32| {
             DIRECTIONS.map(|direction| {
@@ -491,7 +495,11 @@ impl Model {
                 Ok(self.plain.incidence_mut(direction).shift(old, new))
             }
             Operation::SetPayload { edge, payload } => {
-                self.plain.edges.get_mut(edge as usize).ok_or(7_u32)?.payload = payload;
+                self.plain
+                    .edges
+                    .get_mut(edge as usize)
+                    .ok_or(7_u32)?
+                    .payload = payload;
                 Ok(0)
             }
         }

@@ -19,8 +19,8 @@ fn closing(
         trio.step(step, tally)?;
     }
     let survivors = trio.model.plain.survivors();
-    let images = [trio.model.closing_image(), trio.rust.closing_image()];
-    Ok((survivors, images))
+    trio.compact(tally)?;
+    Ok((survivors, [trio.model.image(), trio.rust.image()]))
 }
 
 /// Pairs of short sequences that differ in one step, so that many of them leave

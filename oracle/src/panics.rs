@@ -7,7 +7,6 @@ use std::sync::atomic::{AtomicBool, Ordering};
 
 use crate::compare::Trio;
 use crate::generate::{Generator, MIXES, SHORT, Step};
-use crate::graph::edge_view::EdgeView;
 use crate::graph::store::Graph;
 use crate::model::{DIRECTIONS, NONE, Operation};
 use crate::rng::Rng;
@@ -100,7 +99,7 @@ fn compare_reads(graph: &Graph<u32, u32>, tally: &mut Tally) -> Result<(), Diffe
     let outside = "index out of bounds";
     for slot in [bounds[0], NONE] {
         await_panic(format!("node {slot}"), outside, &|| {
-            graph.node(node(slot));
+            let _ = graph.node(node(slot));
         })?;
         for direction in DIRECTIONS {
             let place = || format!("{direction:?} of node {slot}");
@@ -118,14 +117,18 @@ fn compare_reads(graph: &Graph<u32, u32>, tally: &mut Tally) -> Result<(), Diffe
     }
     for slot in [bounds[1], NONE] {
         await_panic(format!("edge {slot}"), outside, &|| {
-            graph.edge(edge(slot));
+            rust_store::record(graph, slot);
         })?;
     }
     let removed = (0..bounds[1]).filter(|&slot| !graph.contains_edge(edge(slot)));
     for slot in removed.chain([bounds[1], NONE]) {
-        await_panic(format!("live edge {slot}"), "edge has been removed", &|| {
-            EdgeView::edge(graph, edge(slot));
-        })?;
+        await_panic(
+            format!("live edge {slot}"),
+            "edge has been removed",
+            &|| {
+                rust_store::live_record(graph, slot);
+            },
+        )?;
     }
     Ok(())
 }

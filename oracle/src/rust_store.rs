@@ -6,10 +6,11 @@
 //! shows that the Rust panics exactly at these refusals).
 
 use crate::calls::Lots;
+use crate::graph::edge_view::EdgeView;
 use crate::graph::store::{EdgeId, Graph, NodeId, Renumbering};
 use crate::graph::traverse::TraversalDirection;
 use crate::image;
-use crate::model::{Answer, Capacities, DIRECTIONS, Incidence, NONE, Operation, Plain, Slot};
+use crate::model::{Answer, Capacities, Incidence, NONE, Operation, Plain, Slot};
 
 pub const fn node(slot: u32) -> NodeId {
     NodeId::from_raw(slot)
@@ -83,45 +84,38 @@ impl RustStore {
     /// Everything that the public reads tell, in the model's form.
     pub fn plain(&self) -> Plain {
         let graph = &self.graph;
-        let edges = || (0..graph.edge_bound() as u32).map(edge);
-        let lists = |direction| {
-            (0..graph.node_bound() as u32)
+        let nodes = 0..graph.node_bound() as u32;
+        let edges = 0..graph.edge_bound() as u32;
+        let incidence = |direction, place: usize| Incidence {
+            ends: edges
+                .clone()
+                .map(|slot| record(graph, slot)[place])
+                .collect(),
+            lists: nodes
+                .clone()
                 .map(|slot| walk(graph, direction, slot))
-                .collect()
+                .collect(),
         };
-        let [out, into] = DIRECTIONS.map(lists);
-        let incidence = |ends, lists| Incidence { ends, lists };
+        let node_slot = |slot| Slot {
+            payload: *graph.node(node(slot)),
+            live: graph.contains_node(node(slot)),
+        };
+        let edge_slot = |slot| Slot {
+            payload: record(graph, slot)[2],
+            live: graph.contains_edge(edge(slot)),
+        };
         Plain {
-            nodes: (0..graph.node_bound() as u32)
-                .map(node)
-                .map(|node| Slot {
-                    payload: *graph.node(node),
-                    live: graph.contains_node(node),
-                })
-                .collect(),
-            edges: edges()
-                .map(|edge| Slot {
-                    payload: *graph.edge(edge).payload(),
-                    live: graph.contains_edge(edge),
-                })
-                .collect(),
-            outgoing: incidence(
-                edges().map(|edge| graph.edge(edge).source().raw()).collect(),
-                out,
-            ),
-            incoming: incidence(
-                edges().map(|edge| graph.edge(edge).target().raw()).collect(),
-                into,
-            ),
+            outgoing: incidence(TraversalDirection::Outgoing, 0),
+            incoming: incidence(TraversalDirection::Incoming, 1),
+            nodes: nodes.clone().map(node_slot).collect(),
+            edges: edges.clone().map(edge_slot).collect(),
         }
     }
 
     /// Puts the nodes, edges and lists of an image in place of all.
     pub fn put(&mut self, plain: &Plain) {
         let payloads: Vec<u32> = plain.nodes.iter().map(|node| node.payload).collect();
-        let records: Vec<[u32; 3]> = (0..)
-            .map_while(|edge| plain.record(edge))
-            .collect();
+        let records: Vec<[u32; 3]> = (0..).map_while(|edge| plain.record(edge)).collect();
         let lists = [&*plain.outgoing.lists, &*plain.incoming.lists];
         self.graph = Graph::from_base(&payloads, &records, lists);
     }
@@ -139,8 +133,48 @@ impl Lots for RustStore {
         Self::operation(self, words)
     }
 
-    fn closing_image(&mut self) -> Vec<u8> {
-        self.graph.compact();
+    fn walk(&self, direction: TraversalDirection, slot: u32) -> Option<Vec<u32>> {
+        let known = self.no_node(slot).is_none();
+        known.then(|| walk(&self.graph, direction, slot))
+    }
+
+    fn payload(&self, slot: u32) -> Option<u32> {
+        let known = self.no_node(slot).is_none();
+        known.then(|| *self.graph.node(node(slot)))
+    }
+
+    fn record(&self, slot: u32) -> Option<([u32; 3], bool)> {
+        let known = self.no_edge(slot).is_none();
+        known.then(|| {
+            (
+                record(&self.graph, slot),
+                self.graph.contains_edge(edge(slot)),
+            )
+        })
+    }
+
+    fn live_nodes(&self) -> Vec<u32> {
+        self.graph.node_ids().map(NodeId::raw).collect()
+    }
+
+    fn live_edges(&self) -> Vec<u32> {
+        self.graph.edge_ids().map(EdgeId::raw).collect()
+    }
+
+    fn bounds(&self) -> [usize; 2] {
+        [self.graph.node_bound(), self.graph.edge_bound()]
+    }
+
+    fn is_compact(&self) -> bool {
+        self.graph.is_compact()
+    }
+
+    fn compaction(&mut self) -> [Vec<u32>; 3] {
+        let [nodes, edges] = maps(&self.graph.compact());
+        [nodes, edges, self.graph.index()]
+    }
+
+    fn image(&self) -> Vec<u8> {
         image::write(&self.plain())
     }
 }
@@ -190,6 +224,20 @@ pub fn perform(graph: &mut Graph<u32, u32>, operation: Operation) -> u32 {
 
 fn full(bound: usize, capacity: u32) -> Option<u32> {
     (bound == capacity as usize).then_some(10)
+}
+
+/// `Graph::edge`, which answers for removed edges too.
+pub fn record(graph: &Graph<u32, u32>, slot: u32) -> [u32; 3] {
+    let record = graph.edge(edge(slot));
+    let ends = [record.source(), record.target()].map(NodeId::raw);
+    [ends[0], ends[1], *record.payload()]
+}
+
+/// `EdgeView::edge`, which panics for removed edges.
+pub fn live_record(graph: &Graph<u32, u32>, slot: u32) -> [u32; 3] {
+    let record = EdgeView::edge(graph, edge(slot));
+    let ends = [record.source(), record.target()].map(NodeId::raw);
+    [ends[0], ends[1], *record.data()]
 }
 
 pub fn walk(graph: &Graph<u32, u32>, direction: TraversalDirection, slot: u32) -> Vec<u32> {

@@ -8,6 +8,7 @@
 use crate::graph::store::Graph;
 use crate::graph::traverse::TraversalDirection;
 use crate::model::{DIRECTIONS, Operation, Plain};
+use crate::rust_store::{edge, node, record};
 
 /// One node in one direction.
 #[derive(Debug, Clone, Default, PartialEq, Eq)]
@@ -100,31 +101,23 @@ impl Side {
 impl Shape {
     /// The shape that the Rust store has now.
     pub fn of(graph: &Graph<u32, u32>) -> Self {
-        let nodes = 0..graph.node_bound();
-        let edges = 0..graph.edge_bound();
+        let nodes = 0..graph.node_bound() as u32;
+        let edges = 0..graph.edge_bound() as u32;
         let side = |direction| Side {
             ends: edges
                 .clone()
-                .map(|edge| {
-                    let record = graph.edge(crate::rust_store::edge(edge as u32));
-                    match direction {
-                        TraversalDirection::Outgoing => record.source().raw(),
-                        TraversalDirection::Incoming => record.target().raw(),
-                    }
-                })
+                .map(|slot| record(graph, slot)[side_of(direction)])
                 .collect(),
             parts: graph.parts(direction),
         };
         Self {
             base_counts: graph.base_counts(),
-            live_nodes: nodes
-                .map(|node| graph.contains_node(crate::rust_store::node(node as u32)))
-                .collect(),
+            sides: DIRECTIONS.map(side),
+            live_nodes: nodes.map(|slot| graph.contains_node(node(slot))).collect(),
             live_edges: edges
                 .clone()
-                .map(|edge| graph.contains_edge(crate::rust_store::edge(edge as u32)))
+                .map(|slot| graph.contains_edge(edge(slot)))
                 .collect(),
-            sides: DIRECTIONS.map(side),
         }
     }
 
@@ -223,7 +216,11 @@ impl Shape {
     pub fn is_compact(&self) -> bool {
         let parts = self.sides.iter().flat_map(|side| &side.parts);
         self.base_counts == [self.live_nodes.len(), self.live_edges.len()]
-            && self.live_nodes.iter().chain(&self.live_edges).all(|&live| live)
+            && self
+                .live_nodes
+                .iter()
+                .chain(&self.live_edges)
+                .all(|&live| live)
             && parts.into_iter().all(|part| part.run.is_none())
     }
 

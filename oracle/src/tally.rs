@@ -76,6 +76,8 @@ things! {
         "Panics become numbers.";
     Check: "answers of validate.rs",
         "Rules 1 to 5 and 7 are those of `validate.rs` in its order";
+    Call: "calls with lengths of lent slices",
+        "a lent slice too short | 2 | length needed";
     Vectors: "recorded sequences",
         "the committed file is what its seed gives";
 }
@@ -158,6 +160,18 @@ impl Tally {
 
     pub fn compared(&self) -> u64 {
         self.compared.iter().sum()
+    }
+
+    /// Takes in what another tally counted.
+    pub fn add(&mut self, other: &Self) {
+        let others = other.compared.iter().chain(other.answers.as_flattened());
+        let counts = self
+            .compared
+            .iter_mut()
+            .chain(self.answers.as_flattened_mut());
+        for (count, more) in counts.zip(others) {
+            *count += more;
+        }
     }
 
     /// Prints a difference and counts it.
