@@ -11,6 +11,8 @@ use crate::panics::caught;
 use crate::rng::Rng;
 use crate::tally::{Difference, Tally, Thing};
 
+type Same = Result<(), Difference>;
+
 /// A sequence that shows a difference, none of whose steps can be dropped.
 pub struct Finding {
     capacities: Capacities,
@@ -37,42 +39,57 @@ impl fmt::Display for Finding {
     }
 }
 
-/// Makes the steps, comparing everything after each.
-fn replay(capacities: Capacities, steps: &[Step]) -> Result<(), Difference> {
-    let mut tally = Tally::new();
+/// Makes the steps; compares everything after every so many and what a step
+/// touched in between.
+fn replay(capacities: Capacities, steps: &[Step], every: usize, tally: &mut Tally) -> Same {
     guarded(|| {
         let mut trio = Trio::fresh(capacities);
-        for step in steps {
-            trio.step(step, &mut tally)?;
-            trio.compare_everything(&mut tally)?;
+        for (made, step) in (1..).zip(steps) {
+            compare_step(&mut trio, step, made % every == 0, tally)?;
         }
         Ok(())
     })
 }
 
+fn compare_step(trio: &mut Trio, step: &Step, everything: bool, tally: &mut Tally) -> Same {
+    trio.step(step, tally)?;
+    match step {
+        Step::Operation(_) if !everything => trio.compare_touched(tally),
+        _ => trio.compare_everything(tally),
+    }
+}
+
 /// A panic of the Rust where none is awaited is a difference too.
-fn guarded(action: impl FnOnce() -> Result<(), Difference>) -> Result<(), Difference> {
+fn guarded(action: impl FnOnce() -> Same) -> Same {
     caught(action).unwrap_or_else(|text| {
         let place = || "in the middle of a step".to_string();
         Tally::new().same(Thing::Panic, place, "no panic", text)
     })
 }
 
-/// Drops steps one at a time, from front to back, while a difference stays, until
-/// none can be dropped.
+/// Drops steps, from front to back, while a difference stays: half of them at a
+/// time, then a quarter and so on, then single ones until none can be dropped.
 fn shrink(capacities: Capacities, mut steps: Vec<Step>, first: Difference) -> Finding {
     let mut difference = first;
-    let mut at = 0;
-    while at < steps.len() {
-        let mut fewer = steps.clone();
-        fewer.remove(at);
-        match replay(capacities, &fewer) {
-            Err(still) => {
-                (steps, difference) = (fewer, still);
-                at = 0;
+    let mut together = steps.len().div_ceil(2);
+    loop {
+        let before = steps.len();
+        let mut at = 0;
+        while at < steps.len() {
+            let end = steps.len().min(at + together);
+            let fewer = [&steps[..at], &steps[end..]].concat();
+            // Comparing everything after each step of a long sequence takes
+            // too long, and finds a difference only a little sooner.
+            let every = if fewer.len() > 500 { LONG.every } else { 1 };
+            match replay(capacities, &fewer, every, &mut Tally::new()) {
+                Err(still) => (steps, difference) = (fewer, still),
+                Ok(()) => at = end,
             }
-            Ok(()) => at += 1,
         }
+        if together == 1 && steps.len() == before {
+            break;
+        }
+        together = together.div_ceil(2);
     }
     Finding {
         capacities,
@@ -99,14 +116,8 @@ fn random(size: Size, operations: u64, rng: &mut Rng, tally: &mut Tally) {
             let mut trio = Trio::fresh(capacities);
             for made in 1..=count {
                 let step = generator.step(&trio.model);
-                steps.push(step);
-                trio.step(&steps[made - 1], tally)?;
-                let small = matches!(steps[made - 1], Step::Operation(_));
-                if small && made % size.every != 0 {
-                    trio.compare_touched(tally)?;
-                } else {
-                    trio.compare_everything(tally)?;
-                }
+                steps.push(step.clone());
+                compare_step(&mut trio, &step, made % size.every == 0, tally)?;
             }
             Ok(())
         });
@@ -203,15 +214,14 @@ fn descend(
     depth: usize,
     made: &mut Vec<Step>,
     tally: &mut Tally,
-) -> Result<(), Difference> {
+) -> Same {
     if depth == 0 {
         return Ok(());
     }
     for step in steps {
         let mut trio = from.clone();
         made.push(step.clone());
-        trio.step(step, tally)?;
-        trio.compare_everything(tally)?;
+        compare_step(&mut trio, step, true, tally)?;
         descend(&trio, steps, depth - 1, made, tally)?;
         made.pop();
     }

@@ -45,7 +45,7 @@ things! {
     Empty: "yes or no: empty",
         "1 or 0 for a yes or no";
     Compact: "yes or no: compact",
-        "Redirecting to the present live end returns it and makes no run.";
+        "M1 fresh: bounds 0, compact. M4 redirect to the same end on a compact store: still compact.";
     Parts: "base parts, runs and rings of all nodes",
         "`sweep` drops dead slots only if some edge is removed and the run's length is a power of two.";
     Reached: "orders and ends of base parts, runs and rings",
@@ -82,7 +82,9 @@ things! {
         "the committed file is what its seed gives";
 }
 
-/// The first thing that the two sides tell differently.
+/// The first thing that the two sides tell differently: what document 01 makes
+/// one expect, by way of the model, and what was given, by the Rust in most
+/// comparisons.
 #[derive(Debug, Clone)]
 pub struct Difference {
     thing: Thing,
@@ -95,8 +97,13 @@ impl fmt::Display for Difference {
     fn fmt(&self, formatter: &mut fmt::Formatter<'_>) -> fmt::Result {
         let (name, sentence) = self.thing.described();
         writeln!(formatter, "different: {name}, {}", self.place)?;
-        writeln!(formatter, "  model: {}", self.expected)?;
-        writeln!(formatter, "  Rust:  {}", self.given)?;
+        let pairs = self.expected.char_indices().zip(self.given.chars());
+        let same = pairs.take_while(|&((_, a), b)| a == b).last();
+        let from = same.map_or(0, |((at, _), _)| at.saturating_sub(40));
+        for (side, text) in [("expected", &self.expected), ("given", &self.given)] {
+            let shown: String = text.chars().skip(from).take(400).collect();
+            writeln!(formatter, "  {side}: {shown}")?;
+        }
         write!(formatter, "  covered by: {sentence}")
     }
 }
