@@ -10,8 +10,10 @@ use std::fs;
 use std::os::unix::fs::symlink;
 use std::path::{Path, PathBuf};
 
-/// The files of the store, below `graph/` of the crate's source.
-const UNDER_TEST: [&str; 13] = [
+/// The files under test, below `graph/` of the crate's source. `validate.rs` and
+/// `format.rs` are compiled only with the feature `serde`; `store.rs` and
+/// `relocate.rs` decide.
+const UNDER_TEST: [&str; 14] = [
     "edge_view.rs",
     "store.rs",
     "store/adjacency.rs",
@@ -23,13 +25,10 @@ const UNDER_TEST: [&str; 13] = [
     "store/relocate/format.rs",
     "store/relocate/runs.rs",
     "store/renumbering.rs",
+    "store/validate.rs",
     "store/view.rs",
     "traverse.rs",
 ];
-
-/// `validate.rs` is compiled only with the feature `serde`; it is linked in any
-/// case, and `store.rs` decides.
-const CHECK: &str = "store/validate.rs";
 
 /// The harness's own files in that tree: what is linked where.
 const BESIDE: [(&str, &str); 4] = [
@@ -62,7 +61,7 @@ fn main() {
     if tree.exists() {
         fs::remove_dir_all(&tree).expect("the tree of an earlier build can be removed");
     }
-    for file in UNDER_TEST.into_iter().chain([CHECK]) {
+    for file in UNDER_TEST {
         link(&under_test.join(file), &tree.join(file));
     }
     for (file, place) in BESIDE {

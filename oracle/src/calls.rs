@@ -6,7 +6,7 @@ use std::fmt::Write;
 
 use crate::graph::traverse::TraversalDirection;
 use crate::image;
-use crate::model::{Answer, Capacities, Model, capacities};
+use crate::model::{Answer, Capacities, Model, NONE, capacities};
 
 /// What a call reads of a store or does to it: the model, or the Rust store.
 pub trait Lots {
@@ -134,6 +134,21 @@ pub fn record(lots: &impl Lots, edge: u32, live_only: bool) -> (Answer, [u32; 3]
         Some((_, false)) if live_only => (Answer::refused(8), [0; 3]),
         Some((record, _)) => (Answer::done(0), record),
     }
+}
+
+/// "some live edge from one node to another, or NONE (still number 0) if there is
+/// none and only then; 1, first 5, second 5. Which edge is left open." This is
+/// the first in the out-list.
+pub fn find(lots: &impl Lots, source: u32, target: u32) -> Answer {
+    let walk = lots.walk(TraversalDirection::Outgoing, source);
+    let (Some(walk), Some(_)) = (walk, lots.payload(target)) else {
+        return Answer::refused(5);
+    };
+    let reaches = |&edge: &u32| {
+        lots.record(edge)
+            .is_some_and(|(record, _)| record[1] == target)
+    };
+    Answer::done(walk.into_iter().find(reaches).unwrap_or(NONE).into())
 }
 
 /// "The caller lends a node map and an edge map, as long as the bounds before,

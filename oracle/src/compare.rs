@@ -6,7 +6,7 @@ use crate::generate::Step;
 use crate::graph::store::Renumbering;
 use crate::image;
 use crate::model::{self, Capacities, Compaction, DIRECTIONS, Model, NONE, Operation, Plain};
-use crate::rust_store::{self, RustStore, edge, node};
+use crate::rust_store::{self, LOOKUPS, RustStore, edge, node};
 use crate::shape::Shape;
 use crate::tally::{Difference, Tally, Thing};
 
@@ -325,11 +325,11 @@ impl Trio {
 
 /// Lookups of every old slot, and of some at or above the old bound.
 pub fn compare_lookups(maps: &[Vec<u32>; 2], given: &Renumbering, tally: &mut Tally) -> Same {
-    for (map, nodes) in maps.iter().zip([true, false]) {
+    for (map, lookup) in maps.iter().zip(LOOKUPS) {
         let bound = map.len() as u32;
         for old in (0..bound).chain([bound, bound + 1, NONE]) {
             let place = || format!("old slot {old}");
-            let found = given.lookup(nodes, old).unwrap_or(NONE);
+            let found = lookup(given, old);
             tally.same(Thing::Lookup, place, model::lookup(map, old), found)?;
         }
     }

@@ -31,8 +31,8 @@ pub struct Size {
 
 pub const SHORT: Size = Size {
     name: "short",
-    nodes: [0, 6],
-    edges: [0, 9],
+    nodes: [1, 6],
+    edges: [1, 9],
     steps: [8, 80],
     rarity: 1,
     every: 1,
@@ -67,10 +67,15 @@ pub const STRIP: Size = Size {
 };
 
 impl Size {
+    /// Within the size, and 0 now and then, unless the size is one number.
     pub fn capacities(&self, rng: &mut Rng) -> Capacities {
+        let mut capacity = |[least, most]: [usize; 2]| match least < most && rng.one_in(40) {
+            true => 0,
+            false => rng.between(least, most) as u32,
+        };
         Capacities {
-            nodes: rng.between(self.nodes[0], self.nodes[1]) as u32,
-            edges: rng.between(self.edges[0], self.edges[1]) as u32,
+            nodes: capacity(self.nodes),
+            edges: capacity(self.edges),
         }
     }
 
@@ -90,43 +95,22 @@ pub struct Mix {
     malformed: usize,
 }
 
+const fn mix(weights: [usize; 11], stray: usize, malformed: usize) -> Mix {
+    Mix {
+        weights,
+        stray,
+        malformed,
+    }
+}
+
+/// Everything, growing, many removals, redirections, moves, refusals.
 pub const MIXES: [Mix; 6] = [
-    // Everything.
-    Mix {
-        weights: [10, 20, 8, 3, 14, 14, 6, 6, 4, 3, 1],
-        stray: 12,
-        malformed: 50,
-    },
-    // Growing.
-    Mix {
-        weights: [12, 40, 3, 1, 5, 5, 2, 2, 2, 1, 0],
-        stray: 30,
-        malformed: 100,
-    },
-    // Many removals.
-    Mix {
-        weights: [14, 24, 22, 7, 8, 8, 4, 4, 2, 3, 1],
-        stray: 15,
-        malformed: 100,
-    },
-    // Many redirections.
-    Mix {
-        weights: [4, 12, 6, 1, 34, 34, 4, 4, 1, 1, 1],
-        stray: 30,
-        malformed: 100,
-    },
-    // Many moves.
-    Mix {
-        weights: [6, 20, 6, 2, 8, 8, 22, 22, 1, 1, 1],
-        stray: 30,
-        malformed: 100,
-    },
-    // Many refusals.
-    Mix {
-        weights: [8, 14, 8, 4, 12, 12, 8, 8, 6, 2, 1],
-        stray: 2,
-        malformed: 6,
-    },
+    mix([10, 20, 8, 3, 14, 14, 6, 6, 4, 3, 1], 12, 50),
+    mix([12, 40, 3, 1, 5, 5, 2, 2, 2, 1, 0], 30, 100),
+    mix([14, 24, 22, 7, 8, 8, 4, 4, 2, 3, 1], 15, 100),
+    mix([4, 12, 6, 1, 34, 34, 4, 4, 1, 1, 1], 30, 100),
+    mix([6, 20, 6, 2, 8, 8, 22, 22, 1, 1, 1], 30, 100),
+    mix([8, 14, 8, 4, 12, 12, 8, 8, 6, 2, 1], 2, 6),
 ];
 
 pub struct Generator<'r> {
@@ -142,6 +126,9 @@ impl Generator<'_> {
             plain.nodes.len() == capacities.nodes as usize,
             plain.edges.len() == capacities.edges as usize,
         ];
+        if plain.nodes.is_empty() && !full[0] && !self.rng.one_in(3) {
+            return Step::Operation(self.operation(model, 1));
+        }
         loop {
             match self.kind() {
                 // Of the additions for which there is no room, most are passed over.

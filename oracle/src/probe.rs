@@ -7,7 +7,7 @@
 use crate::graph::traverse::TraversalDirection;
 use crate::shape::Part;
 
-use super::{EdgeId, EdgeRecord, Graph, NodeId, Renumbering};
+use super::{EdgeRecord, Graph, NodeId, Renumbering};
 
 impl Graph<u32, u32> {
     /// Base part, run and ring of every node, removed edges and nodes included.
@@ -84,13 +84,5 @@ impl Renumbering {
     /// A renumbering of any two maps; the Rust makes them only by compaction.
     pub(crate) fn from_maps(nodes: &[u32], edges: &[u32]) -> Self {
         Self::new(nodes.to_vec(), edges.to_vec())
-    }
-
-    pub(crate) fn lookup(&self, nodes: bool, old: u32) -> Option<u32> {
-        if nodes {
-            self.node(NodeId::from_raw(old)).map(NodeId::raw)
-        } else {
-            self.edge(EdgeId::from_raw(old)).map(EdgeId::raw)
-        }
     }
 }

@@ -9,6 +9,7 @@ use std::fmt::{Debug, Write};
 use crate::calls::{self, Lots, hexadecimal};
 use crate::compare::Trio;
 use crate::generate::{Generator, MEDIUM, MIXES, Mix, SHORT, STRIP, Size, Step, compact_lists};
+use crate::graph::traverse::TraversalDirection;
 use crate::image;
 use crate::model::{Answer, Capacities, DIRECTIONS};
 use crate::rng::Rng;
@@ -225,6 +226,18 @@ impl Recorder<'_> {
         }
         let call = format!("payload {slot}");
         let (expected, given) = (calls::payload(model, slot), calls::payload(rust, slot));
+        let Answer { number, value } = self.both(&call, expected, given)?;
+        line!(self.text, "{call} {number} {value}");
+
+        // A neighbor, if there is one, so that half of the finds find an edge.
+        let neighbors = model.plain.neighbors(TraversalDirection::Outgoing, slot);
+        let other = match neighbors.as_deref() {
+            Some([first, ..]) if self.rng.one_in(2) => *first,
+            _ => self.rng.below(rust.bounds()[0] + 1) as u32,
+        };
+        let call = format!("find {slot} {other}");
+        let expected = calls::find(model, slot, other);
+        let given = calls::find(rust, slot, other);
         let Answer { number, value } = self.both(&call, expected, given)?;
         line!(self.text, "{call} {number} {value}");
         Ok(())

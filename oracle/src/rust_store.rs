@@ -264,15 +264,21 @@ pub fn degree(graph: &Graph<u32, u32>, direction: TraversalDirection, slot: u32)
     degree as u32
 }
 
+/// The public lookups of an old node and of an old edge.
+pub const LOOKUPS: [fn(&Renumbering, u32) -> u32; 2] = [
+    |renumbering, old| renumbering.node(node(old)).map_or(NONE, NodeId::raw),
+    |renumbering, old| renumbering.edge(edge(old)).map_or(NONE, EdgeId::raw),
+];
+
 /// Node map and edge map of a compaction, read through the public lookups.
 pub fn maps(renumbering: &Renumbering) -> [Vec<u32>; 2] {
-    let map = |nodes, bound| {
-        (0..bound as u32)
-            .map(|old| renumbering.lookup(nodes, old).unwrap_or(NONE))
-            .collect()
+    let [node, edge] = LOOKUPS;
+    let map = |lookup: fn(&Renumbering, u32) -> u32, bound| {
+        let old = 0..bound as u32;
+        old.map(|old| lookup(renumbering, old)).collect()
     };
     [
-        map(true, renumbering.node_bound()),
-        map(false, renumbering.edge_bound()),
+        map(node, renumbering.node_bound()),
+        map(edge, renumbering.edge_bound()),
     ]
 }
