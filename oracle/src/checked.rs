@@ -7,7 +7,7 @@ use serde_json::{Value, from_value, json, to_value};
 
 use crate::calls::Lots;
 use crate::compare::Trio;
-use crate::generate::{Generator, MIXES, SHORT, Step};
+use crate::generate::{Generator, MIXES, SHORT};
 use crate::graph::store::Graph;
 use crate::graph::traverse::TraversalDirection::Outgoing;
 use crate::model::{Capacities, DIRECTIONS};
@@ -237,23 +237,43 @@ fn compare_foreign(rust: &RustStore, rng: &mut Rng, tally: &mut Tally) -> Result
     Ok(put_in_slot_order)
 }
 
-/// Base part [0, 0], both dead, and the ring 3, 2: the check passes, the walk is
-/// 3, 2, and compaction puts it in slot order.
+/// The smallest stores whose walk compaction puts in slot order: no base part and
+/// the ring 1, 0; and the base part [0, 0], both dead, with the ring 3, 2.
 fn compare_smallest_settled(tally: &mut Tally) -> Same {
-    let mut rust = RustStore::fresh(Capacities { nodes: 1, edges: 4 });
     let looped = [2, 0, 0, 5];
+    let mut rust = RustStore::fresh(Capacities { nodes: 1, edges: 4 });
     perform(&mut rust, &[[1, 0, 0, 7], looped, looped]);
+    let ring_turned = ("/chains/last/0", json!([0, 0]));
+    compare_settled(
+        &rust.graph,
+        std::slice::from_ref(&ring_turned),
+        &[1, 0],
+        tally,
+    )?;
+
     rust.graph.compact();
     perform(&mut rust, &[[3, 0, 0, 0], [3, 1, 0, 0], looped, looped]);
-    let mut value = written(&rust.graph);
-    for (pointer, new) in [
+    let twice = [
         ("/out_edges", json!([0, 0])),
         ("/in_edges", json!([0, 0])),
-        ("/chains/last/0", json!([0, 0])),
-    ] {
-        put(&mut value, pointer, new);
+        ring_turned,
+    ];
+    compare_settled(&rust.graph, &twice, &[3, 2], tally)
+}
+
+/// The changed store passes the check, has this walk, and after compaction the
+/// walk 0, 1.
+fn compare_settled(
+    graph: &Store,
+    changes: &[(&str, Value)],
+    walked: &[u32],
+    tally: &mut Tally,
+) -> Same {
+    let mut value = written(graph);
+    for (pointer, new) in changes {
+        put(&mut value, pointer, new.clone());
     }
-    let place = || "one node, base [0, 0] dead, ring 3, 2".to_string();
+    let place = || format!("one node, ring {walked:?}");
     let mut graph = match read(value) {
         Ok(graph) => graph,
         Err(text) => return tally.same(Thing::Check, place, "accepted", text),
@@ -261,8 +281,12 @@ fn compare_smallest_settled(tally: &mut Tally) -> Same {
     let before = walk(&graph, Outgoing, 0);
     graph.compact();
     let after = walk(&graph, Outgoing, 0);
-    let expected = [vec![3, 2], vec![0, 1]];
-    tally.same(Thing::Check, place, expected, [before, after])
+    tally.same(
+        Thing::Check,
+        place,
+        [walked, &[0, 1]],
+        [&before[..], &after[..]],
+    )
 }
 
 /// Short random sequences: after every step the store is written, read again and
@@ -281,7 +305,7 @@ pub fn compare(sequences: usize, seed: u64, tally: &mut Tally) -> Same {
                 rng: &mut rng,
                 size: SHORT,
             };
-            let step: Step = generator.step(&trio.model);
+            let step = generator.step(&trio.model);
             trio.step(&step, tally)?;
             let graph = &trio.rust.graph;
             let place = || "a store written and read".to_string();

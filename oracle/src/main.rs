@@ -136,6 +136,6 @@ use checked::compare as compare_checked;
 
 #[cfg(not(feature = "serde"))]
 fn compare_checked(_: usize, _: u64, _: &mut Tally) -> Result<(), Difference> {
-    println!("validate.rs is not compiled: Debian's packages of serde are not at hand");
+    println!("validate.rs is not compiled: built without Debian's packages of serde");
     Ok(())
 }
