@@ -57,9 +57,11 @@ fn sample() -> Store {
     rust.graph
 }
 
-/// Changes of the sample, the rule of document 01 that they break, and what the
-/// Rust says; nothing where it accepts the store, because rule 6 is added.
-fn broken_samples() -> Vec<(u32, Option<&'static str>, Vec<(&'static str, Value)>)> {
+/// The rule of document 01 that a changed sample breaks; what the Rust says of it,
+/// nothing where it accepts the store, because rule 6 is added; the changes.
+type Broken = (u32, Option<&'static str>, Vec<(&'static str, Value)>);
+
+fn broken_samples() -> Vec<Broken> {
     let outgoing = |runs: Value| ("/relocations", json!({"outgoing": runs, "incoming": {}}));
     let incoming = |runs: Value| ("/relocations", json!({"outgoing": {}, "incoming": runs}));
     let edge_0_removed = [
