@@ -1,0 +1,231 @@
+//! Document 01's calls on a store, with the lengths of what is lent: their
+//! numbers, values and orders of refusals, stated once for the model and the
+//! Rust store; and the text of `lotstrip`.
+
+use std::fmt::Write;
+
+use crate::graph::traverse::TraversalDirection;
+use crate::image;
+use crate::model::{Answer, Capacities, Model, NONE, capacities};
+
+/// What a call reads of a store or does to it: the model, or the Rust store.
+pub trait Lots {
+    fn fresh(capacities: Capacities) -> Self;
+    fn operation(&mut self, words: [u32; 4]) -> Answer;
+    /// A node's list; nothing at or above the bound, as in the next two.
+    fn walk(&self, direction: TraversalDirection, node: u32) -> Option<Vec<u32>>;
+    fn payload(&self, node: u32) -> Option<u32>;
+    /// Source, target and payload, and whether the edge is live.
+    fn record(&self, edge: u32) -> Option<([u32; 3], bool)>;
+    fn live_nodes(&self) -> Vec<u32>;
+    fn live_edges(&self) -> Vec<u32>;
+    fn bounds(&self) -> [usize; 2];
+    fn is_compact(&self) -> bool;
+    /// Compacts, and gives node map, edge map and work slice.
+    fn compaction(&mut self) -> [Vec<u32>; 3];
+    /// The image of a store without dead slots.
+    fn image(&self) -> Vec<u8>;
+}
+
+impl Lots for Model {
+    fn fresh(capacities: Capacities) -> Self {
+        Self {
+            capacities,
+            plain: Default::default(),
+            compact: true,
+        }
+    }
+
+    fn operation(&mut self, words: [u32; 4]) -> Answer {
+        Self::operation(self, words)
+    }
+
+    fn walk(&self, direction: TraversalDirection, node: u32) -> Option<Vec<u32>> {
+        self.plain.walk(direction, node).map(<[u32]>::to_vec)
+    }
+
+    fn payload(&self, node: u32) -> Option<u32> {
+        self.plain.nodes.get(node as usize).map(|slot| slot.payload)
+    }
+
+    fn record(&self, edge: u32) -> Option<([u32; 3], bool)> {
+        let slot = self.plain.edges.get(edge as usize)?;
+        Some((self.plain.record(edge)?, slot.live))
+    }
+
+    fn live_nodes(&self) -> Vec<u32> {
+        self.plain.live_nodes()
+    }
+
+    fn live_edges(&self) -> Vec<u32> {
+        self.plain.live_edges()
+    }
+
+    fn bounds(&self) -> [usize; 2] {
+        [self.plain.nodes.len(), self.plain.edges.len()]
+    }
+
+    fn is_compact(&self) -> bool {
+        self.compact
+    }
+
+    fn compaction(&mut self) -> [Vec<u32>; 3] {
+        let compaction = self.compact();
+        [compaction.node_map, compaction.edge_map, compaction.work]
+    }
+
+    fn image(&self) -> Vec<u8> {
+        image::write(&self.plain)
+    }
+}
+
+/// A list of words into a lent slice: "2", or as many as there are.
+fn fit<T>(words: Vec<T>, length: usize) -> Result<Vec<T>, Answer> {
+    if length < words.len() {
+        return Err(Answer::too_short(words.len()));
+    }
+    Ok(words)
+}
+
+/// "Order: strip 1, 3, 2." "strip not a multiple of four | 3 | its length".
+pub fn strip(lots: &mut impl Lots, words: &[u32], length: usize) -> Result<Vec<Answer>, Answer> {
+    let (operations, rest) = words.as_chunks::<4>();
+    if !rest.is_empty() {
+        let value = words.len() as u64;
+        return Err(Answer { number: 3, value });
+    }
+    let needed = 2 * operations.len();
+    if length < needed {
+        return Err(Answer::too_short(needed));
+    }
+    let answers = operations.iter().map(|&words| lots.operation(words));
+    Ok(answers.collect())
+}
+
+/// "Walk: 1, 5, 2."
+pub fn walk(
+    lots: &impl Lots,
+    direction: TraversalDirection,
+    node: u32,
+    length: usize,
+) -> Result<Vec<u32>, Answer> {
+    let walk = lots.walk(direction, node).ok_or(Answer::refused(5))?;
+    fit(walk, length)
+}
+
+/// "List of live nodes or edges in slot order: 1, 2."
+pub fn live_list(slots: Vec<u32>, length: usize) -> Result<Vec<u32>, Answer> {
+    fit(slots, length)
+}
+
+/// "Degree and node payload: 1, 5."
+pub fn payload(lots: &impl Lots, node: u32) -> Answer {
+    match lots.payload(node) {
+        Some(payload) => Answer::done(payload.into()),
+        None => Answer::refused(5),
+    }
+}
+
+/// "Record 1, 7; live record 1, 7, 8." "A record's source, target and payload
+/// come beside the value 0; if refused, all three are 0."
+pub fn record(lots: &impl Lots, edge: u32, live_only: bool) -> (Answer, [u32; 3]) {
+    match lots.record(edge) {
+        None => (Answer::refused(7), [0; 3]),
+        Some((_, false)) if live_only => (Answer::refused(8), [0; 3]),
+        Some((record, _)) => (Answer::done(0), record),
+    }
+}
+
+/// "some live edge from one node to another, or NONE (still number 0) if there is
+/// none and only then; 1, first 5, second 5. Which edge is left open." This is
+/// the first in the out-list.
+pub fn find(lots: &impl Lots, source: u32, target: u32) -> Answer {
+    let walk = lots.walk(TraversalDirection::Outgoing, source);
+    let (Some(walk), Some(_)) = (walk, lots.payload(target)) else {
+        return Answer::refused(5);
+    };
+    let reaches = |&edge: &u32| {
+        lots.record(edge)
+            .is_some_and(|(record, _)| record[1] == target)
+    };
+    Answer::done(walk.into_iter().find(reaches).unwrap_or(NONE).into())
+}
+
+/// "The caller lends a node map and an edge map, as long as the bounds before,
+/// and a work slice of twice the live edge count".
+pub fn compaction_needs(lots: &impl Lots) -> [usize; 3] {
+    let [nodes, edges] = lots.bounds();
+    [nodes, edges, 2 * lots.live_edges().len()]
+}
+
+/// "(1, then 2 in that order)": node map, edge map, work slice.
+pub fn compact(lots: &mut impl Lots, lengths: [usize; 3]) -> Result<[Vec<u32>; 3], Answer> {
+    let needs = compaction_needs(lots).into_iter().zip(lengths);
+    if let Some((needed, _)) = needs.into_iter().find(|(needed, lent)| lent < needed) {
+        return Err(Answer::too_short(needed));
+    }
+    Ok(lots.compaction())
+}
+
+/// "Only compact stores have one. Writing: 1, 11, 2."
+pub fn write_image(lots: &impl Lots, length: usize) -> Result<Vec<u8>, Answer> {
+    if !lots.is_compact() {
+        return Err(Answer::refused(11));
+    }
+    fit(lots.image(), length)
+}
+
+/// "Reading: 13, 12, 2 (13 and 2 nodes before edges, a payload slice shorter
+/// than its count being too short, then the other slices)". The Rust has no
+/// image reading.
+pub fn read_image(nodes: u64, edges: u64, bytes: &[u8]) -> Result<Model, Answer> {
+    let capacities = capacities(nodes, edges)?;
+    let plain = image::read(bytes).map_err(|rule| Answer {
+        number: 12,
+        value: rule.into(),
+    })?;
+    let counts = [plain.nodes.len(), plain.edges.len()];
+    for (count, capacity) in counts.into_iter().zip([nodes, edges]) {
+        if capacity < count as u64 {
+            return Err(Answer::too_short(count));
+        }
+    }
+    Ok(Model {
+        capacities,
+        plain,
+        compact: true,
+    })
+}
+
+/// "the program `lotstrip` (512 nodes, 1,024 edges)".
+pub const LOTSTRIP: Capacities = Capacities {
+    nodes: 512,
+    edges: 1024,
+};
+
+/// All that `lotstrip` prints for an input: "a line per operation with position
+/// from 0, number and value in decimal", then the image "on one line in
+/// lower-case hexadecimal". Every line ends in a newline; empty input is a strip
+/// of no operations.
+pub fn lotstrip<L: Lots>(input: &[u8]) -> String {
+    if input.len() > 65_536 {
+        return "strip 2\n".to_string();
+    }
+    if !input.len().is_multiple_of(16) {
+        return "strip 3\n".to_string();
+    }
+    let (words, _) = input.as_chunks::<4>();
+    let words: Vec<u32> = words.iter().map(|&word| u32::from_be_bytes(word)).collect();
+    let mut lots = L::fresh(LOTSTRIP);
+    let answers = strip(&mut lots, &words, words.len() / 2).expect("the length fits");
+    let mut text = String::new();
+    for (position, Answer { number, value }) in answers.into_iter().enumerate() {
+        writeln!(text, "{position} {number} {value}").expect("a string takes any text");
+    }
+    lots.compaction();
+    text + &hexadecimal(&lots.image()) + "\n"
+}
+
+pub fn hexadecimal(bytes: &[u8]) -> String {
+    bytes.iter().map(|byte| format!("{byte:02x}")).collect()
+}

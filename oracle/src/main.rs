@@ -1,0 +1,141 @@
+//! The oracle: the unchanged Rust store and a model of document 01's plain
+//! lists, driven by the same operations and compared.
+
+mod calls;
+#[cfg(feature = "serde")]
+mod checked;
+mod compare;
+mod examples;
+mod generate;
+mod image;
+mod maps;
+mod model;
+mod pairs;
+mod panics;
+mod record;
+mod rng;
+mod rust_store;
+mod sequences;
+mod shape;
+mod tally;
+mod texts;
+
+#[path = "stand_in/block.rs"]
+mod block;
+#[path = "stand_in/cfg.rs"]
+mod cfg;
+// The unchanged Rust files, laid out by build.rs: `mod graph`.
+include!(concat!(env!("OUT_DIR"), "/graph.rs"));
+
+use std::path::PathBuf;
+use std::process::ExitCode;
+use std::{env, fs};
+
+use tally::{Difference, Tally};
+
+const USAGE: &str = "usage: oracle/run [--operations N] [--seed S] [--depth D] [--record DIR]";
+
+struct Options {
+    /// How many operations the random sequences make, at the least.
+    operations: u64,
+    seed: u64,
+    /// Up to which length all sequences are made.
+    depth: usize,
+    /// Where to write recorded sequences, in place of comparing.
+    record: Option<PathBuf>,
+}
+
+fn options() -> Result<Options, String> {
+    let mut options = Options {
+        operations: 400_000,
+        seed: 1,
+        depth: 4,
+        record: None,
+    };
+    let mut arguments = env::args().skip(1);
+    while let Some(name) = arguments.next() {
+        let value = arguments.next().ok_or(USAGE)?;
+        let number = || value.parse::<u64>().map_err(|_| USAGE);
+        match name.as_str() {
+            "--operations" => options.operations = number()?,
+            "--seed" => options.seed = number()?,
+            "--depth" => options.depth = number()? as usize,
+            "--record" => options.record = Some(PathBuf::from(value)),
+            _ => return Err(USAGE.to_string()),
+        }
+    }
+    Ok(options)
+}
+
+fn main() -> ExitCode {
+    panics::hide_awaited();
+    let outcome = options().and_then(|options| match &options.record {
+        Some(directory) => write_recorded(directory, options.seed),
+        None => Ok(compare(&options)),
+    });
+    match outcome {
+        Ok(true) => ExitCode::SUCCESS,
+        Ok(false) => ExitCode::FAILURE,
+        Err(text) => {
+            eprintln!("{text}");
+            ExitCode::from(2)
+        }
+    }
+}
+
+fn write_recorded(directory: &PathBuf, seed: u64) -> Result<bool, String> {
+    let files = record::files(seed, &mut Tally::new()).map_err(|found| found.to_string())?;
+    fs::create_dir_all(directory).map_err(|error| error.to_string())?;
+    for (name, text) in files {
+        let path = directory.join(name);
+        fs::write(&path, &text).map_err(|error| error.to_string())?;
+        println!("{}: {} bytes", path.display(), text.len());
+    }
+    Ok(true)
+}
+
+/// Makes every comparison; whether nothing differed.
+fn compare(options: &Options) -> bool {
+    let &Options {
+        operations,
+        seed,
+        depth,
+        ..
+    } = options;
+    println!("seed {seed}");
+    let mut tally = Tally::new();
+    sequences::compare_random(operations, seed, &mut tally);
+    sequences::compare_exhaustive(depth, &mut tally);
+
+    type Part = fn(u64, &mut Tally) -> Result<(), Difference>;
+    let parts: [Part; 7] = [
+        |_, tally| examples::compare(tally),
+        |seed, tally| texts::compare(200, seed, tally),
+        |seed, tally| maps::compare(20_000, seed, tally),
+        |seed, tally| pairs::compare(2_000, seed, tally),
+        |seed, tally| panics::compare(1_000, seed, tally),
+        |seed, tally| compare_checked(1_000, seed, tally),
+        |_, tally| record::compare(tally),
+    ];
+    for part in parts {
+        if let Err(difference) = part(seed, &mut tally) {
+            tally.report(&difference);
+        }
+    }
+    println!("{tally}");
+    println!(
+        "{} compared, {} different",
+        tally.compared(),
+        tally.differences
+    );
+    tally.differences == 0
+}
+
+#[cfg(feature = "serde")]
+use checked::compare as compare_checked;
+
+#[cfg(not(feature = "serde"))]
+fn compare_checked(_: usize, _: u64, _: &mut Tally) -> Result<(), Difference> {
+    println!("validate.rs is not compiled: built without Debian's packages of serde");
+    Ok(())
+}

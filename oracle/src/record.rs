@@ -1,0 +1,383 @@
+//! Recorded sequences with their answers, for tests that replay them without the
+//! Rust. README.md describes the two files.
+//!
+//! In `sequences.txt` every answer is the Rust's, and was compared with the
+//! model's; `images.txt` is the model's alone, for the Rust has no images.
+
+use std::fmt::{Debug, Write};
+
+use crate::calls::{self, Lots, hexadecimal};
+use crate::compare::Trio;
+use crate::generate::{Generator, MEDIUM, MIXES, Mix, SHORT, STRIP, Size, Step, compact_lists};
+use crate::graph::traverse::TraversalDirection;
+use crate::image;
+use crate::model::{Answer, Capacities, DIRECTIONS};
+use crate::rng::Rng;
+use crate::tally::{Difference, Tally, Thing};
+
+pub const SEQUENCES: &str = "sequences.txt";
+pub const IMAGES: &str = "images.txt";
+
+/// The committed files.
+const COMMITTED: [(&str, &str); 2] = [
+    (SEQUENCES, include_str!("../vectors/sequences.txt")),
+    (IMAGES, include_str!("../vectors/images.txt")),
+];
+
+/// Adds a line: a word and numbers, separated by single spaces.
+macro_rules! line {
+    ($text:expr, $($part:tt)*) => {
+        writeln!($text, $($part)*).expect("a string takes any text")
+    };
+}
+
+fn joined(numbers: &[u32]) -> String {
+    numbers.iter().map(|number| format!(" {number}")).collect()
+}
+
+struct Recorder<'t> {
+    text: String,
+    rng: Rng,
+    tally: &'t mut Tally,
+}
+
+impl Recorder<'_> {
+    fn sequence(&mut self, size: Size, mix: Mix, strips: usize) -> Result<(), Difference> {
+        let capacities = size.capacities(&mut self.rng);
+        line!(self.text, "fresh {} {}", capacities.nodes, capacities.edges);
+        let mut trio = Trio::fresh(capacities);
+        for strip in 0..strips {
+            self.refused_strip(&trio)?;
+            self.strip(&mut trio, size, mix)?;
+            self.reads(&trio)?;
+            if strip + 1 < strips && self.rng.one_in(3) {
+                let bytes = image::write(&compact_lists(&mut self.rng, capacities));
+                line!(self.text, "read {}", hexadecimal(&bytes));
+                trio.step(&Step::Read(bytes), self.tally)?;
+            } else {
+                self.compaction(&mut trio)?;
+            }
+            trio.compare_everything(self.tally)?;
+            self.reads(&trio)?;
+        }
+        Ok(())
+    }
+
+    /// Compares what a call gives on the model and on the Rust store, and gives
+    /// the Rust's.
+    fn both<T: PartialEq + Debug>(
+        &mut self,
+        call: &str,
+        expected: T,
+        given: T,
+    ) -> Result<T, Difference> {
+        let place = || call.to_string();
+        self.tally.same(Thing::Call, place, &expected, &given)?;
+        Ok(given)
+    }
+
+    /// Writes a call that leaves a list of words, whose length is its value.
+    fn list(&mut self, call: &str, given: Result<Vec<u32>, Answer>) {
+        let (Answer { number, value }, words) = match given {
+            Ok(words) => (Answer::done(words.len() as u64), words),
+            Err(refused) => (refused, Vec::new()),
+        };
+        line!(self.text, "{call} {number} {value}{}", joined(&words));
+    }
+
+    /// A length for an answer that needs `needed`: exact, longer, or too short.
+    fn length(&mut self, needed: usize) -> usize {
+        match self.rng.below(4) {
+            0 => needed + self.rng.below(4),
+            1 => self.rng.below(needed + 1),
+            _ => needed,
+        }
+    }
+
+    /// A strip of zeros that is refused as a whole.
+    fn refused_strip(&mut self, trio: &Trio) -> Result<(), Difference> {
+        let words = vec![0; self.rng.between(1, 9)];
+        let length = self.rng.below(words.len().div_ceil(2));
+        let call = format!("strip {} {length}", words.len());
+        let (mut model, mut rust) = (trio.model.clone(), trio.rust.clone());
+        let expected = calls::strip(&mut model, &words, length);
+        let given = calls::strip(&mut rust, &words, length);
+        if let Err(Answer { number, value }) = self.both(&call, expected, given)? {
+            line!(self.text, "{call} {number} {value}");
+        }
+        Ok(())
+    }
+
+    fn strip(&mut self, trio: &mut Trio, size: Size, mix: Mix) -> Result<(), Difference> {
+        let count = size.steps(&mut self.rng);
+        line!(self.text, "strip {} {} 0 0", 4 * count, 2 * count);
+        let mut made = 0;
+        while made < count {
+            let mut generator = Generator {
+                rng: &mut self.rng,
+                mix,
+                size,
+            };
+            let step = generator.step(&trio.model);
+            let Step::Operation(words) = step else {
+                continue;
+            };
+            made += 1;
+            let Answer { number, value } = trio.rust.clone().operation(words);
+            let [code, first, second, payload] = words;
+            line!(
+                self.text,
+                "{code} {first} {second} {payload} {number} {value}"
+            );
+            trio.step(&step, self.tally)?;
+            trio.compare_everything(self.tally)?;
+        }
+        Ok(())
+    }
+
+    /// A compaction with one slice too short, if one can be, then one with exact
+    /// lengths.
+    fn compaction(&mut self, trio: &mut Trio) -> Result<(), Difference> {
+        let needs = calls::compaction_needs(&trio.rust);
+        let mut lengths = needs;
+        let which = self.rng.below(3);
+        if needs[which] > 0 {
+            lengths[which] = self.rng.below(needs[which]);
+            self.compact(trio, lengths)?;
+        }
+        self.compact(trio, needs)
+    }
+
+    fn compact(&mut self, trio: &mut Trio, lengths: [usize; 3]) -> Result<(), Difference> {
+        let [nodes, edges, work] = lengths;
+        let call = format!("compact {nodes} {edges} {work}");
+        let expected = calls::compact(&mut trio.model.clone(), lengths);
+        let given = calls::compact(&mut trio.rust.clone(), lengths);
+        match self.both(&call, expected, given)? {
+            Err(Answer { number, value }) => line!(self.text, "{call} {number} {value}"),
+            Ok(left) => {
+                line!(self.text, "{call} 0 0");
+                for (name, words) in ["node-map", "edge-map", "work"].into_iter().zip(left) {
+                    line!(self.text, "{name}{}", joined(&words));
+                }
+                trio.compact(self.tally)?;
+            }
+        }
+        Ok(())
+    }
+
+    /// The whole store's counts, lists and image, and some nodes and edges.
+    fn reads(&mut self, trio: &Trio) -> Result<(), Difference> {
+        let (model, rust) = (&trio.model, &trio.rust);
+        let graph = &rust.graph;
+        let [nodes, edges] = rust.bounds();
+        line!(
+            self.text,
+            "store {nodes} {edges} {} {} {} {}",
+            graph.node_count(),
+            graph.edge_count(),
+            u32::from(graph.is_empty()),
+            u32::from(graph.is_compact())
+        );
+        for (name, expected, given) in [
+            ("nodes", model.live_nodes(), rust.live_nodes()),
+            ("edges", model.live_edges(), rust.live_edges()),
+        ] {
+            let length = self.length(given.len());
+            let call = format!("{name} {length}");
+            let expected = calls::live_list(expected, length);
+            let given = calls::live_list(given, length);
+            let given = self.both(&call, expected, given)?;
+            self.list(&call, given);
+        }
+        let length = self.length(rust.image().len());
+        let call = format!("image {length}");
+        let expected = calls::write_image(model, length);
+        let given = calls::write_image(rust, length);
+        match self.both(&call, expected, given)? {
+            Err(Answer { number, value }) => line!(self.text, "{call} {number} {value}"),
+            Ok(bytes) => line!(
+                self.text,
+                "{call} 0 {} {}",
+                bytes.len(),
+                hexadecimal(&bytes)
+            ),
+        }
+        // One more than there are, so that a slot at the bound comes up too.
+        for _ in 0..3 {
+            let slot = self.rng.below(nodes + 1) as u32;
+            self.node_reads(trio, slot)?;
+            let slot = self.rng.below(edges + 1) as u32;
+            self.edge_reads(trio, slot)?;
+        }
+        Ok(())
+    }
+
+    fn node_reads(&mut self, trio: &Trio, slot: u32) -> Result<(), Difference> {
+        let (model, rust) = (&trio.model, &trio.rust);
+        for (direction, name) in DIRECTIONS.into_iter().zip(["out", "in"]) {
+            let needed = rust.walk(direction, slot).unwrap_or_default().len();
+            let length = self.length(needed);
+            let call = format!("{name} {slot} {length}");
+            let expected = calls::walk(model, direction, slot, length);
+            let given = calls::walk(rust, direction, slot, length);
+            let given = self.both(&call, expected, given)?;
+            self.list(&call, given);
+        }
+        let call = format!("payload {slot}");
+        let (expected, given) = (calls::payload(model, slot), calls::payload(rust, slot));
+        let Answer { number, value } = self.both(&call, expected, given)?;
+        line!(self.text, "{call} {number} {value}");
+
+        // A neighbor, if there is one, so that half of the finds find an edge.
+        let neighbors = model.plain.neighbors(TraversalDirection::Outgoing, slot);
+        let other = match neighbors.as_deref() {
+            Some([first, ..]) if self.rng.one_in(2) => *first,
+            _ => self.rng.below(rust.bounds()[0] + 1) as u32,
+        };
+        let call = format!("find {slot} {other}");
+        let expected = calls::find(model, slot, other);
+        let given = calls::find(rust, slot, other);
+        let Answer { number, value } = self.both(&call, expected, given)?;
+        line!(self.text, "{call} {number} {value}");
+        Ok(())
+    }
+
+    fn edge_reads(&mut self, trio: &Trio, slot: u32) -> Result<(), Difference> {
+        for (name, live_only) in [("record", false), ("live-record", true)] {
+            let call = format!("{name} {slot}");
+            let expected = calls::record(&trio.model, slot, live_only);
+            let given = calls::record(&trio.rust, slot, live_only);
+            let (Answer { number, value }, record) = self.both(&call, expected, given)?;
+            line!(self.text, "{call} {number} {value}{}", joined(&record));
+        }
+        Ok(())
+    }
+}
+
+/// The text of `sequences.txt`.
+fn sequences(seed: u64, tally: &mut Tally) -> Result<String, Difference> {
+    let mut recorder = Recorder {
+        text: format!("sequences of the lot store, seed {seed}\n"),
+        rng: Rng::new(seed),
+        tally,
+    };
+    for turn in 0..24 {
+        recorder.sequence(SHORT, MIXES[turn % MIXES.len()], 2)?;
+    }
+    for mix in MIXES {
+        recorder.sequence(MEDIUM, mix, 1)?;
+    }
+    for mix in [MIXES[0], MIXES[4]] {
+        recorder.sequence(STRIP, mix, 1)?;
+    }
+    Ok(recorder.text)
+}
+
+/// A random image, most of the time spoiled in its lists or in its bytes.
+fn spoiled_image(rng: &mut Rng) -> Vec<u8> {
+    let mut plain = compact_lists(rng, Capacities { nodes: 5, edges: 7 });
+    let (nodes, edges) = (plain.nodes.len() as u32, plain.edges.len());
+    let incidence = match rng.one_in(2) {
+        true => &mut plain.outgoing,
+        false => &mut plain.incoming,
+    };
+    let place = rng.below(edges.max(1));
+    let other = rng.below(edges + 1) as u32;
+    match rng.below(6) {
+        0 => {
+            if let Some(end) = incidence.ends.get_mut(place) {
+                *end = nodes;
+            }
+        }
+        1 => {
+            if let Some(entry) = incidence.lists.iter_mut().flatten().nth(place) {
+                *entry = other;
+            }
+        }
+        _ => {}
+    }
+    let mut bytes = image::write(&plain);
+    let at = rng.below(bytes.len());
+    match rng.below(12) {
+        0 => bytes[at] ^= 1 << rng.below(8),
+        1 => bytes.truncate(at),
+        2 => bytes.truncate(rng.below(4)),
+        3 => bytes.push(0),
+        4 => bytes[rng.pick(&[0, 2])] = rng.pick(&[0x7f, 0x80, 0xff]),
+        5 => *bytes.last_mut().expect("an image has bytes") ^= 1,
+        _ => {}
+    }
+    bytes
+}
+
+/// The text of `images.txt`: capacities, image, and how reading answers.
+fn images(seed: u64) -> String {
+    let mut rng = Rng::new(seed);
+    let mut text = format!("images of the lot store, seed {seed}\n");
+    for _ in 0..240 {
+        let bytes = spoiled_image(&mut rng);
+        let mut capacity = || match rng.below(12) {
+            0 => rng.pick(&[32_769, 1 << 32, u64::MAX]),
+            1 => rng.below(8) as u64,
+            _ => rng.pick(&[7, 8, 32_768]),
+        };
+        let (nodes, edges) = (capacity(), capacity());
+        let Answer { number, value } = match calls::read_image(nodes, edges, &bytes) {
+            Ok(_) => Answer::done(0),
+            Err(refused) => refused,
+        };
+        let bytes = match bytes.as_slice() {
+            [] => "-".to_string(),
+            bytes => hexadecimal(bytes),
+        };
+        line!(text, "{nodes} {edges} {bytes} {number} {value}");
+    }
+    text
+}
+
+/// Whether every rule of an unreadable image has come up, and every other answer
+/// of image reading.
+fn covers_reading(text: &str) -> bool {
+    let numbers = text.lines().skip(1).map(|line| {
+        let mut fields = line.rsplit(' ');
+        (fields.next(), fields.next())
+    });
+    let seen: Vec<_> = numbers.collect();
+    let rules = ["1", "2", "3", "4", "5", "6"];
+    let others = ["0", "2", "13"];
+    rules
+        .iter()
+        .all(|&rule| seen.contains(&(Some(rule), Some("12"))))
+        && others
+            .iter()
+            .all(|&number| seen.iter().any(|seen| seen.1 == Some(number)))
+}
+
+/// Both files, by name.
+pub fn files(seed: u64, tally: &mut Tally) -> Result<[(&'static str, String); 2], Difference> {
+    Ok([(SEQUENCES, sequences(seed, tally)?), (IMAGES, images(seed))])
+}
+
+/// Compares the committed files with what their seed gives, byte for byte.
+pub fn compare(tally: &mut Tally) -> Result<(), Difference> {
+    let mut own = Tally::new();
+    let seed = COMMITTED[0]
+        .1
+        .lines()
+        .next()
+        .and_then(|line| line.rsplit(' ').next());
+    let seed = seed.and_then(|seed| seed.parse().ok()).unwrap_or_default();
+    let files = files(seed, &mut own)?;
+    let covered = own.covers_all() && covers_reading(&files[1].1);
+    for ((name, text), (_, committed)) in files.into_iter().zip(COMMITTED) {
+        let lines = text.lines().zip(committed.lines());
+        let first = (1..).zip(lines).find(|(_, (line, kept))| line != kept);
+        let place = || format!("{name}, first different line {first:?}");
+        tally.same(Thing::Vectors, place, true, text == committed)?;
+    }
+    let place = || "every code, number and rule in the recorded files".to_string();
+    tally.same(Thing::Vectors, place, true, covered)?;
+    tally.add(&own);
+    Ok(())
+}

@@ -1,0 +1,228 @@
+//! What was compared, how often, and what a difference looks like.
+
+use std::fmt::{self, Debug};
+
+use crate::model::Answer;
+
+/// Declares the things that are compared, each with its name in the output and
+/// the sentence that covers it.
+macro_rules! things {
+    ($($thing:ident: $name:literal, $sentence:literal;)*) => {
+        #[derive(Debug, Clone, Copy, PartialEq, Eq)]
+        pub enum Thing { $($thing),* }
+
+        impl Thing {
+            const ALL: &[Self] = &[$(Self::$thing),*];
+
+            const fn described(self) -> (&'static str, &'static str) {
+                match self { $(Self::$thing => ($name, $sentence)),* }
+            }
+        }
+    };
+}
+
+things! {
+    Answer: "answers of operations",
+        "Each operation leaves two words in the answer slice: number and value.";
+    Walk: "walks",
+        "A walk is the list";
+    Degree: "degrees",
+        "a degree its length";
+    Neighbors: "successors and predecessors",
+        "A walk is the list; Removed edges keep their last ends.";
+    Record: "records, of removed edges too",
+        "`Graph::edge` answers for removed edges too";
+    LiveRecord: "live records",
+        "the wrapper `EdgeView::edge` in `view.rs` refuses them";
+    Payload: "node payloads",
+        "a payload is the one last given";
+    Liveness: "yes or no: live",
+        "it is live until removed; Out of range is not live.";
+    LiveList: "lists of live slots",
+        "List of live nodes or edges in slot order";
+    Count: "bounds and counts",
+        "a new slot is the bound, which rises by one; a bound or count itself";
+    Empty: "yes or no: empty",
+        "1 or 0 for a yes or no";
+    Compact: "yes or no: compact",
+        "M1 fresh: bounds 0, compact. M4 redirect to the same end on a compact store: still compact.";
+    Parts: "base parts, runs and rings of all nodes",
+        "`sweep` drops dead slots only if some edge is removed and the run's length is a power of two.";
+    Reached: "orders and ends of base parts, runs and rings",
+        "An edge is in at most one run per direction";
+    Map: "maps of a compaction",
+        "Compaction drops the dead slots, numbers the live ones from 0 in slot order";
+    Lookup: "map lookups",
+        "the slot a map lookup gives or NONE";
+    Identity: "yes or no: identity",
+        "an identity map holds i at each i below the bound";
+    Compose: "compositions of maps",
+        "A short second map gives NONE.";
+    Work: "work slices",
+        "Work then holds the new out adjacency, then the in adjacency";
+    Again: "second compactions",
+        "Compaction drops the dead slots; an identity map holds i at each i below the bound";
+    Image: "images",
+        "the out-lists of nodes 0 up to n−1 joined, then the in-lists";
+    Reading: "image readings",
+        "and the result equals what compaction leaves";
+    Pair: "pairs of images against survivors",
+        "Order and image equality are measured on the plain lists";
+    Example: "examples M1 to M12",
+        "Proof by example";
+    Text: "texts of lotstrip",
+        "It prints a line per operation with position from 0, number and value in decimal, compacts, and prints the image";
+    Panic: "panics of the Rust against numbers",
+        "Panics become numbers.";
+    Check: "answers of validate.rs",
+        "Rules 1 to 5 and 7 are those of `validate.rs` in its order";
+    Call: "calls with lengths of lent slices",
+        "a lent slice too short | 2 | length needed";
+    Vectors: "recorded sequences",
+        "the committed file is what its seed gives";
+}
+
+/// The first thing that the two sides tell differently: what document 01 makes
+/// one expect, by way of the model, and what was given, by the Rust in most
+/// comparisons.
+#[derive(Debug, Clone)]
+pub struct Difference {
+    thing: Thing,
+    place: String,
+    expected: String,
+    given: String,
+}
+
+impl fmt::Display for Difference {
+    fn fmt(&self, formatter: &mut fmt::Formatter<'_>) -> fmt::Result {
+        let (name, sentence) = self.thing.described();
+        writeln!(formatter, "different: {name}, {}", self.place)?;
+        let pairs = self.expected.char_indices().zip(self.given.chars());
+        let same = pairs.take_while(|&((_, a), b)| a == b).last();
+        let from = same.map_or(0, |((at, _), _)| at.saturating_sub(40));
+        for (side, text) in [("expected", &self.expected), ("given", &self.given)] {
+            let shown: String = text.chars().skip(from).take(400).collect();
+            writeln!(formatter, "  {side}: {shown}")?;
+        }
+        write!(formatter, "  covered by: {sentence}")
+    }
+}
+
+/// Codes 1 to 9, and 0 for any other.
+const CODES: usize = 10;
+/// Numbers 0 to 10, of which a strip's operations leave 0 and 4 to 10.
+const NUMBERS: usize = 11;
+
+#[derive(Clone)]
+pub struct Tally {
+    compared: Vec<u64>,
+    answers: [[u64; NUMBERS]; CODES],
+    pub differences: u64,
+}
+
+impl Tally {
+    pub fn new() -> Self {
+        Self {
+            compared: vec![0; Thing::ALL.len()],
+            answers: [[0; NUMBERS]; CODES],
+            differences: 0,
+        }
+    }
+
+    pub fn same<M, R>(
+        &mut self,
+        thing: Thing,
+        place: impl FnOnce() -> String,
+        model: M,
+        rust: R,
+    ) -> Result<(), Difference>
+    where
+        M: PartialEq<R> + Debug,
+        R: Debug,
+    {
+        self.compared[thing as usize] += 1;
+        if model == rust {
+            return Ok(());
+        }
+        Err(Difference {
+            thing,
+            place: place(),
+            expected: format!("{model:?}"),
+            given: format!("{rust:?}"),
+        })
+    }
+
+    /// Counts an operation by its code and the number answered.
+    pub fn answered(&mut self, words: [u32; 4], answer: Answer) {
+        let code = match words[0] as usize {
+            code if code < CODES => code,
+            _ => 0,
+        };
+        self.answers[code][answer.number as usize] += 1;
+    }
+
+    pub fn operations(&self) -> u64 {
+        self.answers.iter().flatten().sum()
+    }
+
+    pub fn compared(&self) -> u64 {
+        self.compared.iter().sum()
+    }
+
+    /// Takes in what another tally counted.
+    pub fn add(&mut self, other: &Self) {
+        let others = other.compared.iter().chain(other.answers.as_flattened());
+        let counts = self
+            .compared
+            .iter_mut()
+            .chain(self.answers.as_flattened_mut());
+        for (count, more) in counts.zip(others) {
+            *count += more;
+        }
+    }
+
+    /// Prints a difference and counts it.
+    pub fn report(&mut self, difference: &dyn fmt::Display) {
+        self.differences += 1;
+        println!("{difference}");
+    }
+
+    /// Whether every code has come up, and every number that a strip's
+    /// operations can leave: 0 and 4 to 10.
+    pub fn covers_all(&self) -> bool {
+        let codes = self.answers.iter().all(|row| row[0] + row[4] > 0);
+        let number = |number: usize| self.answers.iter().any(|row| row[number] > 0);
+        codes && [0, 4, 5, 6, 7, 8, 9, 10].into_iter().all(number)
+    }
+}
+
+impl fmt::Display for Tally {
+    fn fmt(&self, formatter: &mut fmt::Formatter<'_>) -> fmt::Result {
+        let numbers: Vec<usize> = (0..NUMBERS)
+            .filter(|&number| self.answers.iter().any(|row| row[number] > 0))
+            .collect();
+        writeln!(formatter, "operations by code and number answered:")?;
+        write!(formatter, "  {:>7}", "code")?;
+        for &number in &numbers {
+            write!(formatter, " {number:>9}")?;
+        }
+        writeln!(formatter)?;
+        for (code, row) in self.answers.iter().enumerate() {
+            let code = match code {
+                0 => "other".to_string(),
+                _ => code.to_string(),
+            };
+            write!(formatter, "  {code:>7}")?;
+            for &number in &numbers {
+                write!(formatter, " {:>9}", row[number])?;
+            }
+            writeln!(formatter)?;
+        }
+        writeln!(formatter, "compared:")?;
+        for &thing in Thing::ALL {
+            let (name, _) = thing.described();
+            writeln!(formatter, "  {:>11} {name}", self.compared[thing as usize])?;
+        }
+        Ok(())
+    }
+}

@@ -1,0 +1,49 @@
+//! What `lotstrip` prints, from the model and from the Rust, for random strips
+//! and for inputs of every length around the limits.
+
+use crate::calls::{LOTSTRIP, lotstrip};
+use crate::examples::strip_bytes;
+use crate::generate::{Generator, MEDIUM, MIXES, Step};
+use crate::model::Model;
+use crate::rng::Rng;
+use crate::rust_store::RustStore;
+use crate::tally::{Difference, Tally, Thing};
+
+pub fn compare(inputs: usize, seed: u64, tally: &mut Tally) -> Result<(), Difference> {
+    let mut rng = Rng::new(seed);
+    for _ in 0..inputs {
+        let mut model =
+            Model::fresh(LOTSTRIP.nodes.into(), LOTSTRIP.edges.into()).expect("within the limit");
+        let count = rng.below(300);
+        let mut generator = Generator {
+            mix: rng.pick(&MIXES),
+            rng: &mut rng,
+            size: MEDIUM,
+        };
+        let mut operations = Vec::new();
+        while operations.len() < count {
+            if let Step::Operation(words) = generator.step(&model) {
+                model.operation(words);
+                operations.push(words);
+            }
+        }
+        let mut input = strip_bytes(&operations);
+        if rng.one_in(8) {
+            input.truncate(rng.below(input.len() + 1));
+        }
+        compare_input(&input, tally)?;
+    }
+    // 4,096 operations are the most; one byte more is too long.
+    for length in [65_520, 65_521, 65_535, 65_536, 65_537, 65_552] {
+        let node = strip_bytes(&[[1, 0, 0, 7]]);
+        let input: Vec<u8> = node.into_iter().cycle().take(length).collect();
+        compare_input(&input, tally)?;
+    }
+    Ok(())
+}
+
+fn compare_input(input: &[u8], tally: &mut Tally) -> Result<(), Difference> {
+    let place = || format!("an input of {} bytes", input.len());
+    let (expected, given) = (lotstrip::<Model>(input), lotstrip::<RustStore>(input));
+    tally.same(Thing::Text, place, expected, given)
+}
