@@ -5,7 +5,7 @@ use mathlib.Core.Path.{_≡_, refl, sym, ap, _∙_}
 use native.Mathlib.Omega.{arith}
 use lib.Pow.{pow-pos}
 use lib.Count.{ones, ones-le}
-use lib.ListN.{length, getD}
+use lib.ListN.{getD}
 use Rattle.plain.specs.Reads.{live-count}
 use Rattle.plain.specs.Lists.{from, count}
 use Rattle.liveness.specs.Flags.{live-flags}
