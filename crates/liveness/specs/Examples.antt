@@ -1,8 +1,7 @@
 -- Worked examples of the definitions.
-use Prim.Native.Nat.{ℕ}
-use mathlib.Core.Bool.{Bool, true, false}
+use mathlib.Core.Bool.{true, false}
 use mathlib.Core.Path.{_≡_, refl}
-use mathlib.Core.List.{List, [], _∷_}
+use mathlib.Core.List.{[], _∷_}
 use Rattle.plain.specs.Lists.{from, count}
 use Rattle.plain.specs.Reads.{live-from}
 use Rattle.liveness.specs.declared.Counted.the-variants.{Live, Unpacked}
