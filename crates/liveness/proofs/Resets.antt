@@ -1,8 +1,8 @@
 -- What `reset_all_live` leaves: whole words of set bits, and a last word where the slots do not fill their words.
-use Prim.Native.Nat.{ℕ, zero, suc, _+_, _-_, _*_, _/_, _%_, _^_, _≤_, _<_}
-use mathlib.Core.Bool.{Bool, true, false, cond}
-use mathlib.Core.Path.{_≡_, refl, sym, ap, _∙_}
-use mathlib.Core.List.{List, [], _∷_, _++_, append-nil, append-assoc}
+use Prim.Native.Nat.{ℕ, suc, _-_, _*_, _/_, _%_, _^_, _≤_, _<_}
+use mathlib.Core.Bool.{true, false}
+use mathlib.Core.Path.{_≡_, sym, _∙_}
+use mathlib.Core.List.{List, _∷_, _++_, append-nil, append-assoc}
 use native.Mathlib.Omega.{arith}
 use native.Mathlib.Numerals.{add-one}
 use native.Mathlib.Decide.{ℕ-discrete}
@@ -10,7 +10,6 @@ use borrow.Author.Tests.{eq-eqb, ne-eqb}
 use lib.Pow.{ones-lt}
 use lib.ListN.{length, getD, set, drop, replicate, length-append, length-replicate, getD-replicate, List·getD-append}
 use lib.Seq.{ext-getD, getD-at, set-at, drop-cons}
-use Rattle.plain.specs.Lists.{written}
 use Rattle.liveness.specs.Flags.{bit, live-bit, live-flags, packed}
 use Rattle.liveness.specs.Calls.{all-live, Reset}
 use Rattle.liveness.specs.Bits.{full-bit}

@@ -1,5 +1,5 @@
 -- What a store to one liveness word does to the flags, for each way through `push_live` and `clear`.
-use Prim.Native.Nat.{ℕ, zero, suc, _+_, _-_, _*_, _/_, _%_, _^_, _≤_, _<_}
+use Prim.Native.Nat.{ℕ, suc, _+_, _-_, _*_, _/_, _%_, _^_, _≤_, _<_}
 use mathlib.Core.Bool.{Bool, true, false, true≢false}
 use mathlib.Core.Path.{_≡_, refl, sym, ap, ap₂, _∙_, subst}
 use mathlib.Core.List.{List, [], _∷_, _++_}
@@ -9,11 +9,11 @@ use native.Mathlib.Numerals.{add-one}
 use native.Mathlib.Decide.{ℕ-discrete, decLe}
 use borrow.Author.Tests.{eq-eqb, eqb-true}
 use lib.ListN.{length, getD, set}
-use lib.Seq.{getD-set-same, getD-set-other, set-getD, set-out}
+use lib.Seq.{getD-set-same, getD-set-other, set-getD}
 use Rattle.liveness.specs.Flags.{bit, live-bit, live-flags, packed}
 use Rattle.liveness.specs.Calls.{Pushed, Cleared}
-use Rattle.liveness.specs.Bits.{bit-past, mark-here, mark-other, unmark-room, unmark-here, unmark-other}
-use Rattle.liveness.specs.FlagLaws.{length-flags, flag-at, flag-past, flags-suc, flags-same, flags-set, bit-in, bit-out, bit-of, bit-other, packed-full, packed-below, packed-is}
+use Rattle.liveness.specs.Bits.{bit-past, mark-here, mark-other, unmark-here, unmark-other}
+use Rattle.liveness.specs.FlagLaws.{flag-at, flag-past, flags-suc, flags-same, flags-set, bit-in, bit-out, bit-of, bit-other, packed-full, packed-below, packed-is}
 
 -- a frame of one word
 frame : (words : List ℕ) (at w : ℕ) → at < length words → set words at w ≡ set words at (getD (set words at w) at 0)

@@ -2,7 +2,7 @@
 use Prim.Native.Nat.{ℕ, zero, suc, _+_, _-_, _*_, _/_, _%_, _^_, _≤_, _<_}
 use mathlib.Core.Path.{_≡_, refl, sym, ap, _∙_}
 use native.Mathlib.Omega.{arith}
-use native.Mathlib.Nat.{div-one, div-div-eq-div-mul, pow-suc, pow-succ', mod-lt, zero-lt-suc, sub-add-cancel, div-eq-of-lt, one-mul}
+use native.Mathlib.Nat.{div-one, div-div-eq-div-mul, pow-suc, pow-succ', sub-add-cancel, div-eq-of-lt, one-mul}
 use lib.Pow.{pow-pos, shl-exact}
 use Rattle.liveness.specs.Flags.{bit}
 
@@ -15,11 +15,6 @@ bit-zero w = ap (λ (x : ℕ). x % 2) (div-one w)
 pub bit-suc : (w k : ℕ) → bit w (suc k) ≡ bit (w / 2) k
 unfolding bit
 bit-suc w k = ap (λ (x : ℕ). w / x % 2) (pow-succ' 2 k) ∙ ap (λ (x : ℕ). x % 2) (sym (div-div-eq-div-mul w 2 (2 ^ k)))
-
--- a bit is 0 or 1
-pub bit-below : (w k : ℕ) → bit w k < 2
-unfolding bit
-bit-below w k = mod-lt (w / 2 ^ k) (zero-lt-suc 1)
 
 -- a word has no bit past its length
 pub bit-past : (w k : ℕ) → w < 2 ^ k → bit w k ≡ 0

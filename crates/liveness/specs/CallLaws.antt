@@ -1,8 +1,8 @@
 -- What callers conclude from the promises: words that no slot needs are kept, and making all live a second time changes nothing.
-use Prim.Native.Nat.{ℕ, _/_, _<_, _≤_}
+use Prim.Native.Nat.{ℕ, _/_, _<_}
 use mathlib.Core.Path.{_≡_, sym, ap, _∙_}
 use mathlib.Core.List.{List, _++_}
-use lib.ListN.{length, getD, set, drop}
+use lib.ListN.{length, getD, drop}
 use lib.Seq.{drop-set-lt, drop-append-seam}
 use Rattle.liveness.specs.Calls.{Pushed, Cleared, Reset, all-live}
 

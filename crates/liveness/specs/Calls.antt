@@ -3,7 +3,7 @@ use Prim.Native.Nat.{ℕ, _+_, _-_, _/_, _%_, _^_}
 use mathlib.Core.Bool.{Bool, true, false, cond}
 use mathlib.Core.Path.{_≡_}
 use mathlib.Core.List.{List, [], _∷_, _++_}
-use lib.ListN.{getD, set, drop, replicate}
+use lib.ListN.{getD, set, replicate}
 use lib.Dec.{eqb}
 use Rattle.plain.specs.Lists.{written}
 use Rattle.liveness.specs.Flags.{live-flags, packed}

@@ -1,8 +1,8 @@
 -- What liveness words mean: a list of live flags, a bit a slot, 64 slots a word, the lowest bit first.
-use Prim.Native.Nat.{ℕ, _+_, _/_, _%_, _^_}
-use mathlib.Core.Bool.{Bool, true, false, cond}
-use mathlib.Core.List.{List, [], _∷_, _++_, map}
-use lib.ListN.{getD, drop, replicate}
+use Prim.Native.Nat.{ℕ, _/_, _%_, _^_}
+use mathlib.Core.Bool.{Bool, true, cond}
+use mathlib.Core.List.{List, map}
+use lib.ListN.{length, getD, drop}
 use lib.Dec.{eqb}
 use Rattle.plain.specs.Lists.{from}
 use Rattle.plain.specs.Reads.{live-count, live-from}
@@ -30,5 +30,5 @@ unfoldable pub counted : List ℕ → ℕ → Counted
 counted words slots = cond (packed words slots) (Live (live-count (live-flags words slots))) Unpacked
 
 -- The first live slot at or after a slot, and the number of slots where there is none.
-unfoldable pub next-live : List Bool → ℕ → ℕ → ℕ
-next-live flags slots x = getD (live-from x (drop x flags)) 0 slots
+unfoldable pub next-live : List Bool → ℕ → ℕ
+next-live flags x = getD (live-from x (drop x flags)) 0 (length flags)

@@ -6,3 +6,4 @@ pub mod FlagLaws
 pub mod Rank
 pub mod WordFlags
 pub mod Next
+pub mod Examples

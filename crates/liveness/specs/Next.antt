@@ -14,38 +14,38 @@ use lib.Count.{trailingZeros, under}
 use lib.ListN.{length, getD, drop, drop-of-length-le}
 use lib.Seq.{drop-cons}
 use Rattle.plain.specs.Reads.{live-from}
-use Rattle.liveness.specs.Flags.{bit, live-bit, live-flags, next-live}
+use Rattle.liveness.specs.Flags.{bit, live-flags, next-live}
 use Rattle.liveness.specs.Bits.{bit-zero, bit-suc, bit-past, unmark-room}
 use Rattle.liveness.specs.FlagLaws.{length-flags, flag-at, flag-past, bit-of}
 
 -- ---- on flags
 
-module _ (flags : List Bool) (slots : ℕ) where
+module _ (flags : List Bool) where
   -- past the end there is none
-  pub next-end : (x : ℕ) → length flags ≤ x → next-live flags slots x ≡ slots
+  pub next-end : (x : ℕ) → length flags ≤ x → next-live flags x ≡ length flags
   unfolding next-live live-from
   next-end x h = rw (drop-of-length-le flags h)
 
   -- a live slot is the next itself
-  pub next-here : (x : ℕ) → x < length flags → getD flags x false ≡ true → next-live flags slots x ≡ x
+  pub next-here : (x : ℕ) → x < length flags → getD flags x false ≡ true → next-live flags x ≡ x
   unfolding next-live live-from
   next-here x l h = rw (drop-cons flags x false l, h)
 
   -- from a dead slot it is the next from the slot after it
-  next-dead : (x : ℕ) → getD flags x false ≡ false → next-live flags slots x ≡ next-live flags slots (suc x)
+  next-dead : (x : ℕ) → getD flags x false ≡ false → next-live flags x ≡ next-live flags (suc x)
   unfolding next-live live-from
   next-dead x h = at (decLe (length flags) x)
     where
-      at : Dec (length flags ≤ x) → next-live flags slots x ≡ next-live flags slots (suc x)
+      at : Dec (length flags ≤ x) → next-live flags x ≡ next-live flags (suc x)
       at (yes l) = rw (drop-of-length-le flags {i = x} l, drop-of-length-le flags {i = suc x} (omega arith))
       at (no n) = rw (drop-cons flags x false (omega arith), h)
 
   -- over dead slots it stays the same
-  pub next-skip : (n x : ℕ) → ((i : ℕ) → x ≤ i → i < x + n → getD flags i false ≡ false) → next-live flags slots x ≡ next-live flags slots (x + n)
+  pub next-skip : (n x : ℕ) → ((i : ℕ) → x ≤ i → i < x + n → getD flags i false ≡ false) → next-live flags x ≡ next-live flags (x + n)
   next-skip zero x h = rw (add-zero x)
   next-skip (suc n) x h =
       let e : suc x + n ≡ x + suc n = omega arith in
-      next-dead x (h x (omega arith) (omega arith)) ∙ next-skip n (suc x) (λ i l k. h i (omega arith) (omega arith)) ∙ ap (next-live flags slots) e
+      next-dead x (h x (omega arith) (omega arith)) ∙ next-skip n (suc x) (λ i l k. h i (omega arith) (omega arith)) ∙ ap (next-live flags) e
 
 -- ---- listing by the next live slot
 
@@ -81,7 +81,7 @@ module _ (flags : List Bool) where
       )
 
   -- where the next live slot is a slot, the list of live slots goes on with it
-  pub listed-next : (x : ℕ) → next-live flags (length flags) x < length flags → Listed flags x (next-live flags (length flags) x)
+  pub listed-next : (x : ℕ) → next-live flags x < length flags → Listed flags x (next-live flags x)
   unfolding next-live
   listed-next x h = at (listed (length flags) x (omega arith))
     where
@@ -90,7 +90,7 @@ module _ (flags : List Bool) where
       at (inr (r, some)) = rw (some .lists) some
 
   -- where it is none, the list ends
-  pub listed-end : (x : ℕ) → length flags ≤ next-live flags (length flags) x → live-from x (drop x flags) ≡ []
+  pub listed-end : (x : ℕ) → length flags ≤ next-live flags x → live-from x (drop x flags) ≡ []
   unfolding next-live
   listed-end x h = at (listed (length flags) x (omega arith))
     where
@@ -155,8 +155,8 @@ module _ (words : List ℕ) (slots : ℕ) where
 
   -- slots of one word whose bits are 0 are passed over
   skip-bits : (x n : ℕ) → x % 64 + n ≤ 64 → ((j : ℕ) → j < n → bit (getD words (x / 64) 0 / 2 ^ (x % 64)) j ≡ 0)
-      → next-live (live-flags words slots) slots x ≡ next-live (live-flags words slots) slots (x + n)
-  skip-bits x n r z = next-skip (live-flags words slots) slots n x dead
+      → next-live (live-flags words slots) x ≡ next-live (live-flags words slots) (x + n)
+  skip-bits x n r z = next-skip (live-flags words slots) n x dead
     where
       dead : (i : ℕ) → x ≤ i → i < x + n → getD (live-flags words slots) i false ≡ false
       dead i l k =
@@ -166,14 +166,14 @@ module _ (words : List ℕ) (slots : ℕ) where
 
   -- the rest of a slot's word is 0: the next is the next from the word after it
   pub next-zero : (x : ℕ) → getD words (x / 64) 0 / 2 ^ (x % 64) ≡ 0
-      → next-live (live-flags words slots) slots x ≡ next-live (live-flags words slots) slots (64 * (x / 64 + 1))
+      → next-live (live-flags words slots) x ≡ next-live (live-flags words slots) (64 * (x / 64 + 1))
   next-zero x z =
       let e : x + (64 - x % 64) ≡ 64 * (x / 64 + 1) = omega arith in
-      skip-bits x (64 - x % 64) (omega arith) (λ j l. rw z (bit-past 0 j (pow-pos j))) ∙ ap (next-live (live-flags words slots) slots) e
+      skip-bits x (64 - x % 64) (omega arith) (λ j l. rw z (bit-past 0 j (pow-pos j))) ∙ ap (next-live (live-flags words slots)) e
 
   -- the rest of a slot's word is not 0: the next is at its lowest set bit, unless that is past the slots
   pub next-word : (x : ℕ) → x < slots → getD words (x / 64) 0 < 2 ^ 64 → (getD words (x / 64) 0 / 2 ^ (x % 64) ≡ 0 → ⊥)
-      → next-live (live-flags words slots) slots x ≡ min (x + trailingZeros 64 (getD words (x / 64) 0 / 2 ^ (x % 64))) slots
+      → next-live (live-flags words slots) x ≡ min (x + trailingZeros 64 (getD words (x / 64) 0 / 2 ^ (x % 64))) slots
   next-word x l f n =
       at (trailingZeros 64 v) (zeros-one (getD words (x / 64) 0) (x % 64) f n) (zeros-room (getD words (x / 64) 0) (x % 64) f n) (zeros-below 64 v)
       (decLe slots (x + trailingZeros 64 v))
@@ -183,26 +183,26 @@ module _ (words : List ℕ) (slots : ℕ) where
 
       at : (t : ℕ) → bit (getD words (x / 64) 0) (x % 64 + t) ≡ 1 → x % 64 + t < 64
           → ((j : ℕ) → j < t → bit (getD words (x / 64) 0 / 2 ^ (x % 64)) j ≡ 0)
-          → Dec (slots ≤ x + t) → next-live (live-flags words slots) slots x ≡ min (x + t) slots
+          → Dec (slots ≤ x + t) → next-live (live-flags words slots) x ≡ min (x + t) slots
       at t o s z (yes h) =
           let e : x + (slots - x) ≡ slots = omega arith in
           let m : slots ≡ min (x + t) slots = omega arith in
           skip-bits x (slots - x) (omega arith) (λ j k. z j (omega arith))
-          ∙ next-end (live-flags words slots) slots (x + (slots - x)) (rw (length-flags, e) (omega arith)) ∙ m
+          ∙ next-end (live-flags words slots) (x + (slots - x)) (rw (length-flags, e) (omega arith)) ∙ length-flags words slots ∙ m
       at t o s z (no h) =
           let d : (x + t) / 64 ≡ x / 64 = omega arith in
           let r : (x + t) % 64 ≡ x % 64 + t = omega arith in
           let b : bit (getD words (x / 64) 0) ((x + t) % 64) ≡ 1 = rw r o in
           let m : x + t ≡ min (x + t) slots = omega arith in
           skip-bits x t (omega arith) z
-          ∙ next-here (live-flags words slots) slots (x + t) (rw length-flags (omega arith))
+          ∙ next-here (live-flags words slots) (x + t) (rw length-flags (omega arith))
           (flag-at words slots (x + t) (omega arith) ∙ bit-of words (x / 64) (x + t) d ∙ eq-eqb (bit (getD words (x / 64) 0) ((x + t) % 64)) 1 b) ∙ m
 
 -- ---- from the first slot of a word
 
 module _ (words : List ℕ) (slots i : ℕ) where
   -- the word is 0
-  pub next-word-zero : getD words i 0 ≡ 0 → next-live (live-flags words slots) slots (64 * i) ≡ next-live (live-flags words slots) slots (64 * (i + 1))
+  pub next-word-zero : getD words i 0 ≡ 0 → next-live (live-flags words slots) (64 * i) ≡ next-live (live-flags words slots) (64 * (i + 1))
   next-word-zero z =
       let d : 64 * i / 64 ≡ i = omega arith in
       let m : 64 * i % 64 ≡ 0 = omega arith in
@@ -210,7 +210,7 @@ module _ (words : List ℕ) (slots i : ℕ) where
 
   -- it is not
   pub next-word-here : 64 * i < slots → getD words i 0 < 2 ^ 64 → (getD words i 0 ≡ 0 → ⊥)
-      → next-live (live-flags words slots) slots (64 * i) ≡ min (64 * i + trailingZeros 64 (getD words i 0)) slots
+      → next-live (live-flags words slots) (64 * i) ≡ min (64 * i + trailingZeros 64 (getD words i 0)) slots
   next-word-here l f n =
       let d : 64 * i / 64 ≡ i = omega arith in
       let m : 64 * i % 64 ≡ 0 = omega arith in

@@ -2,10 +2,10 @@
 use Prim.Native.Nat.{ℕ, zero, suc, _+_, _≤_, _<_}
 use mathlib.Core.Bool.{Bool, true, false, cond}
 use mathlib.Core.Path.{_≡_, refl, sym, ap, _∙_}
-use mathlib.Core.List.{List, [], _∷_, _++_, append-nil}
+use mathlib.Core.List.{List, [], _∷_, _++_}
 use native.Mathlib.Omega.{arith}
 use native.Mathlib.Nat.{zero-add, add-assoc}
-use lib.ListN.{length, getD, set, take, length-append, replicate}
+use lib.ListN.{length, getD, set, take, replicate}
 use lib.Seq.{take-all}
 use Rattle.plain.specs.Lists.{count}
 use Rattle.plain.specs.Reads.{live-count}

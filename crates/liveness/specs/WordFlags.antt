@@ -1,6 +1,6 @@
 -- The flags of one word, and how they join to the flags of all words: what counting a word at a time rests on.
-use Prim.Native.Nat.{ℕ, zero, suc, _+_, _-_, _*_, _/_, _%_, _^_, _≤_, _<_}
-use mathlib.Core.Bool.{Bool, true, false, cond}
+use Prim.Native.Nat.{ℕ, zero, suc, _+_, _*_, _/_, _%_, _^_, _≤_, _<_}
+use mathlib.Core.Bool.{Bool, cond}
 use mathlib.Core.Path.{_≡_, refl, sym, ap, ap₂, _∙_}
 use mathlib.Core.List.{List, [], _∷_, _++_, append-nil, append-assoc}
 use native.Mathlib.Omega.{arith}
@@ -14,7 +14,7 @@ use lib.ListN.{getD}
 use Rattle.plain.specs.Lists.{count}
 use Rattle.plain.specs.Reads.{live-count}
 use Rattle.plain.specs.Compaction.{rank}
-use Rattle.liveness.specs.Flags.{bit, live-bit, live-flags}
+use Rattle.liveness.specs.Flags.{bit, live-flags}
 use Rattle.liveness.specs.Bits.{bit-zero, bit-suc}
 use Rattle.liveness.specs.FlagLaws.{length-flags, flags-suc, flags-take, bit-of}
 use Rattle.liveness.specs.Rank.{live-count-append, live-count-le, rank-take}

@@ -139,7 +139,7 @@ fn least(a: usize, b: usize) -> usize
 // The first live slot from word `start` on, and `slots` where there is none, a word at a time.
 fn next_in_words(words: &[u64], slots: usize, start: usize) -> usize
     requires { ⌜ (slots ≤ 64 * length (now words)) × (0 < slots) ⌝ }
-    ensures { λ r. ⌜ r ≡ next-live (live-flags (now (words .entry)) slots) slots (64 * start) ⌝ }
+    ensures { λ r. ⌜ r ≡ next-live (live-flags (now (words .entry)) slots) (64 * start) ⌝ }
 {
     let last = (slots - 1) / 64;
     let mut i = start;
@@ -156,7 +156,7 @@ fn next_in_words(words: &[u64], slots: usize, start: usize) -> usize
 // The first live slot at or after `from`, and `slots` where there is none.
 pub fn next_live(words: &[u64], slots: usize, from: usize) -> usize
     requires { ⌜ slots ≤ 64 * length (now words) ⌝ }
-    ensures { λ r. ⌜ r ≡ next-live (live-flags (now (words .entry)) slots) slots from ⌝ }
+    ensures { λ r. ⌜ r ≡ next-live (live-flags (now (words .entry)) slots) from ⌝ }
 {
     if slots <= from {
         return slots;

@@ -1,8 +1,8 @@
 -- One turn of each loop over a map, and what `compose` answers where the result slice is too short and where it is not.
 use Prim.Native.Nat.{ℕ, zero, suc, _+_, _-_, _≤_, _<_}
-use mathlib.Core.Bool.{Bool, true, false, cond, _&&_}
+use mathlib.Core.Bool.{Bool, true, false, _&&_}
 use mathlib.Core.Path.{_≡_, refl, sym, ap, _∙_}
-use mathlib.Core.List.{List, [], _∷_, _++_, map}
+use mathlib.Core.List.{List, [], _∷_, _++_}
 use native.Mathlib.Omega.{arith}
 use native.Mathlib.Nat.{zero-add, sub-zero}
 use native.Mathlib.Numerals.{add-one}
@@ -10,7 +10,6 @@ use borrow.Author.Tests.{eq-eqb, ne-eqb, le-leb, lt-leb}
 use lib.Dec.{eqb}
 use lib.ListN.{length, getD, set, take, drop, length-map, List·getD-eq-default, drop-of-length-le}
 use lib.Seq.{paste-suc, drop-cons, take-length}
-use Rattle.plain.specs.declared.Answer.{Answer}
 use Rattle.plain.specs.Numbers.{NONE}
 use Rattle.plain.specs.Lists.{same, from}
 use Rattle.plain.specs.Renumbering.{lookup, composed, compose, is-identity-map}

@@ -20,7 +20,9 @@ slice-read-words : tie.Need-slice-read-words
 slice-read-words c = omega (arith, live-below _ _ _ (c .before .before .before .before .before .pre) (live c))
 
 sub-words : tie.Need-sub-words
-sub-words c = rw power (unmark-room _ _ (live-one _ _ _ (c .before .before .before .before .before .pre) (live c)))
+sub-words c =
+    let s = c .before .before .before .before .before in
+    omega (arith, power (s .args .slot), unmark-room _ _ (live-one _ _ _ (s .pre) (live c)))
 
 slice-write-words : tie.Need-slice-write-words
 slice-write-words c = omega (arith, live-below _ _ _ (c .before .before .before .before .before .pre) (live c))

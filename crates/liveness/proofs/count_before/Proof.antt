@@ -5,7 +5,7 @@ use mathlib.Core.Path.{_≡_, refl, sym, ap, _∙_}
 use native.Mathlib.Omega.{arith}
 use lib.Pow.{pow-pos}
 use lib.Count.{ones, ones-le}
-use lib.ListN.{length, getD}
+use lib.ListN.{getD}
 use Rattle.plain.specs.Reads.{live-count}
 use Rattle.plain.specs.Lists.{from, count}
 use Rattle.liveness.specs.Flags.{live-flags}
@@ -64,7 +64,7 @@ bound : (c : tie.After-shared-slice-known2 Inv-loop μ-loop)
 bound c = let a = c .before .before .before .before .args in count-le (a .words .now) (a .slots)
 
 rem-result : tie.Need-rem-result Inv-loop μ-loop
-rem-result c = rw power (pow-pos _)
+rem-result c = let slots = c .before .before .before .before .args .slots in omega (arith, power slots, pow-pos (slots % 64))
 
 cast-result : tie.Need-cast-result Inv-loop μ-loop
 cast-result c = rw power (omega (arith, whole c, bound c))

@@ -1,7 +1,7 @@
 -- `liveness::next_in_words` meets its contract. The loop's invariant: the next live slot from the first word on is that from word `i` on.
 -- The measure is the number of words left.
 use Prim.Native.Nat.{_+_, _-_, _*_, _<_}
-use mathlib.Core.Path.{_≡_, refl, sym, ap, _∙_}
+use mathlib.Core.Path.{_≡_, refl, sym, _∙_}
 use native.Mathlib.Omega.{arith}
 use native.Mathlib.Nat.{div-one}
 use borrow.Author.Needs.{needs}
@@ -15,7 +15,7 @@ use Rattle.liveness.proofs.next_in_words.Tie as tie
 
 abbrev Inv-loop : tie.InvT-loop
 Inv-loop words slots start last i₀ i =
-    next-live (live-flags words slots) slots (64 * start) ≡ next-live (live-flags words slots) slots (64 * i)
+    next-live (live-flags words slots) (64 * start) ≡ next-live (live-flags words slots) (64 * i)
 
 abbrev μ-loop : tie.MeasureT-loop
 μ-loop words slots start last i₀ i = last + 1 - i
@@ -39,7 +39,7 @@ loop-again : tie.Need-loop-again Inv-loop μ-loop
 loop-again c = c .before .before .before .loop .inv ∙ next-word-zero _ _ _ (omega arith)
 
 returns-2 : tie.Need-returns-2 Inv-loop μ-loop
-returns-2 c = sym (c .before .loop .inv ∙ next-end _ _ _ (rw length-flags (omega arith)))
+returns-2 c = sym (c .before .loop .inv ∙ next-end _ _ (rw length-flags (omega arith)) ∙ length-flags _ _)
 
 pub next-in-words-spec : {M : Type 1} → statement M
 next-in-words-spec =

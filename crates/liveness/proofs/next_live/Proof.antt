@@ -11,7 +11,7 @@ use Rattle.liveness.proofs.next_live.Statement.{statement}
 use Rattle.liveness.proofs.next_live.Tie as tie
 
 returns : tie.Need-returns
-returns c = sym (next-end _ _ _ (rw length-flags (c .if1 .taken)))
+returns c = sym (next-end _ _ (rw length-flags (c .if1 .taken)) ∙ length-flags _ _)
 
 -- the lowest set bit of the rest of the word
 room : (c : tie.Then2)

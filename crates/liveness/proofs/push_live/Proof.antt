@@ -1,11 +1,9 @@
 -- `liveness::push_live` meets its contract: the three ways are `push-first`, `push-bit` and `push-set` of proofs/Words.antt.
-use mathlib.Core.Path.{_≡_}
 use native.Mathlib.Omega.{arith}
 use borrow.Author.Needs.{needs}
-use lib.ListN.{getD}
-use Prim.Native.Nat.{_/_, _%_, _^_, _*_}
+use Prim.Native.Nat.{_/_, _%_}
 use Rattle.liveness.specs.Flags.{bit}
-use Rattle.liveness.specs.Bits.{power, mark-below, bit-below}
+use Rattle.liveness.specs.Bits.{power, mark-below}
 use Rattle.liveness.proofs.Words.{push-first, push-bit, push-set}
 use Rattle.liveness.proofs.push_live.Statement.{statement}
 use Rattle.liveness.proofs.push_live.Tie as tie

@@ -1,0 +1,15 @@
+-- What the exported forms return where the wrapped function returns an enum or a record.
+use Prim.Native.Nat.{ℕ}
+use mathlib.Core.Bool.{Bool, true, false}
+use Rattle.plain.specs.declared.Answer.{Answer}
+use Rattle.liveness.specs.declared.Counted.{Counted}
+use Rattle.liveness.specs.declared.Counted.the-variants.{Live, Unpacked}
+
+-- a count by whether the words are packed, and the number of live slots
+abbrev pub counted-as : Bool → ℕ → Counted
+counted-as true n = Live n
+counted-as false n = Unpacked
+
+-- an answer by its number and its value
+abbrev pub of : ℕ → ℕ → Answer
+of number value = record { number = number; value = value }

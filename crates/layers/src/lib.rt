@@ -1,0 +1,108 @@
+// Liveness and renumbering for programs in C or Rust: each function by its wrapped contract, over slices and numbers. The callers of the
+// liveness functions see to the length of the words, which those require.
+
+ghost use mathlib.Core.Path.{_≡_};
+ghost use mathlib.Core.Bool.{false};
+ghost use Prim.Native.Nat.{_*_, _<_, _≤_};
+ghost use lib.ListN.{length, getD};
+ghost use Rattle.plain.specs.Compaction.{rank};
+ghost use Rattle.liveness.specs.Flags.{live-flags, counted, next-live};
+ghost use Rattle.liveness.specs.Calls.{Pushed, Cleared, Reset};
+ghost use Rattle.renumbering.specs.Calls.{Lookup, Compose, IsIdentity};
+ghost use Rattle.layers.specs.Words.{counted-as, of};
+
+#[no_mangle]
+pub extern "C" fn lot_push_live(words: &mut [u64], slots: usize)
+    requires { ⌜ slots < 64 * length (now words) ⌝ }
+    ensures { λ _. ⌜ Pushed (now (words .entry)) slots (now (words .exit)) ⌝ }
+{
+    liveness::push_live(words, slots);
+}
+
+#[no_mangle]
+pub extern "C" fn lot_is_live(words: &[u64], slots: usize, slot: usize) -> bool
+    requires { ⌜ slots ≤ 64 * length (now words) ⌝ }
+    ensures { λ r. ⌜ r ≡ getD (live-flags (now (words .entry)) slots) slot false ⌝ }
+{
+    liveness::is_live(words, slots, slot)
+}
+
+#[no_mangle]
+pub extern "C" fn lot_clear(words: &mut [u64], slots: usize, slot: usize) -> bool
+    requires { ⌜ slots ≤ 64 * length (now words) ⌝ }
+    ensures { λ r. ⌜ Cleared (now (words .entry)) slots slot r (now (words .exit)) ⌝ }
+{
+    liveness::clear(words, slots, slot)
+}
+
+// Whether the words are packed; the count is written through `live` where they are.
+#[no_mangle]
+pub extern "C" fn lot_count_live(words: &[u64], slots: usize, live: &mut usize) -> bool
+    requires { ⌜ slots ≤ 64 * length (now words) ⌝ }
+    ensures { λ r. ⌜ counted (now (words .entry)) slots ≡ counted-as r (now (live .exit)) ⌝ }
+{
+    match liveness::count_live(words, slots) {
+        liveness::Counted::Live(n) => {
+            *live = n;
+            true
+        }
+        liveness::Counted::Unpacked => false,
+    }
+}
+
+#[no_mangle]
+pub extern "C" fn lot_rank(words: &[u64], slots: usize, slot: usize) -> usize
+    requires { ⌜ slots ≤ 64 * length (now words) ⌝ }
+    ensures { λ r. ⌜ r ≡ rank (live-flags (now (words .entry)) slots) slot ⌝ }
+{
+    liveness::rank(words, slots, slot)
+}
+
+#[no_mangle]
+pub extern "C" fn lot_reset_all_live(words: &mut [u64], slots: usize)
+    requires { ⌜ slots ≤ 64 * length (now words) ⌝ }
+    ensures { λ _. ⌜ Reset (now (words .entry)) slots (now (words .exit)) ⌝ }
+{
+    liveness::reset_all_live(words, slots);
+}
+
+#[no_mangle]
+pub extern "C" fn lot_next_live(words: &[u64], slots: usize, from: usize) -> usize
+    requires { ⌜ slots ≤ 64 * length (now words) ⌝ }
+    ensures { λ r. ⌜ r ≡ next-live (live-flags (now (words .entry)) slots) from ⌝ }
+{
+    liveness::next_live(words, slots, from)
+}
+
+// Each answer's number is returned, and its value written through `value`.
+#[no_mangle]
+pub extern "C" fn lot_lookup(renumbering: &[u32], slot: u32, value: &mut u64) -> u32
+    ensures { λ r. ⌜ Lookup (now (renumbering .entry)) slot (of r (now (value .exit))) ⌝ }
+{
+    let answer = renumbering::lookup(renumbering, slot);
+    *value = answer.value;
+    answer.number
+}
+
+#[no_mangle]
+pub extern "C" fn lot_compose(
+    first: &[u32],
+    second: &[u32],
+    result: &mut [u32],
+    value: &mut u64,
+) -> u32
+    ensures { λ r. ⌜ Compose (now (first .entry)) (now (second .entry)) (now (result .entry)) (of r (now (value .exit))) (now (result .exit)) ⌝ }
+{
+    let answer = renumbering::compose(first, second, result);
+    *value = answer.value;
+    answer.number
+}
+
+#[no_mangle]
+pub extern "C" fn lot_is_identity(nodes: &[u32], edges: &[u32], value: &mut u64) -> u32
+    ensures { λ r. ⌜ IsIdentity (now (nodes .entry)) (now (edges .entry)) (of r (now (value .exit))) ⌝ }
+{
+    let answer = renumbering::is_identity(nodes, edges);
+    *value = answer.value;
+    answer.number
+}
