@@ -17,7 +17,8 @@ use Rattle.plain.specs.Compaction.{rank}
 use Rattle.liveness.specs.Flags.{bit, live-flags}
 use Rattle.liveness.specs.Bits.{bit-zero, bit-suc}
 use Rattle.liveness.specs.FlagLaws.{length-flags, flags-suc, flags-take, bit-of}
-use Rattle.liveness.specs.Rank.{live-count-append, live-count-le, rank-take}
+use Rattle.plain.specs.Laws.ListLaws.{count-append, count-length}
+use Rattle.plain.specs.Laws.Rank.{rank-take}
 
 -- the k lowest flags of a word
 unfoldable pub word-flags : ℕ → ℕ → List Bool
@@ -68,7 +69,7 @@ pub count-turn : (words : List ℕ) (i : ℕ) → getD words i 0 < 2 ^ 64
     → live-count (live-flags words (64 * (i + 1))) ≡ live-count (live-flags words (64 * i)) + ones (getD words i 0)
 count-turn words i h =
     let e : 64 * (i + 1) ≡ 64 * i + 64 = omega arith in
-    rw (e, flags-block words i 64 (omega arith), live-count-append, count-word 64 (getD words i 0) h)
+    rw (e, flags-block words i 64 (omega arith), count-append (λ (f : Bool). f), count-word 64 (getD words i 0) h)
 
 -- the slots of the last word, where they do not fill it
 pub count-rest : (words : List ℕ) (slots : ℕ)
@@ -76,14 +77,14 @@ pub count-rest : (words : List ℕ) (slots : ℕ)
 count-rest words slots =
     let e : slots ≡ 64 * (slots / 64) + slots % 64 = omega arith in
     ap (λ (n : ℕ). live-count (live-flags words n)) e ∙ ap live-count (flags-block words (slots / 64) (slots % 64) (omega arith))
-    ∙ live-count-append (live-flags words (64 * (slots / 64))) (word-flags (slots % 64) (getD words (slots / 64) 0))
+    ∙ count-append (λ f. f) (live-flags words (64 * (slots / 64))) (word-flags (slots % 64) (getD words (slots / 64) 0))
     ∙ ap (λ (n : ℕ). live-count (live-flags words (64 * (slots / 64))) + n)
     (ap live-count (sym (word-flags-rest (slots % 64) (getD words (slots / 64) 0)))
     ∙ count-word (slots % 64) (getD words (slots / 64) 0 % 2 ^ (slots % 64)) (mod-lt (getD words (slots / 64) 0) (pow-pos (slots % 64))))
 
 -- a count is at most the number of slots
 pub count-le : (words : List ℕ) (slots : ℕ) → live-count (live-flags words slots) ≤ slots
-count-le words slots = omega (arith, live-count-le (live-flags words slots), length-flags words slots)
+count-le words slots = omega (arith, count-length (λ f. f) (live-flags words slots), length-flags words slots)
 
 -- the rank of a slot is the number of live flags of the slots before it
 pub rank-flags : (words : List ℕ) (slots slot : ℕ) → slot ≤ slots → rank (live-flags words slots) slot ≡ live-count (live-flags words slot)

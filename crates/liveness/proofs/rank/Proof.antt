@@ -3,7 +3,7 @@ use mathlib.Core.Path.{sym, _∙_}
 use native.Mathlib.Omega.{arith}
 use borrow.Author.Needs.{needs}
 use Rattle.liveness.specs.FlagLaws.{length-flags}
-use Rattle.liveness.specs.Rank.{rank-end}
+use Rattle.plain.specs.Laws.Rank.{rank-end}
 use Rattle.liveness.specs.WordFlags.{rank-flags}
 use Rattle.liveness.proofs.rank.Statement.{statement}
 use Rattle.liveness.proofs.rank.Tie as tie

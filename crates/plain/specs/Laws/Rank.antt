@@ -6,7 +6,7 @@ use native.Mathlib.Omega.{arith}
 use mathlib.Core.Path.{_≡_, refl, sym, ap, _∙_, subst, fun-ext}
 use mathlib.Core.Bool.{Bool, true, false, cond, _&&_, and-false}
 use mathlib.Core.List.{List, [], _∷_, _++_, map, map-map}
-use lib.ListN.{length, getD, set, replicate, length-append, length-set, List·getD-map}
+use lib.ListN.{length, getD, set, take, replicate, length-append, length-set, List·getD-map}
 use lib.Dec.{ltb, leb·suc-zero, leb·suc-suc, eqb·suc-zero}
 use borrow.Author.Tests.{ltb-true, ltb-false, lt-ltb, le-ltb}
 use Rattle.plain.specs.Lists.{member, distinct, from, count}
@@ -16,6 +16,13 @@ use Rattle.plain.specs.Laws.Booleans.{by-test, true-false}
 use Rattle.plain.specs.Laws.ListLaws.{getD-default, getD-map, member-map, member-zero-suc, member-at, count-append, from-suc, getD-from, distinct-map, distinct-from, map-unchanged}
 
 -- ---- rank
+
+-- the rank counts the live flags before a slot
+pub rank-take : (flags : List Bool) (x : ℕ) → rank flags x ≡ live-count (take x flags)
+unfolding rank count
+rank-take flags zero = refl
+rank-take [] (suc x) = refl
+rank-take (b ∷ flags) (suc x) = ap (λ (n : ℕ). cond b 1 0 + n) (rank-take flags x)
 
 -- a slot's rank is at most its number
 pub rank-index : (flags : List Bool) (x : ℕ) → rank flags x ≤ x
