@@ -12,6 +12,7 @@ pub mod Rank
 pub mod Renumberings
 pub mod Fitting
 pub mod Compacting
+pub mod AllLive
 pub mod Below
 pub mod Bits
 pub mod Packing
@@ -22,3 +23,4 @@ pub mod Refusals
 pub mod ImageLaws
 pub mod Ascending
 pub mod Histories
+pub mod Compactness
