@@ -15,12 +15,12 @@ use Rattle.plain.specs.declared.TraversalDirection.{TraversalDirection}
 use Rattle.plain.specs.declared.TraversalDirection.the-variants.{Outgoing, Incoming}
 use Rattle.plain.specs.declared.Operation.{Operation}
 use Rattle.plain.specs.declared.Operation.the-variants.{AddNode, AddEdge, RemoveEdge, RemoveNode, Redirect, Move, SetPayload, Unknown}
-use Rattle.plain.specs.Lists.{member, without, keep, from}
+use Rattle.plain.specs.Lists.{member, without, keep, from, append-at, delete-at, set-all}
 use Rattle.plain.specs.Plain.{Plain, NodeSlot, EdgeSlot, Incidence, incidence, with-incidence, no-node, no-edge, killed-node, killed-edge, node-flags, edge-flags, node-bound, edge-bound, list-of, end-of, widened, attached, node-added, edge-added, edge-removed, edges-removed, node-removed, redirected, moved, payload-set}
 use Rattle.plain.specs.Step.{Capacities, step}
-use Rattle.plain.specs.Laws.Booleans.{by-test, below-or-not, and-left, or-false, or-true, or-other}
+use Rattle.plain.specs.Laws.Booleans.{by-test, below-or-not, and-left, or-false, or-true, or-other, eqb-comm, true-false}
 use Rattle.plain.specs.Laws.ListLaws.{getD-map, getD-from, length-from, member-append, without-keep}
-use Rattle.plain.specs.Laws.Deleting.{getD-set, getD-snoc, map-set, getD-append-at, length-append-at, without-all, without-all-keeps}
+use Rattle.plain.specs.Laws.Deleting.{getD-set, getD-snoc, map-set, getD-append-at, length-append-at, length-delete-at, without-all, without-all-keeps}
 use Rattle.plain.specs.Laws.Rank.{live-below}
 use Rattle.plain.specs.Laws.WellFormed.{Incident, WellFormed}
 use Rattle.plain.specs.Laws.Directions.{attached-list, redirected-list, moved-list}
@@ -130,7 +130,7 @@ opened-lists flags nodes axis even =
         rw (past, walk-nothing flags (getD (nodes ++ (true ∷ [])) x false), walk-nothing flags (getD nodes x false)))
         (λ q. rw (getD-snoc nodes x true false, q))
 
-add-node-refines : {caps : Capacities} {s : Shape} → Proper caps s → (v : ℕ) → plain-of (acted (AddNode v) s) ≡ node-added v (plain-of s)
+pub add-node-refines : {caps : Capacities} {s : Shape} → Proper caps s → (v : ℕ) → plain-of (acted (AddNode v) s) ≡ node-added v (plain-of s)
 unfolding acted plain-of node-added
 add-node-refines {s = s} h v =
     let slot : NodeSlot = record { payload = v; live = true } in
@@ -211,7 +211,7 @@ module _ {caps : Capacities} {s : Shape} (h : Proper caps s) where
       (length-map (s .edges) (λ (e : EdgeSlot). e .live))
       (appended-lists (edge-flags-of s) (node-flags-of s) (axis-in d s) x (live-node-below d x l) l (flags-below d))
 
-  add-edge-refines : (source target v : ℕ) → getD (node-flags-of s) source false ≡ true → getD (node-flags-of s) target false ≡ true
+  pub add-edge-refines : (source target v : ℕ) → getD (node-flags-of s) source false ≡ true → getD (node-flags-of s) target false ≡ true
       → plain-of (acted (AddEdge source target v) s) ≡ edge-added source target v (plain-of s)
   unfolding acted plain-of edge-added
   add-edge-refines source target v ls lt =
@@ -289,7 +289,7 @@ module _ {caps : Capacities} {s : Shape} (h : Proper caps s) (es : List ℕ) (lo
       (retired-lists Outgoing (node-flags-of s) (λ x. retired-walk (getD (node-flags-of s) x false) (adjacency-of Outgoing s x)))
       (retired-lists Incoming (node-flags-of s) (λ x. retired-walk (getD (node-flags-of s) x false) (adjacency-of Incoming s x)))
 
-remove-edge-refines : {caps : Capacities} {s : Shape} → Proper caps s → (e : ℕ) → getD (edge-flags-of s) e false ≡ true
+pub remove-edge-refines : {caps : Capacities} {s : Shape} → Proper caps s → (e : ℕ) → getD (edge-flags-of s) e false ≡ true
     → plain-of (acted (RemoveEdge e) s) ≡ edge-removed e (plain-of s)
 unfolding acted edges-removed member
 remove-edge-refines {s = s} h e live =
@@ -353,7 +353,7 @@ module _ {caps : Capacities} {s : Shape} (h : Proper caps s) (x : ℕ) (live : g
       ap (λ (f : List Bool). incidence-by (walk-of (retired-flags h incident-edges incident-below)) f (axis-in d s)) cleared-flags
       ∙ retired-lists h incident-edges incident-below d (set (node-flags-of s) x false) (removed-walk d)
 
-  remove-node-refines : plain-of (acted (RemoveNode x) s) ≡ node-removed x (plain-of s)
+  pub remove-node-refines : plain-of (acted (RemoveNode x) s) ≡ node-removed x (plain-of s)
   unfolding acted plain-of node-removed incident-edges retired-flags
   remove-node-refines =
       let p = plain-of s in
@@ -375,3 +375,155 @@ with-axis-refines s Incoming axis i e = plain-ext refl refl refl e
 -- a node whose run was edited walks the live entries of the run
 edited-walk : (flags : List Bool) (run : List ℕ) (a : Adjacency) → walk-of flags true (with-run run a) ≡ live-entries flags run
 edited-walk flags run a = ap (keep (live-in flags)) (append-nil run)
+
+-- one direction of a redirected edge
+module _ (flags nodes : List Bool) (n : ℕ) (axis : Axis) (t : Incident flags n (incidence-by (walk-of flags) nodes axis)) (e new : ℕ)
+    (live : getD flags e false ≡ true) (low : new < n) (live-new : getD nodes new false ≡ true) (live-old : getD nodes (getD (axis .ends) e 0) false ≡ true)
+    (other : eqb new (getD (axis .ends) e 0) ≡ false) where
+  -- every node below n has an adjacency
+  here : (x : ℕ) → x < n → x < length (axis .nodes)
+  here x l = omega (arith, lists-length flags nodes axis, t .lists-length)
+
+  old-below : getD (axis .ends) e 0 < n
+  old-below = t .ends-below e (live-below flags e live)
+
+  redirected-at : (z : ℕ) → getD (incidence-by (walk-of flags) nodes (redirected-axis flags e new axis) .lists) z []
+      ≡ getD (redirected e new (incidence-by (walk-of flags) nodes axis) .lists) z []
+  unfolding redirected-axis
+  redirected-at z =
+      let old = getD (axis .ends) e 0 in
+      let a = getD (axis .nodes) old no-adjacency in
+      let b = getD (axis .nodes) new no-adjacency in
+      let a' = with-run (without e (swept flags (taken flags a))) a in
+      let b' = with-run (swept flags (taken flags b) ++ (e ∷ [])) b in
+      let walk-a : walk-of flags true a' ≡ without e (keep (live-in flags) (raw a)) =
+      edited-walk flags (without e (swept flags (taken flags a))) a ∙ keep-without (live-in flags) e (swept flags (taken flags a)) ∙ ap (without e) (live-edited flags a) in
+      let walk-b : walk-of flags true b' ≡ keep (live-in flags) (raw b) ++ (e ∷ []) =
+      edited-walk flags (swept flags (taken flags b) ++ (e ∷ [])) b ∙ keep-append (live-in flags) (swept flags (taken flags b)) (e ∷ [])
+      ∙ ap₂ (λ (k l : List ℕ). k ++ l) (live-edited flags b) (keep-one (live-in flags) e live) in
+      list-at flags nodes (redirected-axis flags e new axis) z
+      ∙ rw (
+        getD-set (set (axis .nodes) old a') new z b' no-adjacency (rw (length-set (axis .nodes) old a') (here new low)),
+        getD-set (axis .nodes) old z a' no-adjacency (here old old-below),
+        redirected-list e new live low t other z,
+        list-at flags nodes axis new,
+        list-at flags nodes axis old,
+        list-at flags nodes axis z,
+      )
+      (by-test (eqb z new) (λ q. rw (q, eqb-true z new q, live-new) walk-b)
+      (λ q. rw q (by-test (eqb z old) (λ r. rw (r, eqb-true z old r, live-old) walk-a) (λ r. rw r))))
+
+  redirected-lists : incidence-by (walk-of flags) nodes (redirected-axis flags e new axis) ≡ redirected e new (incidence-by (walk-of flags) nodes axis)
+  unfolding redirected-axis redirected
+  redirected-lists =
+      let old = getD (axis .ends) e 0 in
+      let a = getD (axis .nodes) old no-adjacency in
+      let b = getD (axis .nodes) new no-adjacency in
+      let a' = with-run (without e (swept flags (taken flags a))) a in
+      let lists = incidence-by (walk-of flags) nodes axis .lists in
+      incidence-ext refl
+      (lists-length flags nodes (redirected-axis flags e new axis)
+      ∙ length-set (set (axis .nodes) old a') new (with-run (swept flags (taken flags b) ++ (e ∷ [])) b) ∙ length-set (axis .nodes) old a'
+      ∙ sym (length-append-at new (e ∷ []) (delete-at old e lists) ∙ length-delete-at old e lists ∙ lists-length flags nodes axis))
+      redirected-at
+
+-- one direction of a moved list
+module _ (flags nodes : List Bool) (n : ℕ) (axis : Axis) (t : Incident flags n (incidence-by (walk-of flags) nodes axis)) (old new : ℕ)
+    (low-old : old < n) (low : new < n) (live-old : getD nodes old false ≡ true) (live-new : getD nodes new false ≡ true) (other : eqb new old ≡ false) where
+  -- what moves is the walk of the old node
+  moving-is : live-entries flags (taken flags (getD (axis .nodes) old no-adjacency)) ≡ getD (incidence-by (walk-of flags) nodes axis .lists) old []
+  moving-is =
+      live-taken flags (getD (axis .nodes) old no-adjacency)
+      ∙ sym (list-at flags nodes axis old ∙ ap (λ (b : Bool). walk-of flags b (getD (axis .nodes) old no-adjacency)) live-old)
+
+  moved-at : (z : ℕ) → getD (incidence-by (walk-of flags) nodes (moved-axis flags old new axis) .lists) z []
+      ≡ getD (moved old new (incidence-by (walk-of flags) nodes axis) .lists) z []
+  unfolding moved-axis keep
+  moved-at z =
+      let a = getD (axis .nodes) old no-adjacency in
+      let b = getD (axis .nodes) new no-adjacency in
+      let moving = live-entries flags (taken flags a) in
+      let a' = with-run [] a in
+      let b' = with-run (swept flags (taken flags b) ++ moving) b in
+      let there : (x : ℕ) → x < n → x < length (axis .nodes) = λ x l. omega (arith, lists-length flags nodes axis, t .lists-length) in
+      let lists = incidence-by (walk-of flags) nodes axis .lists in
+      let walk-b : walk-of flags true b' ≡ getD lists new [] ++ getD lists old [] =
+      edited-walk flags (swept flags (taken flags b) ++ moving) b ∙ keep-append (live-in flags) (swept flags (taken flags b)) moving
+      ∙ ap₂ (λ (k l : List ℕ). k ++ l)
+      (live-edited flags b ∙ sym (list-at flags nodes axis new ∙ ap (λ (f : Bool). walk-of flags f b) live-new))
+      (keep-again (live-in flags) (taken flags a) ∙ moving-is) in
+      list-at flags nodes (moved-axis flags old new axis) z
+      ∙ rw (
+        getD-set (set (axis .nodes) old a') new z b' no-adjacency (rw (length-set (axis .nodes) old a') (there new low)),
+        getD-set (axis .nodes) old z a' no-adjacency (there old low-old),
+        moved-list old new low-old low t other z,
+      )
+      (by-test (eqb z old) (λ q. rw (q, eqb-true z old q, eqb-comm old new, other, live-old))
+      (λ q. rw q (by-test (eqb z new) (λ r. rw (r, eqb-true z new r, live-new) walk-b) (λ r. rw r (sym (list-at flags nodes axis z))))))
+
+  moved-lists : incidence-by (walk-of flags) nodes (moved-axis flags old new axis) ≡ moved old new (incidence-by (walk-of flags) nodes axis)
+  unfolding moved-axis moved
+  moved-lists =
+      let a = getD (axis .nodes) old no-adjacency in
+      let b = getD (axis .nodes) new no-adjacency in
+      let moving = live-entries flags (taken flags a) in
+      let a' = with-run [] a in
+      let lists = incidence-by (walk-of flags) nodes axis .lists in
+      incidence-ext (ap (λ (l : List ℕ). set-all l new (axis .ends)) moving-is)
+      (lists-length flags nodes (moved-axis flags old new axis) ∙ length-set (set (axis .nodes) old a') new (with-run (swept flags (taken flags b) ++ moving) b)
+      ∙ length-set (axis .nodes) old a'
+      ∙ sym (length-set (append-at new (getD lists old []) lists) old [] ∙ length-append-at new (getD lists old []) lists ∙ lists-length flags nodes axis))
+      moved-at
+
+module _ {caps : Capacities} {s : Shape} (h : Proper caps s) where
+  -- one direction of the shape's lists is well formed
+  direction : (d : TraversalDirection) → Incident (edge-flags-of s) (length (s .nodes)) (incidence-by (walk-of (edge-flags-of s)) (node-flags-of s) (axis-in d s))
+  unfolding plain-of
+  direction Outgoing = h .walks .outgoing
+  direction Incoming = h .walks .incoming
+
+  -- it is that of the plain lists
+  direction-is : (d : TraversalDirection) → incidence-by (walk-of (edge-flags-of s)) (node-flags-of s) (axis-in d s) ≡ incidence d (plain-of s)
+  unfolding plain-of
+  direction-is Outgoing = refl
+  direction-is Incoming = refl
+
+  live-node-low : (x : ℕ) → getD (node-flags-of s) x false ≡ true → x < length (s .nodes)
+  live-node-low x l = omega (arith, live-below (node-flags-of s) x l, length-map (s .nodes) (λ (n : NodeSlot). n .live))
+
+  -- the end of an edge, off the shape
+  end-is : (d : TraversalDirection) (e : ℕ) → end-of d (plain-of s) e ≡ getD (axis-in d s .ends) e 0
+  end-is d e = ap (λ (l : List ℕ). getD l e 0) (ends-of s d)
+
+  pub redirect-refines : (d : TraversalDirection) (e new : ℕ) → getD (edge-flags-of s) e false ≡ true → getD (node-flags-of s) new false ≡ true
+      → (end-of d (plain-of s) e ≡ new → ⊥) → plain-of (acted (Redirect d e new) s) ≡ with-incidence d (redirected e new (incidence d (plain-of s))) (plain-of s)
+  unfolding acted plain-of
+  redirect-refines d e new le ln other =
+      let apart : eqb new (getD (axis-in d s .ends) e 0) ≡ false = ne-eqb new (getD (axis-in d s .ends) e 0) (λ q. other (end-is d e ∙ sym q)) in
+      let live-old : getD (node-flags-of s) (getD (axis-in d s .ends) e 0) false ≡ true =
+      ap (λ (x : ℕ). getD (node-flags-of s) x false) (sym (end-is d e)) ∙ h .walks .ends-live d e le in
+      with-axis-refines s d (redirected-axis (edge-flags-of s) e new (axis-in d s)) (redirected e new (incidence d (plain-of s)))
+      (redirected-lists (edge-flags-of s) (node-flags-of s) (length (s .nodes)) (axis-in d s) (direction d) e new le (live-node-low new ln) ln live-old apart
+      ∙ ap (redirected e new) (direction-is d))
+
+  -- a node with something to walk is live
+  walked-live : (d : TraversalDirection) (x : ℕ) → (list-of d (plain-of s) x ≡ [] → ⊥) → getD (node-flags-of s) x false ≡ true
+  walked-live d x held =
+      by-test (getD (node-flags-of s) x false) (λ l. l)
+      (λ l. absurd (held (list-is-walk s d x ∙ ap (λ (b : Bool). walk-of (edge-flags-of s) b (adjacency-of d s x)) l)))
+
+  pub move-refines : (d : TraversalDirection) (old new : ℕ) → (old ≡ new → ⊥) → old < length (s .nodes) → (list-of d (plain-of s) old ≡ [] → ⊥)
+      → getD (node-flags-of s) new false ≡ true → plain-of (acted (Move d old new) s) ≡ with-incidence d (moved old new (incidence d (plain-of s))) (plain-of s)
+  unfolding acted
+  move-refines d old new other low held ln =
+      with-axis-refines s d (moved-axis (edge-flags-of s) old new (axis-in d s)) (moved old new (incidence d (plain-of s)))
+      (moved-lists (edge-flags-of s) (node-flags-of s) (length (s .nodes)) (axis-in d s) (direction d) old new low (live-node-low new ln) (walked-live d old held) ln
+      (ne-eqb new old (λ q. other (sym q))) ∙ ap (moved old new) (direction-is d))
+
+  pub set-payload-refines : (e v : ℕ) → plain-of (acted (SetPayload e v) s) ≡ payload-set e v (plain-of s)
+  unfolding acted plain-of payload-set
+  set-payload-refines e v =
+      let slot : EdgeSlot = record { payload = v; live = getD (s .edges) e no-edge .live } in
+      let flags : map (λ (e : EdgeSlot). e .live) (set (s .edges) e slot) ≡ edge-flags-of s = map-set-same (λ (e : EdgeSlot). e .live) (s .edges) e slot no-edge refl in
+      plain-ext refl refl (ap (λ (f : List Bool). incidence-by (walk-of f) (node-flags-of s) (s .outgoing)) flags)
+      (ap (λ (f : List Bool). incidence-by (walk-of f) (node-flags-of s) (s .incoming)) flags)
