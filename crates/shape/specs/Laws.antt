@@ -2,3 +2,4 @@
 pub mod Taking
 pub mod Refining
 pub mod Stepping
+pub mod Keeping

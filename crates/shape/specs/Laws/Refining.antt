@@ -93,7 +93,7 @@ snoc-flags f [] a = refl
 snoc-flags f (x ∷ l) a = rw (snoc-flags f l a)
 
 -- an added default is read as before
-getD-added : {A : Type 0} (l : List A) (d : A) (x : ℕ) → getD (l ++ (d ∷ [])) x d ≡ getD l x d
+pub getD-added : {A : Type 0} (l : List A) (d : A) (x : ℕ) → getD (l ++ (d ∷ [])) x d ≡ getD l x d
 getD-added l d x =
     getD-snoc l x d d
     ∙ by-test (eqb x (length l)) (λ h. rw h (sym (List·getD-eq-default l d (let e = eqb-true x (length l) h in omega arith)))) (λ h. rw h)
