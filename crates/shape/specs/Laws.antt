@@ -3,3 +3,5 @@ pub mod Taking
 pub mod Refining
 pub mod Stepping
 pub mod Keeping
+pub mod Reaching
+pub mod Settling

@@ -31,22 +31,22 @@ use Rattle.shape.specs.Laws.Stepping.{step-refines}
 -- ---- entries of edited lists come from the lists
 
 -- an entry of two lists joined is in one of them
-in-either : {P : Type 0} (e : ℕ) (a b : List ℕ) → In e (a ++ b) → (In e a → P) → (In e b → P) → P
+pub in-either : {P : Type 0} (e : ℕ) (a b : List ℕ) → In e (a ++ b) → (In e a → P) → (In e b → P) → P
 in-either e a b m f g =
     let k = sym (member-append e a b) ∙ m in
     by-test (member e a) f (λ q. g (or-other k q))
 
-in-first : (e : ℕ) (a b : List ℕ) → In e a → In e (a ++ b)
+pub in-first : (e : ℕ) (a b : List ℕ) → In e a → In e (a ++ b)
 in-first e a b m = rw (member-append e a b, m)
 
-in-second : (e : ℕ) (a b : List ℕ) → In e b → In e (a ++ b)
+pub in-second : (e : ℕ) (a b : List ℕ) → In e b → In e (a ++ b)
 in-second e a b m = rw (member-append e a b, m) (by-test (member e a) (λ q. rw q) (λ q. rw q))
 
 -- what is kept was there
-in-keep : (test : ℕ → Bool) (e : ℕ) (l : List ℕ) → In e (keep test l) → In e l
+pub in-keep : (test : ℕ → Bool) (e : ℕ) (l : List ℕ) → In e (keep test l) → In e l
 in-keep test e l m = and-left (member e l) (test e) (sym (member-keep test e l) ∙ m)
 
-in-without : (y e : ℕ) (l : List ℕ) → In e (without y l) → In e l
+pub in-without : (y e : ℕ) (l : List ℕ) → In e (without y l) → In e l
 in-without y e l m = and-left (member e l) (not (eqb y e)) (sym (member-without e y l) ∙ m)
 
 module _ (flags : List Bool) where
@@ -72,16 +72,16 @@ module _ (flags : List Bool) where
 -- ---- entries stay edges of the store
 
 -- nothing is in the empty list, and one entry in a list of one
-in-nil : (e : ℕ) → In e [] → ⊥
+pub in-nil : (e : ℕ) → In e [] → ⊥
 unfolding member
 in-nil e m = false≢true m
 
-in-one : (k e : ℕ) → In k (e ∷ []) → k ≡ e
+pub in-one : (k e : ℕ) → In k (e ∷ []) → k ≡ e
 unfolding member
 in-one k e m = eqb-true k e (sym (or-false (eqb k e)) ∙ m)
 
 -- what holds of each element, and of one that is set, holds of each afterwards
-set-each : {A : Type 0} (P : A → Type 0) (d : A) (l : List A) (x : ℕ) (a : A) → ((y : ℕ) → P (getD l y d)) → P a → (y : ℕ) → P (getD (set l x a) y d)
+pub set-each : {A : Type 0} (P : A → Type 0) (d : A) (l : List A) (x : ℕ) (a : A) → ((y : ℕ) → P (getD l y d)) → P a → (y : ℕ) → P (getD (set l x a) y d)
 set-each P d [] x a h k y = h y
 set-each P d (b ∷ l) zero a h k zero = k
 set-each P d (b ∷ l) zero a h k (suc y) = h (suc y)
