@@ -5,3 +5,4 @@ pub mod Stepping
 pub mod Keeping
 pub mod Reaching
 pub mod Settling
+pub mod Compactness

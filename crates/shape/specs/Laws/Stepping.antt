@@ -16,7 +16,7 @@ use Rattle.shape.specs.Steps.{acted, acts, shape-step}
 use Rattle.shape.specs.Laws.Refining.{Proper, add-node-refines, add-edge-refines, remove-edge-refines, remove-node-refines, redirect-refines, move-refines, set-payload-refines}
 
 -- a list that is not empty has a length that is not 0
-length-some : {A : Type 0} (l : List A) → (l ≡ [] → ⊥) → length l ≡ 0 → ⊥
+pub length-some : {A : Type 0} (l : List A) → (l ≡ [] → ⊥) → length l ≡ 0 → ⊥
 length-some [] h e = h refl
 length-some (x ∷ l) h e = omega arith
 
