@@ -1,1 +1,2 @@
 -- The laws of the shape, for the crates above to cite.
+pub mod Chains
