@@ -1,0 +1,249 @@
+-- Which words the definitions of the shape read. Of two lists of words ws and vs, each law asks that they agree at the cells that a definition reads of ws, and
+-- gives that its values are equal; and where a rule of the check holds of ws, it holds of vs. A caller shows the cells equal from what it knows of the words
+-- by ranges of indices: the column, and `omega` for the place.
+use Prim.Native.Nat.{ℕ, zero, suc, _+_, _-_, _*_, _≤_, _<_}
+use native.Mathlib.Nat.{le-trans, le-refl}
+use native.Mathlib.Omega.{arith}
+use mathlib.Core.Path.{_≡_, refl, sym, _∙_}
+use mathlib.Core.Bool.{true, cond, _&&_}
+use mathlib.Core.Logic.{_⊎_, inl, inr, ⊎-elim, _≢_}
+use mathlib.Core.Option.{none}
+use mathlib.Core.List.{List, []}
+use lib.ListN.{getD}
+use lib.Dec.{eqb, ltb, leb}
+use borrow.Author.Tests.{ltb-true, leb-true, eq-eqb, ne-eqb, eqb-true, eqb-false}
+use Rattle.plain.specs.Numbers.{NONE, LIMIT}
+use Rattle.plain.specs.Lists.{from}
+use Rattle.plain.specs.Laws.Booleans.{by-test, and-left, and-right, below-or-not}
+use Rattle.plain.specs.Laws.ListLaws.{member-from, map-same}
+use Rattle.shape.specs.Columns.{cell, end-at, adjacency-at, next-at, link-at, last-at, first-at, tail-at, count-at, mark-at, offset-at}
+use Rattle.shape.specs.Chains.{ring, In, Run, Ring}
+use Rattle.shape.specs.Shape.{between, base-of, run-list, run-of, ring-of}
+use Rattle.shape.specs.Checked.{Indexed, Index, Rings, Runs}
+use Rattle.shape.specs.Laws.Chains.{in-none, chain-agree, run-agree, run-wider, until-agree, ring-is, ring-agree, ring-wider}
+
+-- ---- the base part
+
+-- the entries of a column from a up to b, where two columns agree there
+pub between-agree : (f g : ℕ → ℕ) (a b : ℕ) → ((i : ℕ) → a ≤ i → i < b → f i ≡ g i) → between f a b ≡ between g a b
+between-agree f g a b agree = map-same f g (from a (b - a)) (λ i m. inside i (sym (member-from i a (b - a)) ∙ m))
+  where
+    inside : (i : ℕ) → (leb a i && ltb i (a + (b - a))) ≡ true → f i ≡ g i
+    inside i both =
+        let low = leb-true a i (and-left (leb a i) (ltb i (a + (b - a))) both) in
+        let high = ltb-true i (a + (b - a)) (and-right (leb a i) (ltb i (a + (b - a))) both) in
+        agree i low (omega arith)
+
+-- the base part reads the node's two offsets and the adjacency between them
+pub base-of-agree : (ws vs : List ℕ) (ce cn bn x : ℕ) → (x < bn → offset-at vs ce cn x ≡ offset-at ws ce cn x)
+    → (x < bn → offset-at vs ce cn (suc x) ≡ offset-at ws ce cn (suc x))
+    → ((i : ℕ) → x < bn → offset-at ws ce cn x ≤ i → i < offset-at ws ce cn (suc x) → adjacency-at vs ce i ≡ adjacency-at ws ce i)
+    → base-of vs ce cn bn x ≡ base-of ws ce cn bn x
+unfolding base-of
+base-of-agree ws vs ce cn bn x start stop entries =
+    by-test (ltb x bn) (λ t. let low = ltb-true x bn t in
+    rw (t, start low, stop low) (between-agree (cell vs ce) (cell ws ce) (offset-at ws ce cn x) (offset-at ws ce cn (suc x)) (λ i. entries i low)))
+    (λ t. rw t)
+
+-- a column that does not descend up to n has its greatest word there
+ascending : (f : ℕ → ℕ) (n : ℕ) → ((x : ℕ) → x < n → f x ≤ f (suc x)) → (x : ℕ) → x ≤ n → f x ≤ f n
+ascending f zero step x h = let same : x ≡ 0 = omega arith in rw same (le-refl (f 0))
+ascending f (suc n) step x h =
+    ⊎-elim (λ low. le-trans (ascending f n (λ y k. step y (omega arith)) x (omega arith)) (step n (omega arith)))
+    (λ high. let same : x ≡ suc n = omega arith in rw same (le-refl (f (suc n)))) (below-or-not x (suc n))
+
+-- the offsets are at most the number of entries
+pub offset-within : {ws : List ℕ} {ce cn bn be : ℕ} → Indexed ws ce cn bn be → (x : ℕ) → x ≤ bn → offset-at ws ce cn x ≤ be
+offset-within {ws} {ce} {cn} {bn} ok x h = rw (← ok .stops) (ascending (cell ws (4 * ce + 5 * cn)) bn (ok .ascends) x h)
+
+module _
+    {ws : List ℕ}
+    {ce cn bn be : ℕ}
+    (vs : List ℕ)
+    (base-within : bn ≤ cn)
+    (edges-within : be ≤ ce)
+    (index : Index ws ce cn bn be)
+    (adjacency : (i : ℕ) → ce ≤ i → i < 2 * ce → getD vs i 0 ≡ getD ws i 0)
+    (offsets : (i : ℕ) → 4 * ce + 5 * cn ≤ i → i < 4 * ce + 6 * cn + 1 → getD vs i 0 ≡ getD ws i 0)
+  where
+    offset-same : (x : ℕ) → x ≤ bn → offset-at vs ce cn x ≡ offset-at ws ce cn x
+    offset-same x h = offsets (4 * ce + 5 * cn + x) (omega arith) (omega arith)
+
+    adjacency-same : (i : ℕ) → i < be → adjacency-at vs ce i ≡ adjacency-at ws ce i
+    adjacency-same i h = adjacency (ce + i) (omega arith) (omega arith)
+
+    -- every base part is as before where the columns of the index are
+    pub base-kept : (x : ℕ) → base-of vs ce cn bn x ≡ base-of ws ce cn bn x
+    base-kept x =
+        base-of-agree ws vs ce cn bn x (λ h. offset-same x (omega arith)) (λ h. offset-same (suc x) (omega arith))
+        (λ i h low high. ⊎-elim (λ q. absurd (omega (arith, q .0)))
+        (λ ok. let few = offset-within ok (suc x) (omega arith) in adjacency-same i (omega arith)) index)
+
+    -- rule 4 stays where the columns of the index are as before
+    pub index-kept : Index vs ce cn bn be
+    index-kept = ⊎-elim (λ q. inl q) (λ ok. inr (moved ok)) index
+      where
+        moved : Indexed ws ce cn bn be → Indexed vs ce cn bn be
+        moved ok =
+            record {
+              starts = offset-same 0 (omega arith) ∙ ok .starts;
+              ascends = λ x h. rw (offset-same x (omega arith), offset-same (suc x) (omega arith)) (ok .ascends x h);
+              stops = offset-same bn (omega arith) ∙ ok .stops;
+              entries = λ i h. rw (adjacency-same i h) (ok .entries i h);
+            }
+
+-- ---- runs
+
+-- What a run is read from is in vs as it is in ws: the node's cells and the links of the run's own entries.
+pub record SameRun (ws vs : List ℕ) (ce cn x : ℕ) : Type 0 where
+  pub mark : mark-at vs ce cn x ≡ mark-at ws ce cn x
+  pub count : count-at vs ce cn x ≡ count-at ws ce cn x
+  pub first : first-at vs ce cn x ≡ first-at ws ce cn x
+  pub links : (e : ℕ) → In e (run-list ws ce cn x) → link-at vs ce e ≡ link-at ws ce e
+
+module _ (ws vs : List ℕ) (ce cn x : ℕ) (same : SameRun ws vs ce cn x) where
+  -- the entries of a run
+  pub run-list-agree : run-list vs ce cn x ≡ run-list ws ce cn x
+  unfolding run-list
+  run-list-agree =
+      rw (same .mark)
+      (by-test (eqb (mark-at ws ce cn x) 0) (λ t. rw t)
+      (λ t. rw (t, same .count, same .first)
+      (chain-agree (cell ws (3 * ce)) (cell vs (3 * ce)) (count-at ws ce cn x) (first-at ws ce cn x) (λ e m. same .links e (rw t m)))))
+
+  -- the run, or none
+  pub run-of-agree : run-of vs ce cn x ≡ run-of ws ce cn x
+  unfolding run-of
+  run-of-agree = rw (same .mark, run-list-agree)
+
+-- a node without a mark has no run
+pub run-list-unmarked : (ws : List ℕ) (ce cn x : ℕ) → mark-at ws ce cn x ≡ 0 → run-list ws ce cn x ≡ []
+unfolding run-list
+run-list-unmarked ws ce cn x h = rw (eq-eqb (mark-at ws ce cn x) 0 h)
+
+pub run-of-unmarked : (ws : List ℕ) (ce cn x : ℕ) → mark-at ws ce cn x ≡ 0 → run-of ws ce cn x ≡ none
+unfolding run-of
+run-of-unmarked ws ce cn x h = rw (eq-eqb (mark-at ws ce cn x) 0 h)
+
+-- rule 6 stays where each node's run is as before, or the node has none; the bounds may have risen
+module _
+    {ws : List ℕ}
+    {ce cn nb eb : ℕ}
+    (vs : List ℕ)
+    (nb′ eb′ : ℕ)
+    (rise : eb ≤ eb′)
+    (old : Runs ws ce cn nb eb)
+    (each : (x : ℕ) → x < nb′ → (mark-at vs ce cn x ≡ 0) ⊎ (x < nb) × SameRun ws vs ce cn x × (tail-at vs ce cn x ≡ tail-at ws ce cn x))
+  where
+    -- a member of a run is one that it was before
+    before : (x e : ℕ) → x < nb′ → In e (run-list vs ce cn x) → (x < nb) × In e (run-list ws ce cn x)
+    before x e h m =
+        ⊎-elim (λ q. in-none e (rw (run-list-unmarked vs ce cn x q) at m)) (λ s. (s .0, rw (run-list-agree ws vs ce cn x (s .1)) at m)) (each x h)
+
+    pub runs-kept : Runs vs ce cn nb′ eb′
+    runs-kept =
+        record {
+          run = λ x h some. ⊎-elim (λ q. absurd (some q)) (λ s. moved x (s .0) (s .1) (s .2) some) (each x h);
+          apart = λ x y e h k m n.
+              let at = before x e h m in
+              let there = before y e k n in
+              old .apart x y e (at .0) (there .0) (at .1) (there .1);
+        }
+      where
+        moved : (x : ℕ) → x < nb → (same : SameRun ws vs ce cn x) → tail-at vs ce cn x ≡ tail-at ws ce cn x → (mark-at vs ce cn x ≡ 0 → ⊥)
+            → Run (cell vs (3 * ce)) eb′ (first-at vs ce cn x) (tail-at vs ce cn x) (count-at vs ce cn x) (run-list vs ce cn x)
+        moved x h same tail some =
+            rw (same .first, tail, same .count, run-list-agree ws vs ce cn x same)
+            (run-wider rise (run-agree (cell vs (3 * ce)) (same .links) (old .run x h (λ q. some (same .mark ∙ q)))))
+
+-- ---- rings
+
+-- the ring reads the node's last edge, the link of that, and the links of its own entries
+pub ring-of-agree : (ws vs : List ℕ) (ce be eb x : ℕ) → last-at vs ce x ≡ last-at ws ce x
+    → (last-at ws ce x ≢ NONE → next-at vs ce (last-at ws ce x) ≡ next-at ws ce (last-at ws ce x))
+    → ((e : ℕ) → In e (ring-of ws ce be eb x) → next-at vs ce e ≡ next-at ws ce e) → ring-of vs ce be eb x ≡ ring-of ws ce be eb x
+unfolding ring-of ring
+ring-of-agree ws vs ce be eb x last first next =
+    rw last
+    (by-test (eqb (last-at ws ce x) NONE) (λ t. rw t)
+    (λ t. rw (t, first (eqb-false (last-at ws ce x) NONE t))
+    (until-agree (cell ws (2 * ce)) (cell vs (2 * ce)) (last-at ws ce x) (eb - be) (next-at ws ce (last-at ws ce x)) (λ e m. next e (rw t m)))))
+
+-- a node whose last edge is NONE has the empty ring
+pub ring-of-none : (ws : List ℕ) (ce be eb x : ℕ) → last-at ws ce x ≡ NONE → ring-of ws ce be eb x ≡ []
+unfolding ring-of ring
+ring-of-none ws ce be eb x h = rw (eq-eqb (last-at ws ce x) NONE h)
+
+-- rule 5 from lists that are the rings of their nodes
+module _
+    (ws : List ℕ)
+    (ce nb be eb : ℕ)
+    (small : eb ≤ LIMIT)
+    (lists : ℕ → List ℕ)
+    (ring : (x : ℕ) → x < nb → Ring (cell ws (2 * ce)) be eb (last-at ws ce x) (lists x))
+    (own : (x e : ℕ) → x < nb → In e (lists x) → end-at ws e ≡ x)
+  where
+    -- they are what the words give
+    pub ring-of-is : (x : ℕ) → x < nb → ring-of ws ce be eb x ≡ lists x
+    unfolding ring-of
+    ring-of-is x h = ring-is small (ring x h)
+
+    pub rings-are : Rings ws ce nb be eb
+    rings-are = record { ring = λ x h. rw (ring-of-is x h) (ring x h); own = λ x e h m. own x e h (rw (ring-of-is x h) at m) }
+
+-- What a ring is read from, and the ends of its entries, are in vs as they are in ws.
+pub record SameRing (ws vs : List ℕ) (ce be eb x : ℕ) : Type 0 where
+  pub last : last-at vs ce x ≡ last-at ws ce x
+  pub next : (e : ℕ) → In e (ring-of ws ce be eb x) → next-at vs ce e ≡ next-at ws ce e
+  pub ends : (e : ℕ) → In e (ring-of ws ce be eb x) → end-at vs e ≡ end-at ws e
+
+-- one node's ring is now xs, and every other node's is as before; the bounds may have risen
+module _
+    {ws : List ℕ}
+    {ce nb be eb : ℕ}
+    (vs : List ℕ)
+    (nb′ eb′ node : ℕ)
+    (xs : List ℕ)
+    (rise : eb ≤ eb′)
+    (small : eb′ ≤ LIMIT)
+    (old : Rings ws ce nb be eb)
+    (here : Ring (cell vs (2 * ce)) be eb′ (last-at vs ce node) xs)
+    (own : (e : ℕ) → In e xs → end-at vs e ≡ node)
+    (others : (x : ℕ) → x < nb′ → x ≢ node → (x < nb) × SameRing ws vs ce be eb x)
+  where
+    lists : ℕ → List ℕ
+    lists x = cond (eqb x node) xs (ring-of ws ce be eb x)
+
+    each : (x : ℕ) → x < nb′ → Ring (cell vs (2 * ce)) be eb′ (last-at vs ce x) (lists x)
+    unfolding lists
+    each x h =
+        by-test (eqb x node) (λ t. rw (t, eqb-true x node t) here)
+        (λ t. let kept = others x h (eqb-false x node t) in
+        rw (t, kept .1 .last) (ring-wider rise (ring-agree (cell vs (2 * ce)) (kept .1 .next) (old .ring x (kept .0)))))
+
+    owned : (x e : ℕ) → x < nb′ → In e (lists x) → end-at vs e ≡ x
+    unfolding lists
+    owned x e h m =
+        by-test (eqb x node) (λ t. own e (rw t at m) ∙ sym (eqb-true x node t))
+        (λ t. let kept = others x h (eqb-false x node t) in
+        let was : In e (ring-of ws ce be eb x) = rw t at m in
+        kept .1 .ends e was ∙ old .own x e (kept .0) was)
+
+    pub ring-new : node < nb′ → ring-of vs ce be eb′ node ≡ xs
+    unfolding lists
+    ring-new h = ring-of-is vs ce nb′ be eb′ small lists each owned node h ∙ rw (eq-eqb node node refl)
+
+    pub ring-others : (x : ℕ) → x < nb′ → x ≢ node → ring-of vs ce be eb′ x ≡ ring-of ws ce be eb x
+    unfolding lists
+    ring-others x h ne = ring-of-is vs ce nb′ be eb′ small lists each owned x h ∙ rw (ne-eqb x node ne)
+
+    pub rings-new : Rings vs ce nb′ be eb′
+    rings-new = rings-are vs ce nb′ be eb′ small lists each owned
+
+-- rule 5 stays where each node's ring is as before
+pub rings-kept : {ws : List ℕ} {ce nb be eb : ℕ} (vs : List ℕ) → eb ≤ LIMIT → Rings ws ce nb be eb
+    → ((x : ℕ) → x < nb → SameRing ws vs ce be eb x) → Rings vs ce nb be eb
+rings-kept {ws} {ce} {nb} {be} {eb} vs small old same =
+    rings-are vs ce nb be eb small (ring-of ws ce be eb)
+    (λ x h. rw (same x h .last) (ring-agree (cell vs (2 * ce)) (same x h .next) (old .ring x h)))
+    (λ x e h m. same x h .ends e m ∙ old .own x e h m)
