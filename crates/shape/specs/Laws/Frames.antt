@@ -20,7 +20,7 @@ use Rattle.shape.specs.Columns.{cell, end-at, adjacency-at, next-at, lin
 use Rattle.shape.specs.Chains.{ring, In, Run, Ring}
 use Rattle.shape.specs.Shape.{between, base-of, run-list, run-of, ring-of}
 use Rattle.shape.specs.Checked.{Indexed, Index, Rings, Runs}
-use Rattle.shape.specs.Laws.Chains.{in-none, chain-agree, run-agree, run-wider, until-agree, ring-is, ring-agree, ring-wider}
+use Rattle.shape.specs.Laws.Chains.{in-none, chain-agree, run-below, run-agree, run-wider, until-agree, ring-is, ring-agree, ring-wider}
 
 -- ---- the base part
 
@@ -125,6 +125,12 @@ pub run-of-unmarked : (ws : List ℕ) (ce cn x : ℕ) → mark-at ws ce cn x ≡
 unfolding run-of
 run-of-unmarked ws ce cn x h = rw (eq-eqb (mark-at ws ce cn x) 0 h)
 
+-- each entry of a run is below the bound
+pub run-list-below : {ws : List ℕ} {ce cn nb eb : ℕ} → Runs ws ce cn nb eb → (x e : ℕ) → x < nb → In e (run-list ws ce cn x) → e < eb
+run-list-below {ws} {ce} {cn} old x e h m =
+    by-test (eqb (mark-at ws ce cn x) 0) (λ t. in-none e (rw (run-list-unmarked ws ce cn x (eqb-true (mark-at ws ce cn x) 0 t)) at m))
+    (λ t. run-below (old .run x h (eqb-false (mark-at ws ce cn x) 0 t)) e m)
+
 -- rule 6 stays where each node's run is as before, or the node has none; the bounds may have risen
 module _
     {ws : List ℕ}
@@ -133,7 +139,7 @@ module _
     (nb′ eb′ : ℕ)
     (rise : eb ≤ eb′)
     (old : Runs ws ce cn nb eb)
-    (each : (x : ℕ) → x < nb′ → (mark-at vs ce cn x ≡ 0) ⊎ (x < nb) × SameRun ws vs ce cn x × (tail-at vs ce cn x ≡ tail-at ws ce cn x))
+    (each : (x : ℕ) → x < nb′ → (mark-at vs ce cn x ≡ 0) ⊎ ((x < nb) × SameRun ws vs ce cn x × (tail-at vs ce cn x ≡ tail-at ws ce cn x)))
   where
     -- a member of a run is one that it was before
     before : (x e : ℕ) → x < nb′ → In e (run-list vs ce cn x) → (x < nb) × In e (run-list ws ce cn x)
