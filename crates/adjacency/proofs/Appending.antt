@@ -18,6 +18,7 @@ use Rattle.shape.specs.Laws.Frames.{SameRing, ring-new, ring-others, rings-new}
 use Rattle.adjacency.specs.Rings.{Appendable, Appended}
 
 module _ {ws : List ℕ} {ce cn nb be node e : ℕ} (pre : Appendable ws ce cn nb be node e) where
+  -- the node's ring before the new edge
   ring-before : Ring (cell ws (2 * ce)) be e (last-at ws ce node) (ring-of ws ce be e node)
   ring-before = pre .rings .ring node (pre .node-below)
 
@@ -25,6 +26,7 @@ module _ {ws : List ℕ} {ce cn nb be node e : ℕ} (pre : Appendable ws ce cn n
   pub last-below : last-at ws ce node ≢ NONE → last-at ws ce node < e
   last-below some = ring-below ring-before _ (ring-last some ring-before)
 
+  -- the words after the stores: the new edge ends at the node and closes its ring, and no other word than theirs differs
   module _
       (vs : List ℕ)
       (end : end-at vs e ≡ node)
@@ -32,14 +34,17 @@ module _ {ws : List ℕ} {ce cn nb be node e : ℕ} (pre : Appendable ws ce cn n
       (same : (i : ℕ) → i ≢ e → i ≢ 4 * ce + node → i ≢ 2 * ce + e → (last-at ws ce node ≢ NONE → i ≢ 2 * ce + last-at ws ce node)
       → getD vs i 0 ≡ getD ws i 0)
     where
+      -- the other ends and the adjacency column are as before
       below : (i : ℕ) → i < 2 * ce → i ≢ e → getD vs i 0 ≡ getD ws i 0
       below i h ne = same i ne (omega arith) (omega arith) (λ some. omega arith)
 
+      -- so is everything past the ring links but the node's last edge
       above : (i : ℕ) → 3 * ce ≤ i → i ≢ 4 * ce + node → getD vs i 0 ≡ getD ws i 0
       above i h ne =
           let room = pre .room in
           same i (omega arith) ne (omega arith) (λ some. let low = last-below some in omega arith)
 
+      -- every entry of the longer ring ends at the node
       own : (x : ℕ) → In x (ring-of ws ce be e node ++ (e ∷ [])) → end-at vs x ≡ node
       own x m = ⊎-elim before (λ q. rw q end) (in-snoc x (ring-of ws ce be e node) e m)
         where
@@ -71,6 +76,7 @@ module _ {ws : List ℕ} {ce cn nb be node e : ℕ} (pre : Appendable ws ce cn n
               last-elsewhere : last-at ws ce node ≢ NONE → f ≡ last-at ws ce node → x ≡ node
               last-elsewhere some q = sym (pre .rings .own x f h m) ∙ pre .rings .own node f (pre .node-below) (rw q (ring-last some ring-before))
 
+      -- so the edge is appended
       pub appended : Appended ws vs ce nb be node e
       appended =
           let room = pre .room in
@@ -86,7 +92,7 @@ module _ {ws : List ℕ} {ce cn nb be node e : ℕ} (pre : Appendable ws ce cn n
             above = above;
           }
 
-  -- the places of the three cells that are written in either way
+  -- where the node's last edge and the new edge's link stand
   abbrev at : ℕ
   at = 4 * ce + node
 
@@ -97,12 +103,15 @@ module _ {ws : List ℕ} {ce cn nb be node e : ℕ} (pre : Appendable ws ce cn n
   abbrev placed : List ℕ
   placed = set (set ws e node) at e
 
+  -- the new edge ends at the node
   placed-end : getD placed e 0 ≡ node
   placed-end = let room = pre .room in getD-set-other (set ws e node) at e e 0 (omega arith) ∙ getD-set-same ws e node 0 (omega arith)
 
+  -- and is its last edge
   placed-last : getD placed at 0 ≡ e
   placed-last = getD-set-same (set ws e node) at e 0 (simp length-set (omega arith))
 
+  -- the other words are as before
   placed-other : (i : ℕ) → i ≢ e → i ≢ at → getD placed i 0 ≡ getD ws i 0
   placed-other i ne na = getD-set-other (set ws e node) at i e 0 na ∙ getD-set-other ws e i node 0 ne
 

@@ -16,7 +16,7 @@ use Rattle.shape.specs.Chains.{Ring}
 use Rattle.shape.specs.Shape.{ring-of}
 use Rattle.shape.specs.Checked.{Rings, Runs}
 use Rattle.shape.specs.Laws.Chains.{in-none, ring-below}
-use Rattle.shape.specs.Laws.Frames.{SameRun, SameRing, ring-of-none, run-of-unmarked, run-list-below, runs-kept, ring-others, rings-new}
+use Rattle.shape.specs.Laws.Frames.{SameRun, SameRing, ring-of-none, run-of-agree, run-of-unmarked, run-list-below, runs-agree, ring-others, rings-new}
 use Rattle.adjacency.specs.Rings.{Openable, Opened, Detachable, Detached}
 
 -- the node's last edge is NONE, and the words up to the last edges of the nodes below nb′ are otherwise as they were
@@ -32,9 +32,11 @@ module _
     (same : (i : ℕ) → i < 4 * ce + nb′ → i ≢ 4 * ce + node → getD vs i 0 ≡ getD ws i 0)
     (each : (x : ℕ) → x < nb′ → x ≢ node → x < nb)
   where
+    -- the node's ring is empty
     here : Ring (cell vs (2 * ce)) be eb (last-at vs ce node) []
     here = inl (last, refl)
 
+    -- the others are read from the same words
     others : (x : ℕ) → x < nb′ → x ≢ node → (x < nb) × SameRing ws vs ce be eb x
     others x h ne =
         let k = each x h ne in (
@@ -46,9 +48,11 @@ module _
           },
         )
 
+    -- so they are as before
     pub emptied-others : (x : ℕ) → x < nb′ → x ≢ node → ring-of vs ce be eb x ≡ ring-of ws ce be eb x
     emptied-others = ring-others vs nb′ eb node [] (le-refl eb) (le-trans within small) old here (λ e. in-none e) others
 
+    -- and rule 5 holds
     pub emptied-rings : Rings vs ce nb′ be eb
     emptied-rings = rings-new vs nb′ eb node [] (le-refl eb) (le-trans within small) old here (λ e. in-none e) others
 
@@ -72,51 +76,65 @@ detached {ws} {ce} {node} pre =
     kept i ne = getD-set-other ws (4 * ce + node) i NONE 0 ne
 
 -- a node is opened
-pub opened : {ws : List ℕ} {ce cn node : ℕ} → Openable ws ce cn node
-    → Opened ws (set (set ws (4 * ce + node) NONE) (4 * ce + 4 * cn + node) 0) ce cn node
-opened {ws} {ce} {cn} {node} pre =
-    record {
-      ring = λ be eb. ring-of-none vs ce be eb node last;
-      run = run-of-unmarked vs ce cn node mark;
-      rings = λ be eb h old.
-          emptied-rings vs (node + 1) node h (pre .sized .edges-within) old last (λ i k ne. kept i ne (omega (arith, pre .room))) (λ x k ne. omega arith);
-      runs = λ eb h old. runs-kept vs (node + 1) eb (le-refl eb) old (run-each eb h old);
-      kept = kept;
-    }
-  where
-    at : ℕ
-    at = 4 * ce + node
+module _ {ws : List ℕ} {ce cn node : ℕ} (pre : Openable ws ce cn node) where
+  -- where the node's last edge and its mark stand
+  abbrev at : ℕ
+  at = 4 * ce + node
 
-    marked : ℕ
-    marked = 4 * ce + 4 * cn + node
+  abbrev marked : ℕ
+  marked = 4 * ce + 4 * cn + node
 
-    vs : List ℕ
-    vs = set (set ws at NONE) marked 0
+  -- the words after the two stores
+  abbrev blank : List ℕ
+  blank = set (set ws at NONE) marked 0
 
-    kept : (i : ℕ) → i ≢ at → i ≢ marked → getD vs i 0 ≡ getD ws i 0
-    kept i na nm = getD-set-other (set ws at NONE) marked i 0 0 nm ∙ getD-set-other ws at i NONE 0 na
+  -- the other words are as before
+  kept : (i : ℕ) → i ≢ at → i ≢ marked → getD blank i 0 ≡ getD ws i 0
+  kept i na nm = getD-set-other (set ws at NONE) marked i 0 0 nm ∙ getD-set-other ws at i NONE 0 na
 
-    last : last-at vs ce node ≡ NONE
-    last = getD-set-other (set ws at NONE) marked at 0 0 (omega (arith, pre .room)) ∙ getD-set-same ws at NONE 0 (omega (arith, pre .sized .room))
+  -- the two cells
+  last : last-at blank ce node ≡ NONE
+  last = getD-set-other (set ws at NONE) marked at 0 0 (omega (arith, pre .room)) ∙ getD-set-same ws at NONE 0 (omega arith)
 
-    mark : mark-at vs ce cn node ≡ 0
-    mark = getD-set-same (set ws at NONE) marked 0 0 (simp length-set (omega (arith, pre .sized .room, pre .room)))
+  mark : mark-at blank ce cn node ≡ 0
+  mark = getD-set-same (set ws at NONE) marked 0 0 (simp length-set (omega arith))
 
-    run-each : (eb : ℕ) → eb ≤ ce → Runs ws ce cn node eb → (x : ℕ) → x < node + 1
-        → (mark-at vs ce cn x ≡ 0) ⊎ ((x < node) × SameRun ws vs ce cn x × (tail-at vs ce cn x ≡ tail-at ws ce cn x))
-    run-each eb within old x h =
-        by-test (eqb x node) (λ t. inl (rw (eqb-true x node t) mark))
-        (λ t.
-        let ne = eqb-false x node t in
-        let low : x < node = omega arith in
-        let room = pre .room in
-        inr (
-          low,
-          record {
-            mark = kept (4 * ce + 4 * cn + x) (omega arith) (omega arith);
-            count = kept (4 * ce + 3 * cn + x) (omega arith) (omega arith);
-            first = kept (4 * ce + cn + x) (omega arith) (omega arith);
-            links = λ e m. let small = run-list-below old x e low m in kept (3 * ce + e) (omega arith) (omega arith);
-          },
-          kept (4 * ce + 2 * cn + x) (omega arith) (omega arith),
-        ))
+  -- the words up to the node's last edge
+  kept-below : (i : ℕ) → i < 4 * ce + (node + 1) → i ≢ at → getD blank i 0 ≡ getD ws i 0
+  kept-below i h ne = kept i ne (omega (arith, pre .room))
+
+  -- the run of another node is read from the same words
+  same-run : {eb : ℕ} → eb ≤ ce → Runs ws ce cn node eb → (x : ℕ) → x < node → SameRun ws blank ce cn x
+  same-run within old x h =
+      let room = pre .room in
+      record {
+        mark = kept (4 * ce + 4 * cn + x) (omega arith) (omega arith);
+        count = kept (4 * ce + 3 * cn + x) (omega arith) (omega arith);
+        first = kept (4 * ce + cn + x) (omega arith) (omega arith);
+        links = λ e m. let low = run-list-below old x e h m in kept (3 * ce + e) (omega arith) (omega arith);
+      }
+
+  -- of every node below the new bound: the new one has no mark, the others have their runs
+  run-each : {eb : ℕ} → eb ≤ ce → Runs ws ce cn node eb → (x : ℕ) → x < node + 1
+      → (mark-at blank ce cn x ≡ 0) ⊎ ((x < node) × SameRun ws blank ce cn x × (tail-at blank ce cn x ≡ tail-at ws ce cn x))
+  run-each within old x h =
+      by-test (eqb x node) (λ t. inl (rw (eqb-true x node t) mark))
+      (λ t.
+      let ne = eqb-false x node t in
+      let low : x < node = omega arith in
+      let room = pre .room in
+      inr (low, same-run within old x low, kept (4 * ce + 2 * cn + x) (omega arith) (omega arith)))
+
+  -- so the node is open
+  pub opened : Opened ws blank ce cn node
+  opened =
+      let small = pre .sized .edges-within in
+      record {
+        ring = λ be eb. ring-of-none blank ce be eb node last;
+        run = run-of-unmarked blank ce cn node mark;
+        other-rings = λ be eb x h old low. emptied-others blank (node + 1) node h small old last kept-below (λ y k ne. omega arith) x (omega arith) (omega arith);
+        other-runs = λ eb x h old low. run-of-agree ws blank ce cn x (same-run h old x low);
+        rings = λ be eb h old. emptied-rings blank (node + 1) node h small old last kept-below (λ y k ne. omega arith);
+        runs = λ eb h old. runs-agree blank (node + 1) eb (le-refl eb) old (run-each h old);
+        kept = kept;
+      }

@@ -43,6 +43,9 @@ pub record Openable (ws : List ℕ) (ce cn node : ℕ) : Type 0 where
 pub record Opened (ws vs : List ℕ) (ce cn node : ℕ) : Type 0 where
   pub ring : (be eb : ℕ) → ring-of vs ce be eb node ≡ []
   pub run : run-of vs ce cn node ≡ none
+  -- the other nodes have theirs
+  pub other-rings : (be eb x : ℕ) → eb ≤ ce → Rings ws ce node be eb → x < node → ring-of vs ce be eb x ≡ ring-of ws ce be eb x
+  pub other-runs : (eb x : ℕ) → eb ≤ ce → Runs ws ce cn node eb → x < node → run-of vs ce cn x ≡ run-of ws ce cn x
   -- rules 5 and 6 hold with the node where they held without it
   pub rings : (be eb : ℕ) → eb ≤ ce → Rings ws ce node be eb → Rings vs ce (node + 1) be eb
   pub runs : (eb : ℕ) → eb ≤ ce → Runs ws ce cn node eb → Runs vs ce cn (node + 1) eb

@@ -20,7 +20,7 @@ use Rattle.shape.specs.Columns.{cell, end-at, adjacency-at, next-at, lin
 use Rattle.shape.specs.Chains.{ring, In, Run, Ring}
 use Rattle.shape.specs.Shape.{between, base-of, run-list, run-of, ring-of}
 use Rattle.shape.specs.Checked.{Indexed, Index, Rings, Runs}
-use Rattle.shape.specs.Laws.Chains.{in-none, chain-agree, run-below, run-agree, run-wider, until-agree, ring-is, ring-agree, ring-wider}
+use Rattle.shape.specs.Laws.Chains.{in-none, chain-agree, run-below, run-agree, run-wider, until-agree, ring-is, ring-agree, ring-below, ring-wider}
 
 -- ---- the base part
 
@@ -66,6 +66,7 @@ module _
     (adjacency : (i : ℕ) → ce ≤ i → i < 2 * ce → getD vs i 0 ≡ getD ws i 0)
     (offsets : (i : ℕ) → 4 * ce + 5 * cn ≤ i → i < 4 * ce + 6 * cn + 1 → getD vs i 0 ≡ getD ws i 0)
   where
+    -- the cells of the index are as before
     offset-same : (x : ℕ) → x ≤ bn → offset-at vs ce cn x ≡ offset-at ws ce cn x
     offset-same x h = offsets (4 * ce + 5 * cn + x) (omega arith) (omega arith)
 
@@ -121,6 +122,7 @@ pub run-list-unmarked : (ws : List ℕ) (ce cn x : ℕ) → mark-at ws ce cn x �
 unfolding run-list
 run-list-unmarked ws ce cn x h = rw (eq-eqb (mark-at ws ce cn x) 0 h)
 
+-- and no list of one
 pub run-of-unmarked : (ws : List ℕ) (ce cn x : ℕ) → mark-at ws ce cn x ≡ 0 → run-of ws ce cn x ≡ none
 unfolding run-of
 run-of-unmarked ws ce cn x h = rw (eq-eqb (mark-at ws ce cn x) 0 h)
@@ -146,8 +148,9 @@ module _
     before x e h m =
         ⊎-elim (λ q. in-none e (rw (run-list-unmarked vs ce cn x q) at m)) (λ s. (s .0, rw (run-list-agree ws vs ce cn x (s .1)) at m)) (each x h)
 
-    pub runs-kept : Runs vs ce cn nb′ eb′
-    runs-kept =
+    -- rule 6 of vs
+    pub runs-agree : Runs vs ce cn nb′ eb′
+    runs-agree =
         record {
           run = λ x h some. ⊎-elim (λ q. absurd (some q)) (λ s. moved x (s .0) (s .1) (s .2) some) (each x h);
           apart = λ x y e h k m n.
@@ -161,6 +164,40 @@ module _
         moved x h same tail some =
             rw (same .first, tail, same .count, run-list-agree ws vs ce cn x same)
             (run-wider rise (run-agree (cell vs (3 * ce)) (same .links) (old .run x h (λ q. some (same .mark ∙ q)))))
+
+-- every run is as before where the links and the columns of the runs are
+module _
+    {ws : List ℕ}
+    {ce cn nb eb : ℕ}
+    (vs : List ℕ)
+    (nodes-within : nb ≤ cn)
+    (edges-within : eb ≤ ce)
+    (old : Runs ws ce cn nb eb)
+    (links : (i : ℕ) → 3 * ce ≤ i → i < 4 * ce → getD vs i 0 ≡ getD ws i 0)
+    (columns : (i : ℕ) → 4 * ce + cn ≤ i → i < 4 * ce + 5 * cn → getD vs i 0 ≡ getD ws i 0)
+  where
+    -- each run is read from the same words
+    same-run : (x : ℕ) → x < nb → SameRun ws vs ce cn x
+    same-run x h =
+        record {
+          mark = columns (4 * ce + 4 * cn + x) (omega arith) (omega arith);
+          count = columns (4 * ce + 3 * cn + x) (omega arith) (omega arith);
+          first = columns (4 * ce + cn + x) (omega arith) (omega arith);
+          links = λ e m. let low = run-list-below old x e h m in links (3 * ce + e) (omega arith) (omega arith);
+        }
+
+    -- so its entries are as before
+    pub run-list-kept : (x : ℕ) → x < nb → run-list vs ce cn x ≡ run-list ws ce cn x
+    run-list-kept x h = run-list-agree ws vs ce cn x (same-run x h)
+
+    -- and the run, or that there is none
+    pub run-kept : (x : ℕ) → x < nb → run-of vs ce cn x ≡ run-of ws ce cn x
+    run-kept x h = run-of-agree ws vs ce cn x (same-run x h)
+
+    -- and rule 6 stays, also under a higher edge bound
+    pub runs-kept : (eb′ : ℕ) → eb ≤ eb′ → Runs vs ce cn nb eb′
+    runs-kept eb′ rise =
+        runs-agree vs nb eb′ rise old (λ x h. inr (h, same-run x h, columns (4 * ce + 2 * cn + x) (omega arith) (omega arith)))
 
 -- ---- rings
 
@@ -194,6 +231,7 @@ module _
     unfolding ring-of
     ring-of-is x h = ring-is small (ring x h)
 
+    -- rule 5 of them
     pub rings-are : Rings ws ce nb be eb
     rings-are = record { ring = λ x h. rw (ring-of-is x h) (ring x h); own = λ x e h m. own x e h (rw (ring-of-is x h) at m) }
 
@@ -217,9 +255,11 @@ module _
     (own : (e : ℕ) → In e xs → end-at vs e ≡ node)
     (others : (x : ℕ) → x < nb′ → x ≢ node → (x < nb) × SameRing ws vs ce be eb x)
   where
+    -- the rings of vs
     lists : ℕ → List ℕ
     lists x = cond (eqb x node) xs (ring-of ws ce be eb x)
 
+    -- each is a ring by the links of vs
     each : (x : ℕ) → x < nb′ → Ring (cell vs (2 * ce)) be eb′ (last-at vs ce x) (lists x)
     unfolding lists
     each x h =
@@ -227,6 +267,7 @@ module _
         (λ t. let kept = others x h (eqb-false x node t) in
         rw (t, kept .1 .last) (ring-wider rise (ring-agree (cell vs (2 * ce)) (kept .1 .next) (old .ring x (kept .0)))))
 
+    -- and its entries end at its node
     owned : (x e : ℕ) → x < nb′ → In e (lists x) → end-at vs e ≡ x
     unfolding lists
     owned x e h m =
@@ -235,21 +276,70 @@ module _
         let was : In e (ring-of ws ce be eb x) = rw t at m in
         kept .1 .ends e was ∙ old .own x e (kept .0) was)
 
+    -- the node's ring
     pub ring-new : node < nb′ → ring-of vs ce be eb′ node ≡ xs
     unfolding lists
     ring-new h = ring-of-is vs ce nb′ be eb′ small lists each owned node h ∙ rw (eq-eqb node node refl)
 
+    -- the ring of another node
     pub ring-others : (x : ℕ) → x < nb′ → x ≢ node → ring-of vs ce be eb′ x ≡ ring-of ws ce be eb x
     unfolding lists
     ring-others x h ne = ring-of-is vs ce nb′ be eb′ small lists each owned x h ∙ rw (ne-eqb x node ne)
 
+    -- rule 5 of vs
     pub rings-new : Rings vs ce nb′ be eb′
     rings-new = rings-are vs ce nb′ be eb′ small lists each owned
 
--- rule 5 stays where each node's ring is as before
-pub rings-kept : {ws : List ℕ} {ce nb be eb : ℕ} (vs : List ℕ) → eb ≤ LIMIT → Rings ws ce nb be eb
-    → ((x : ℕ) → x < nb → SameRing ws vs ce be eb x) → Rings vs ce nb be eb
-rings-kept {ws} {ce} {nb} {be} {eb} vs small old same =
-    rings-are vs ce nb be eb small (ring-of ws ce be eb)
-    (λ x h. rw (same x h .last) (ring-agree (cell vs (2 * ce)) (same x h .next) (old .ring x h)))
-    (λ x e h m. same x h .ends e m ∙ old .own x e h m)
+-- every ring is as before where each node's is read from the same words, and rule 5 stays
+module _
+    {ws : List ℕ}
+    {ce nb be eb : ℕ}
+    (vs : List ℕ)
+    (small : eb ≤ LIMIT)
+    (old : Rings ws ce nb be eb)
+    (same : (x : ℕ) → x < nb → SameRing ws vs ce be eb x)
+  where
+    -- each ring is one by the links of vs
+    still : (x : ℕ) → x < nb → Ring (cell vs (2 * ce)) be eb (last-at vs ce x) (ring-of ws ce be eb x)
+    still x h = rw (same x h .last) (ring-agree (cell vs (2 * ce)) (same x h .next) (old .ring x h))
+
+    -- and its entries end at its node
+    still-own : (x e : ℕ) → x < nb → In e (ring-of ws ce be eb x) → end-at vs e ≡ x
+    still-own x e h m = same x h .ends e m ∙ old .own x e h m
+
+    -- each ring is as before
+    pub ring-agrees : (x : ℕ) → x < nb → ring-of vs ce be eb x ≡ ring-of ws ce be eb x
+    ring-agrees = ring-of-is vs ce nb be eb small (ring-of ws ce be eb) still still-own
+
+    -- rule 5 of vs
+    pub rings-agree : Rings vs ce nb be eb
+    rings-agree = rings-are vs ce nb be eb small (ring-of ws ce be eb) still still-own
+
+-- so it is where the ends, the links and the last edges are as before
+module _
+    {ws : List ℕ}
+    {ce nb be eb : ℕ}
+    (vs : List ℕ)
+    (edges-within : eb ≤ ce)
+    (small : ce ≤ LIMIT)
+    (old : Rings ws ce nb be eb)
+    (ends : (i : ℕ) → i < ce → getD vs i 0 ≡ getD ws i 0)
+    (links : (i : ℕ) → 2 * ce ≤ i → i < 3 * ce → getD vs i 0 ≡ getD ws i 0)
+    (lasts : (i : ℕ) → 4 * ce ≤ i → i < 4 * ce + nb → getD vs i 0 ≡ getD ws i 0)
+  where
+    -- each ring is read from the same words
+    same-ring : (x : ℕ) → x < nb → SameRing ws vs ce be eb x
+    same-ring x h =
+        record {
+          last = lasts (4 * ce + x) (omega arith) (omega arith);
+          next = λ e m. let low = ring-below (old .ring x h) e m in links (2 * ce + e) (omega arith) (omega arith);
+          ends = λ e m. let low = ring-below (old .ring x h) e m in ends e (omega arith);
+        }
+
+    -- each ring is as before
+    pub ring-kept : (x : ℕ) → x < nb → ring-of vs ce be eb x ≡ ring-of ws ce be eb x
+    ring-kept = ring-agrees vs (le-trans edges-within small) old same-ring
+
+    -- rule 5 of vs
+    pub rings-kept : Rings vs ce nb be eb
+    rings-kept = rings-agree vs (le-trans edges-within small) old same-ring
