@@ -117,12 +117,12 @@ module _ (ws vs : List ℕ) (ce cn x : ℕ) (same : SameRun ws vs ce cn x) where
   unfolding run-of
   run-of-agree = rw (same .mark, run-list-agree)
 
--- a node without a mark has no run
+-- a node without a mark has no run's entries
 pub run-list-unmarked : (ws : List ℕ) (ce cn x : ℕ) → mark-at ws ce cn x ≡ 0 → run-list ws ce cn x ≡ []
 unfolding run-list
 run-list-unmarked ws ce cn x h = rw (eq-eqb (mark-at ws ce cn x) 0 h)
 
--- and no list of one
+-- and no run
 pub run-of-unmarked : (ws : List ℕ) (ce cn x : ℕ) → mark-at ws ce cn x ≡ 0 → run-of ws ce cn x ≡ none
 unfolding run-of
 run-of-unmarked ws ce cn x h = rw (eq-eqb (mark-at ws ce cn x) 0 h)
