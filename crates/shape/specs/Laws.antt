@@ -1,4 +1,6 @@
 -- The laws of the shape, for the crates above to cite.
+pub mod Chains
+pub mod Frames
 pub mod Taking
 pub mod Refining
 pub mod Stepping
