@@ -1,0 +1,57 @@
+-- What the functions that edit one node's run ask and promise, of the words of an axis at entry, `ws`, and at exit, `vs`. All of them promise an `Edited`: which
+-- run the node has now, and that everything else is as before.
+pub mod Laws
+use Prim.Native.Nat.{ℕ, _+_, _*_, _≤_, _<_}
+use mathlib.Core.Path.{_≡_}
+use mathlib.Core.Bool.{Bool, true}
+use mathlib.Core.Logic.{_≢_}
+use mathlib.Core.Option.{some}
+use mathlib.Core.List.{List, [], _∷_, _++_}
+use lib.ListN.{length, getD}
+use Rattle.plain.specs.declared.Counts.{Counts}
+use Rattle.plain.specs.Lists.{without}
+use Rattle.liveness.specs.Flags.{live-flags}
+use Rattle.shape.specs.Columns.{Sized, link-at, mark-at}
+use Rattle.shape.specs.Chains.{In}
+use Rattle.shape.specs.Shape.{live-in, run-list, run-of}
+use Rattle.shape.specs.Steps.{live-entries, swept}
+use Rattle.shape.specs.Checked.{Runs}
+
+-- What it takes to edit the run of a node.
+pub record Editable (ws : List ℕ) (ce cn : ℕ) (counts : Counts) (node : ℕ) : Type 0 where
+  pub sized : Sized ws ce cn
+  pub runs : Runs ws ce cn (counts .nodes .bound) (counts .edges .bound)
+  pub node-below : node < counts .nodes .bound
+  pub nodes-within : counts .nodes .bound ≤ cn
+  pub edges-within : counts .edges .bound ≤ ce
+
+-- The node's run is now ys.
+pub record Edited (ws vs : List ℕ) (ce cn : ℕ) (counts : Counts) (node : ℕ) (ys : List ℕ) : Type 0 where
+  pub here : run-of vs ce cn node ≡ some ys
+  pub others : (x : ℕ) → x < counts .nodes .bound → x ≢ node → run-of vs ce cn x ≡ run-of ws ce cn x
+  pub editable : Editable vs ce cn counts node
+  -- ends, adjacency and ring links are as before
+  pub below : (i : ℕ) → i < 3 * ce → getD vs i 0 ≡ getD ws i 0
+  -- so is everything past the run links but first, tail, count and mark of the node
+  pub above : (i : ℕ) → 4 * ce ≤ i → i ≢ 4 * ce + cn + node → i ≢ 4 * ce + 2 * cn + node → i ≢ 4 * ce + 3 * cn + node → i ≢ 4 * ce + 4 * cn + node
+      → getD vs i 0 ≡ getD ws i 0
+
+-- More entries stand at the end of the node's run; only links of its entries are written.
+pub record Grown (ws vs : List ℕ) (ce cn : ℕ) (counts : Counts) (node : ℕ) (more : List ℕ) : Type 0 where
+  pub edited : Edited ws vs ce cn counts node (run-list ws ce cn node ++ more)
+  pub links : (e : ℕ) → e < ce → (In e (run-list ws ce cn node) → ⊥) → link-at vs ce e ≡ link-at ws ce e
+
+-- What it takes to append an entry to the run of a node: it has one, and the entry is an edge that is in no run.
+pub record Pushable (ws : List ℕ) (ce cn : ℕ) (counts : Counts) (node e : ℕ) : Type 0 where
+  pub editable : Editable ws ce cn counts node
+  pub marked : mark-at ws ce cn node ≢ 0
+  pub edge-below : e < counts .edges .bound
+  pub new : (x : ℕ) → x < counts .nodes .bound → In e (run-list ws ce cn x) → ⊥
+
+-- What it takes to append an entry where it is live: only then it has to be in no run.
+pub record Keepable (ws : List ℕ) (ce cn : ℕ) (counts : Counts) (node : ℕ) (live : List ℕ) (e : ℕ) : Type 0 where
+  pub editable : Editable ws ce cn counts node
+  pub marked : mark-at ws ce cn node ≢ 0
+  pub edge-below : e < counts .edges .bound
+  pub live-long : counts .edges .bound ≤ 64 * length live
+  pub new : live-in (live-flags live (counts .edges .bound)) e ≡ true → (x : ℕ) → x < counts .nodes .bound → In e (run-list ws ce cn x) → ⊥
