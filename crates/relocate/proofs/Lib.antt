@@ -1,1 +1,3 @@
 mod Pushing
+mod Retaining
+mod Powers

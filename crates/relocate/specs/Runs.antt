@@ -3,7 +3,7 @@
 pub mod Laws
 use Prim.Native.Nat.{ℕ, _+_, _*_, _≤_, _<_}
 use mathlib.Core.Path.{_≡_}
-use mathlib.Core.Bool.{Bool, true}
+use mathlib.Core.Bool.{Bool, true, false}
 use mathlib.Core.Logic.{_≢_}
 use mathlib.Core.Option.{some}
 use mathlib.Core.List.{List, [], _∷_, _++_}
@@ -55,3 +55,23 @@ pub record Keepable (ws : List ℕ) (ce cn : ℕ) (counts : Counts) (node : ℕ)
   pub edge-below : e < counts .edges .bound
   pub live-long : counts .edges .bound ≤ 64 * length live
   pub new : live-in (live-flags live (counts .edges .bound)) e ≡ true → (x : ℕ) → x < counts .nodes .bound → In e (run-list ws ce cn x) → ⊥
+
+-- What it takes to take the dead entries out of the run of a node.
+pub record Retainable (ws : List ℕ) (ce cn : ℕ) (counts : Counts) (node : ℕ) (live : List ℕ) : Type 0 where
+  pub editable : Editable ws ce cn counts node
+  pub marked : mark-at ws ce cn node ≢ 0
+  pub live-long : counts .edges .bound ≤ 64 * length live
+
+-- The live entries of the run are left.
+abbrev pub Retained : (ws vs : List ℕ) (ce cn : ℕ) (counts : Counts) (node : ℕ) (live : List ℕ) → Type 0
+Retained ws vs ce cn counts node live =
+    Edited ws vs ce cn counts node (live-entries (live-flags live (counts .edges .bound)) (run-list ws ce cn node))
+
+-- What it takes to sweep the run of a node: `tombstoned` says whether some edge may be removed.
+pub record Sweepable (ws : List ℕ) (ce cn : ℕ) (counts : Counts) (node : ℕ) (live : List ℕ) (tombstoned : Bool) : Type 0 where
+  pub retainable : Retainable ws ce cn counts node live
+  pub all-live : tombstoned ≡ false → (e : ℕ) → e < counts .edges .bound → live-in (live-flags live (counts .edges .bound)) e ≡ true
+
+-- The run is swept.
+abbrev pub Swept : (ws vs : List ℕ) (ce cn : ℕ) (counts : Counts) (node : ℕ) (live : List ℕ) → Type 0
+Swept ws vs ce cn counts node live = Edited ws vs ce cn counts node (swept (live-flags live (counts .edges .bound)) (run-list ws ce cn node))

@@ -3,10 +3,13 @@
 
 use liveness::is_live;
 use plain::Counts;
+ghost use mathlib.Core.Path.{_≡_};
 ghost use mathlib.Core.List.{[], _∷_};
+ghost use Prim.Native.Nat.{_≤_};
+ghost use Rattle.plain.specs.Numbers.{LIMIT};
 ghost use Rattle.liveness.specs.Flags.{live-flags};
-ghost use Rattle.shape.specs.Steps.{live-entries};
-ghost use Rattle.relocate.specs.Runs.{Grown, Pushable, Keepable};
+ghost use Rattle.shape.specs.Steps.{live-entries, power-of-two};
+ghost use Rattle.relocate.specs.Runs.{Grown, Pushable, Keepable, Retainable, Retained, Sweepable, Swept};
 
 // Appends an edge that is in no run to the run of a node.
 pub fn push(axis: &mut [u32], edges: usize, nodes: usize, counts: Counts, node: usize, entry: u32)
@@ -25,4 +28,84 @@ pub fn push(axis: &mut [u32], edges: usize, nodes: usize, counts: Counts, node: 
         return;
     }
     axis[3 * edges + last as usize] = entry;
+}
+
+// Appends an edge to the run of a node where it is live.
+pub fn keep_one(
+    axis: &mut [u32],
+    edges: usize,
+    nodes: usize,
+    counts: Counts,
+    node: usize,
+    live: &[u64],
+    entry: u32,
+)
+    requires { ⌜ Keepable (now axis) edges nodes counts node (now live) entry ⌝ }
+    ensures { λ _. ⌜ Grown (now (axis .entry)) (now (axis .exit)) edges nodes counts node (live-entries (live-flags (now (live .entry)) (counts .edges .bound)) (entry ∷ [])) ⌝ }
+{
+    let bound = counts.edges.bound as usize;
+    let slot = entry as usize;
+    if is_live(live, bound, slot) {
+        push(axis, edges, nodes, counts, node, entry);
+    }
+}
+
+// Takes the dead edges out of the run of a node.
+pub fn retain(
+    axis: &mut [u32],
+    edges: usize,
+    nodes: usize,
+    counts: Counts,
+    node: usize,
+    live: &[u64],
+)
+    requires { ⌜ Retainable (now axis) edges nodes counts node (now live) ⌝ }
+    ensures { λ _. ⌜ Retained (now (axis .entry)) (now (axis .exit)) edges nodes counts node (now (live .entry)) ⌝ }
+{
+    let count = 4 * edges + 3 * nodes + node;
+    let mut left = axis[count];
+    let mut next = axis[4 * edges + nodes + node];
+    axis[count] = 0;
+    while left > 0 {
+        let entry = next;
+        let at = 3 * edges + entry as usize;
+        next = axis[at];
+        left -= 1;
+        keep_one(axis, edges, nodes, counts, node, live, entry);
+    }
+}
+
+// Whether a length is 1, 2, 4, 8, ..
+fn is_power_of_two(length: u32) -> bool
+    requires { ⌜ length ≤ LIMIT ⌝ }
+    ensures { λ r. ⌜ r ≡ power-of-two length ⌝ }
+{
+    let mut power: u32 = 1;
+    while power < length {
+        power = 2 * power;
+    }
+    power == length
+}
+
+// Takes the dead edges out of the run of a node where some edge is removed and the run's length is a power of two, so that the work is a constant for each entry
+// that the run has taken.
+pub fn sweep(
+    axis: &mut [u32],
+    edges: usize,
+    nodes: usize,
+    counts: Counts,
+    node: usize,
+    live: &[u64],
+    tombstoned: bool,
+)
+    requires { ⌜ Sweepable (now axis) edges nodes counts node (now live) tombstoned ⌝ }
+    ensures { λ _. ⌜ Swept (now (axis .entry)) (now (axis .exit)) edges nodes counts node (now (live .entry)) ⌝ }
+{
+    if !tombstoned {
+        return;
+    }
+    let count = 4 * edges + 3 * nodes + node;
+    if is_power_of_two(axis[count]) {
+        retain(axis, edges, nodes, counts, node, live);
+    }
 }
