@@ -1,3 +1,5 @@
 mod Pushing
 mod Retaining
 mod Powers
+mod Draining
+mod Starting
