@@ -3,3 +3,6 @@ mod Retaining
 mod Powers
 mod Draining
 mod Starting
+mod Searching
+mod Unlinking
+mod Preparing

@@ -88,3 +88,13 @@ Drained ws vs ce cn counts live node =
 -- The run has taken over base part and ring.
 abbrev pub TakenOver : (ws vs : List ℕ) (ce cn : ℕ) (counts : Counts) (live : List ℕ) (node : ℕ) → Type 0
 TakenOver ws vs ce cn counts live node = Remade ws vs ce cn counts node (taken (flags-of live counts) (node-of ws ce cn counts node))
+
+-- What it takes to prepare a node's run for an edit: `tombstoned` says whether some edge may be removed.
+pub record Preparable (ws : List ℕ) (ce cn : ℕ) (counts : Counts) (live : List ℕ) (tombstoned : Bool) (node : ℕ) : Type 0 where
+  pub ready : Ready ws ce cn counts live node
+  pub all-live : tombstoned ≡ false → (e : ℕ) → e < counts .edges .bound → live-in (flags-of live counts) e ≡ true
+
+-- The run has taken over base part and ring, and is swept.
+abbrev pub Prepared : (ws vs : List ℕ) (ce cn : ℕ) (counts : Counts) (live : List ℕ) (node : ℕ) → Type 0
+Prepared ws vs ce cn counts live node =
+    Remade ws vs ce cn counts node (swept (flags-of live counts) (taken (flags-of live counts) (node-of ws ce cn counts node)))

@@ -3,16 +3,18 @@
 pub mod Laws
 use Prim.Native.Nat.{ℕ, _+_, _*_, _≤_, _<_}
 use mathlib.Core.Path.{_≡_}
-use mathlib.Core.Bool.{Bool, true, false}
+use mathlib.Core.Bool.{Bool, true, false, cond}
 use mathlib.Core.Logic.{_≢_}
 use mathlib.Core.Option.{some}
 use mathlib.Core.List.{List, [], _∷_, _++_}
 use lib.ListN.{length, getD}
+use lib.Dec.{eqb}
 use Rattle.plain.specs.declared.Counts.{Counts}
+use Rattle.plain.specs.Numbers.{NONE, LIMIT}
 use Rattle.plain.specs.Lists.{without}
 use Rattle.liveness.specs.Flags.{live-flags}
-use Rattle.shape.specs.Columns.{Sized, link-at, mark-at}
-use Rattle.shape.specs.Chains.{In}
+use Rattle.shape.specs.Columns.{Sized, cell, link-at, mark-at}
+use Rattle.shape.specs.Chains.{In, chain}
 use Rattle.shape.specs.Shape.{live-in, run-list, run-of}
 use Rattle.shape.specs.Steps.{live-entries, swept}
 use Rattle.shape.specs.Checked.{Runs}
@@ -75,3 +77,32 @@ pub record Sweepable (ws : List ℕ) (ce cn : ℕ) (counts : Counts) (node : ℕ
 -- The run is swept.
 abbrev pub Swept : (ws vs : List ℕ) (ce cn : ℕ) (counts : Counts) (node : ℕ) (live : List ℕ) → Type 0
 Swept ws vs ce cn counts node live = Edited ws vs ce cn counts node (swept (live-flags live (counts .edges .bound)) (run-list ws ce cn node))
+
+-- the entry before e in a list, NONE where there is none
+unfoldable pub before-in : ℕ → List ℕ → ℕ
+before-in e [] = NONE
+before-in e (x ∷ []) = NONE
+before-in e (x ∷ y ∷ l) = cond (eqb e y) x (before-in e (y ∷ l))
+
+-- What it takes to go along a chain of links: it is not empty, and its entries are edges.
+pub record Searchable (ws : List ℕ) (ce first n : ℕ) : Type 0 where
+  pub edges-within : ce ≤ LIMIT
+  pub room : 4 * ce ≤ length ws
+  pub full : 0 < n
+  pub below : (e : ℕ) → In e (chain (cell ws (3 * ce)) n first) → e < ce
+
+-- What it takes to take an entry out of the run of a node: the node has one.
+pub record Cuttable (ws : List ℕ) (ce cn : ℕ) (counts : Counts) (node : ℕ) : Type 0 where
+  pub editable : Editable ws ce cn counts node
+  pub marked : mark-at ws ce cn node ≢ 0
+
+-- What it takes to unlink an entry that is known to stand after `before`.
+pub record Unlinkable (ws : List ℕ) (ce cn : ℕ) (counts : Counts) (node before e : ℕ) : Type 0 where
+  pub editable : Editable ws ce cn counts node
+  pub marked : mark-at ws ce cn node ≢ 0
+  pub follows : before ≡ before-in e (run-list ws ce cn node)
+  pub some-before : before ≢ NONE
+
+-- The run is without the entry.
+abbrev pub TakenOut : (ws vs : List ℕ) (ce cn : ℕ) (counts : Counts) (node e : ℕ) → Type 0
+TakenOut ws vs ce cn counts node e = Edited ws vs ce cn counts node (without e (run-list ws ce cn node))

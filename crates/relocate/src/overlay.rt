@@ -2,11 +2,12 @@
 // its run in place of the base part. What a call asks and promises of the words is a record of specs/Overlay.antt.
 
 use crate::runs::keep_one;
+use crate::runs::sweep;
 use adjacency::rings::detach;
 use adjacency::rings::ring_ends;
 use plain::Counts;
 use plain::NONE;
-ghost use Rattle.relocate.specs.Overlay.{Ready, Copyable, Copied, Started, Drainable, Drained, TakenOver};
+ghost use Rattle.relocate.specs.Overlay.{Ready, Copyable, Copied, Started, Drainable, Drained, TakenOver, Preparable, Prepared};
 
 // Appends the live edges of a node's base part to its run, which is empty.
 fn copy_base(
@@ -100,4 +101,21 @@ pub fn take_over(
 {
     start_run(axis, edges, nodes, counts, node, live);
     drain(axis, edges, nodes, counts, node, live);
+}
+
+// Makes a node's run take over its base part and ring, and sweeps it: what comes before an edit of the run.
+pub fn prepare(
+    axis: &mut [u32],
+    edges: usize,
+    nodes: usize,
+    counts: Counts,
+    node: usize,
+    live: &[u64],
+    tombstoned: bool,
+)
+    requires { ⌜ Preparable (now axis) edges nodes counts (now live) tombstoned node ⌝ }
+    ensures { λ _. ⌜ Prepared (now (axis .entry)) (now (axis .exit)) edges nodes counts (now (live .entry)) node ⌝ }
+{
+    take_over(axis, edges, nodes, counts, node, live);
+    sweep(axis, edges, nodes, counts, node, live, tombstoned);
 }

@@ -3,13 +3,16 @@
 
 use liveness::is_live;
 use plain::Counts;
+use plain::NONE;
 ghost use mathlib.Core.Path.{_≡_};
 ghost use mathlib.Core.List.{[], _∷_};
-ghost use Prim.Native.Nat.{_≤_};
+ghost use Prim.Native.Nat.{_*_, _≤_};
 ghost use Rattle.plain.specs.Numbers.{LIMIT};
 ghost use Rattle.liveness.specs.Flags.{live-flags};
+ghost use Rattle.shape.specs.Columns.{cell};
+ghost use Rattle.shape.specs.Chains.{chain};
 ghost use Rattle.shape.specs.Steps.{live-entries, power-of-two};
-ghost use Rattle.relocate.specs.Runs.{Grown, Pushable, Keepable, Retainable, Retained, Sweepable, Swept};
+ghost use Rattle.relocate.specs.Runs.{Grown, Pushable, Keepable, Retainable, Retained, Sweepable, Swept, before-in, Searchable, Unlinkable, Cuttable, TakenOut};
 
 // Appends an edge that is in no run to the run of a node.
 pub fn push(axis: &mut [u32], edges: usize, nodes: usize, counts: Counts, node: usize, entry: u32)
@@ -107,5 +110,79 @@ pub fn sweep(
     let count = 4 * edges + 3 * nodes + node;
     if is_power_of_two(axis[count]) {
         retain(axis, edges, nodes, counts, node, live);
+    }
+}
+
+// The entry that stands before `entry` in the chain of `length` entries from `first` on, or NONE where there is none.
+fn find_before(axis: &[u32], edges: usize, first: u32, length: u32, entry: u32) -> u32
+    requires { ⌜ Searchable (now axis) edges first length ⌝ }
+    ensures { λ r. ⌜ r ≡ before-in entry (chain (cell (now (axis .entry)) (3 * edges)) length first) ⌝ }
+{
+    let mut before = first;
+    let mut left = length - 1;
+    while left > 0 {
+        let at = 3 * edges + before as usize;
+        let next = axis[at];
+        if next == entry {
+            return before;
+        }
+        before = next;
+        left -= 1;
+    }
+    NONE
+}
+
+// Takes the edge that stands after `before` in the run of a node out of it.
+fn unlink(
+    axis: &mut [u32],
+    edges: usize,
+    nodes: usize,
+    counts: Counts,
+    node: usize,
+    before: u32,
+    entry: u32,
+)
+    requires { ⌜ Unlinkable (now axis) edges nodes counts node before entry ⌝ }
+    ensures { λ _. ⌜ TakenOut (now (axis .entry)) (now (axis .exit)) edges nodes counts node entry ⌝ }
+{
+    let tail = 4 * edges + 2 * nodes + node;
+    let count = 4 * edges + 3 * nodes + node;
+    let at = 3 * edges + before as usize;
+    let after = 3 * edges + entry as usize;
+    axis[count] = axis[count] - 1;
+    axis[at] = axis[after];
+    if axis[tail] == entry {
+        axis[tail] = before;
+    }
+}
+
+// Takes an edge out of the run of a node, where it is there.
+pub fn take_out(
+    axis: &mut [u32],
+    edges: usize,
+    nodes: usize,
+    counts: Counts,
+    node: usize,
+    entry: u32,
+)
+    requires { ⌜ Cuttable (now axis) edges nodes counts node ⌝ }
+    ensures { λ _. ⌜ TakenOut (now (axis .entry)) (now (axis .exit)) edges nodes counts node entry ⌝ }
+{
+    let head = 4 * edges + nodes + node;
+    let count = 4 * edges + 3 * nodes + node;
+    let length = axis[count];
+    let first = axis[head];
+    if length == 0 {
+        return;
+    }
+    if first == entry {
+        let after = 3 * edges + first as usize;
+        axis[count] = length - 1;
+        axis[head] = axis[after];
+        return;
+    }
+    let before = find_before(axis, edges, first, length, entry);
+    if before != NONE {
+        unlink(axis, edges, nodes, counts, node, before, entry);
     }
 }
