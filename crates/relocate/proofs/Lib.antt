@@ -6,3 +6,4 @@ mod Starting
 mod Searching
 mod Unlinking
 mod Preparing
+mod Redirecting

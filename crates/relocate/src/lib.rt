@@ -2,4 +2,5 @@
 // relocate/runs.rs. All functions are internal: they require the part of a checked store that they need, by its name in crate `shape`.
 
 pub mod overlay;
+pub mod redirects;
 pub mod runs;

@@ -9,7 +9,10 @@ use mathlib.Core.Logic.{_≢_}
 use mathlib.Core.Option.{Option, none, some}
 use mathlib.Core.List.{List, [], _∷_, _++_}
 use lib.ListN.{length, getD}
+use lib.Dec.{eqb}
+use borrow.Author.Tests.{eqb-true, eqb-false}
 use Rattle.plain.specs.declared.Counts.{Counts}
+use Rattle.plain.specs.Laws.Booleans.{by-test}
 use Rattle.shape.specs.Columns.{mark-at}
 use Rattle.shape.specs.Chains.{In}
 use Rattle.shape.specs.Shape.{Adjacency, raw, live-in, base-of, run-list, run-of, ring-of}
@@ -17,7 +20,7 @@ use Rattle.shape.specs.Steps.{live-entries, run-or-base, taken, with-run}
 use Rattle.shape.specs.Checked.{Index, Rings}
 use Rattle.shape.specs.Laws.Frames.{base-kept, index-kept}
 use Rattle.relocate.specs.Runs.{Editable, Edited}
-use Rattle.relocate.specs.Runs.Laws.{list-of-run, mark-of-run, edited-ring, edited-rings}
+use Rattle.relocate.specs.Runs.Laws.{same-entries, list-of-run, mark-of-run, edited-ring, edited-rings}
 use Rattle.relocate.specs.Overlay.{node-of, flags-of, Ready, Remade}
 
 -- equal parts make equal adjacencies
@@ -112,3 +115,14 @@ module _ {ws vs : List ℕ} {ce cn : ℕ} {counts : Counts} {node : ℕ} {ys : L
   -- and its mark
   pub remade-mark : mark-at vs ce cn node ≢ 0
   remade-mark = mark-of-run vs ce cn node remade-of
+
+  -- the entries of another node's run
+  pub remade-other : (x : ℕ) → x < counts .nodes .bound → x ≢ node → run-list vs ce cn x ≡ run-list ws ce cn x
+  remade-other x h ne = same-entries ws vs ce cn x (ap (λ (a : Adjacency). a .run) (made .others x h ne))
+
+  -- an edge that is not among the entries ys is in no run where it was in none before but the node's
+  pub remade-new : (e : ℕ) → (In e ys → ⊥) → ((x : ℕ) → x < counts .nodes .bound → x ≢ node → In e (run-list ws ce cn x) → ⊥)
+      → (x : ℕ) → x < counts .nodes .bound → In e (run-list vs ce cn x) → ⊥
+  remade-new e gone elsewhere x h m =
+      by-test (eqb x node) (λ t. gone (rw (eqb-true x node t, remade-list) at m))
+      (λ t. let ne = eqb-false x node t in elsewhere x h ne (rw (remade-other x h ne) at m))
