@@ -163,7 +163,7 @@ module _ {ws : List ℕ} {ce cn : ℕ} {counts : Counts} {live : List ℕ} {node
   unfolding ring-ends keep
   drain-none is none =
       let empty : ring ≡ [] = ring-of-none ws ce (counts .edges .base) (counts .edges .bound) node (sym (ap (λ (z : RingEnds). z .last) is) ∙ none) in
-      remade-run (pre .ready) empty
+      remade-run (pre .ready .nodes-based) (pre .ready .edges-based) (pre .ready .index) (pre .ready .rings) empty
       (rw (empty, append-nil run) (edited-none (pre .ready .editable) (pre .marked)))
 
   -- a ring with a last entry

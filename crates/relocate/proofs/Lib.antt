@@ -7,3 +7,5 @@ mod Searching
 mod Unlinking
 mod Preparing
 mod Redirecting
+mod Handing
+mod Moving

@@ -59,22 +59,24 @@ module _ {ws vs : List ℕ} {ce cn : ℕ} {counts : Counts} {node : ℕ} {ys : L
 
 -- ---- a node that is remade
 
-module _ {ws vs : List ℕ} {ce cn : ℕ} {counts : Counts} {live : List ℕ} {node : ℕ} where
-  -- an edit of a node whose ring is empty
-  pub remade-run : {ys : List ℕ} → Ready ws ce cn counts live node → ring-of ws ce (counts .edges .base) (counts .edges .bound) node ≡ []
-      → Edited ws vs ce cn counts node ys → Remade ws vs ce cn counts node ys
-  remade-run pre empty done =
-      record {
-        here =
-            node-same (edited-base done (pre .nodes-based) (pre .edges-based) (pre .index) node) (done .here)
-            (edited-ring done (counts .edges .base) (pre .rings) node (pre .editable .node-below) ∙ empty);
-        others = edited-node done (pre .nodes-based) (pre .edges-based) (pre .index) (pre .rings);
-        editable = done .editable;
-        rings = edited-rings done (counts .edges .base) (pre .rings);
-        index = edited-index done (pre .nodes-based) (pre .edges-based) (pre .index);
-        below = done .below;
-      }
+-- an edit of a node whose ring is empty
+pub remade-run : {ws vs : List ℕ} {ce cn : ℕ} {counts : Counts} {node : ℕ} {ys : List ℕ} → counts .nodes .base ≤ counts .nodes .bound
+    → counts .edges .base ≤ counts .edges .bound → Index ws ce cn (counts .nodes .base) (counts .edges .base)
+    → Rings ws ce (counts .nodes .bound) (counts .edges .base) (counts .edges .bound)
+    → ring-of ws ce (counts .edges .base) (counts .edges .bound) node ≡ [] → Edited ws vs ce cn counts node ys → Remade ws vs ce cn counts node ys
+remade-run {counts = counts} {node = node} nodes-based edges-based index rings empty done =
+    record {
+      here =
+          node-same (edited-base done nodes-based edges-based index node) (done .here)
+          (edited-ring done (counts .edges .base) rings node (done .editable .node-below) ∙ empty);
+      others = edited-node done nodes-based edges-based index rings;
+      editable = done .editable;
+      rings = edited-rings done (counts .edges .base) rings;
+      index = edited-index done nodes-based edges-based index;
+      below = done .below;
+    }
 
+module _ {ws vs : List ℕ} {ce cn : ℕ} {counts : Counts} {live : List ℕ} {node : ℕ} where
   -- an edit before the node is remade
   pub edited-remade : {us ys zs : List ℕ} → Ready ws ce cn counts live node → Edited ws us ce cn counts node ys → Remade us vs ce cn counts node zs
       → Remade ws vs ce cn counts node zs
