@@ -199,7 +199,7 @@ module _ {caps : Capacities} {s : Shape} (h : Proper caps s) where
   flags-below d x e m = rw (length-map (s .edges) (λ (e : EdgeSlot). e .live)) (h .entries-below d x e m)
 
   -- a live node has an adjacency
-  live-node-below : (d : TraversalDirection) (x : ℕ) → getD (node-flags-of s) x false ≡ true → x < length (axis-in d s .nodes)
+  pub live-node-below : (d : TraversalDirection) (x : ℕ) → getD (node-flags-of s) x false ≡ true → x < length (axis-in d s .nodes)
   live-node-below d x l = rw (axis-nodes h d) (omega (arith, live-below (node-flags-of s) x l, length-map (s .nodes) (λ (n : NodeSlot). n .live)))
 
   added-lists : (d : TraversalDirection) (x : ℕ) → getD (node-flags-of s) x false ≡ true
