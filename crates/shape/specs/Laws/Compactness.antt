@@ -148,7 +148,7 @@ module _ {caps : Capacities} {s : Shape} (h : Proper caps s) (b : Based s) where
   case-compact (add-edge-target-absent k l) = kept
   case-compact (add-edge-target-removed k l) = kept
   case-compact (add-edge-full k l m) = kept
-  case-compact (add-edge {x} {y} {v} k l m) = lost (edge-added-compact x y v)
+  case-compact (add-edge {s = x} {t = y} {v} k l m) = lost (edge-added-compact x y v)
   case-compact (remove-edge-absent k) = kept
   case-compact (remove-edge-removed k) = kept
   case-compact (remove-edge {e} k) = lost (edge-removed-compact e k)
