@@ -8,3 +8,4 @@ pub mod Keeping
 pub mod Reaching
 pub mod Settling
 pub mod Compactness
+pub mod Checking
