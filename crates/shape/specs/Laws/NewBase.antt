@@ -18,13 +18,14 @@ use Rattle.plain.specs.Image.{lists-right, at-their-nodes}
 use Rattle.plain.specs.Laws.Booleans.{by-test, true-false, below-or-not, and-left}
 use Rattle.plain.specs.Laws.ListLaws.{getD-map, map-same, map-getD, length-from, getD-from, member-keep, member-below, distinct-keep, distinct-from}
 use Rattle.plain.specs.Laws.Below.{Below, below-of, below-all, below-within}
+use Rattle.plain.specs.Laws.Cutting.{sum, length-joined, sum-list-lengths}
 use Rattle.plain.specs.Laws.WellFormed.{Fitted}
 use Rattle.plain.specs.Laws.Fitting.{has-end, live-has-end, incident-fitted}
 use Rattle.shape.specs.Columns.{Sized, cell, end-at, offset-at, last-at, mark-at}
 use Rattle.shape.specs.Shape.{between, base-of, run-of, run-list, ring-of, Adjacency, Axis, axis-of}
 use Rattle.shape.specs.Chains.{ring}
 use Rattle.shape.specs.Checked.{Index, Indexed, AxisChecked}
-use Rattle.shape.specs.Laws.Indexing.{Rewritten, total, before, before-suc, before-zero, before-total, before-all, before-few, ends-of, length-ends, end-of-edge, ends-same, part-of-joined, edges-to, in-order, map-from-same, length-map-from, front-range}
+use Rattle.shape.specs.Laws.Indexing.{Rewritten, total, before, before-suc, before-zero, before-total, before-all, before-few, ends-of, length-ends, end-of-edge, ends-same, part-of-joined, edges-to, in-order, map-from-same, front-range}
 
 -- ---- bounds of a base part
 
@@ -78,6 +79,10 @@ module _ {n : ℕ} {ends : List ℕ} {lists : List (List ℕ)} (f : Fitted n end
       ∙ ap (λ (l : List ℕ). getD l x 0) (f .lengths)
       ∙ getD-map (λ y. count (eqb y) ends) (from 0 n) x 0 0 (rw (length-from 0 n) h)
       ∙ ap (λ (k : ℕ). count (eqb k) ends) (getD-from 0 n x 0 h ∙ zero-add x))
+
+  -- an entry an edge, all together
+  pub fitted-total : length (joined lists) ≡ length ends
+  fitted-total = length-joined lists ∙ ap sum (f .lengths) ∙ sum-list-lengths n (below-of ends (f .ends-below))
 
   -- entries below the number of edges
   fitted-entries : Below (length ends) (joined lists)
@@ -188,12 +193,9 @@ module _ (ws : List ℕ) (ce cn n : ℕ) (ends : List ℕ) (lists : List (List �
         starts = o .starts;
         ascends = λ x h. let step = o .steps x h in omega arith;
         stops = o .stops;
-        entries = λ i h. rw (← entry-at i h) (below-within (fitted-entries f) i (let long = entries-long in omega arith));
+        entries = λ i h. rw (← entry-at i h) (below-within (fitted-entries f) i (let long = fitted-total f in omega arith));
       })
     where
-      entries-long : length (joined lists) ≡ length ends
-      entries-long = ap length (sym (b .entries)) ∙ length-map-from (cell ws ce) 0 (length ends)
-
       entry-at : (i : ℕ) → i < length ends → getD (joined lists) i 0 ≡ cell ws ce i
       entry-at i h =
           ap (λ (l : List ℕ). getD l i 0) (sym (b .entries))
