@@ -43,7 +43,7 @@ module _ (ws : List ℕ) (ce cn bn : ℕ) where
   unfolding base-of from
   base-between x = by-test (ltb x bn) (λ h. rw h) (λ h. rw h)
 
-  -- of a node below the base count they are two offsets, within the index
+  -- an offset of a node up to the base count is within the index
   pub offsets-within : {be : ℕ} → Indexed ws ce cn bn be → (x : ℕ) → x < bn + 1 → offset-at ws ce cn x ≤ be
   offsets-within {be} i x h = below (bn - x) x (omega arith)
     where
@@ -94,6 +94,7 @@ module _ {n : ℕ} {ends : List ℕ} {lists : List (List ℕ)} (f : Fitted n end
 -- ---- the lists in slot order are fitted
 
 module _ (ws : List ℕ) (n m : ℕ) where
+  -- a list a node
   pub length-in-order : length (in-order ws n m) ≡ n
   unfolding in-order
   length-in-order = length-map (from 0 n) (edges-to ws m) ∙ length-from 0 n
@@ -108,7 +109,7 @@ module _ (ws : List ℕ) (n m : ℕ) where
   past-in-order : (x : ℕ) → n ≤ x → getD (in-order ws n m) x [] ≡ []
   past-in-order x h = List·getD-eq-default (in-order ws n m) [] (let many = length-in-order in omega arith)
 
-  -- and nothing else
+  -- its members are those edges
   member-edges-to : (x e : ℕ) → member e (edges-to ws m x) ≡ (ltb e m && eqb (end-at ws e) x)
   member-edges-to x e = member-keep (λ d. eqb (end-at ws d) x) e (from 0 m) ∙ ap (λ (b : Bool). b && eqb (end-at ws e) x) (member-below e m)
 
@@ -118,6 +119,7 @@ module _ (ws : List ℕ) (n m : ℕ) where
       rw (length-ends ws m) (by-test (ltb e m) (λ h. rw (h, end-of-edge ws m e (ltb-true e m h))) (λ h. rw h))
 
   module _ (below : (e : ℕ) → e < m → end-at ws e < n) where
+    -- every list has the edges with its end, also past the last
     listed-in-order : (x e : ℕ) → member e (getD (in-order ws n m) x []) ≡ (ltb e m && eqb (end-at ws e) x)
     unfolding member
     listed-in-order x e =
@@ -126,6 +128,7 @@ module _ (ws : List ℕ) (n m : ℕ) where
         ∙ sym (by-test (ltb e m) (λ k. let l = below e (ltb-true e m k) in rw (k, ne-eqb (end-at ws e) x (λ q. omega arith))) (λ k. rw k)))
         (below-or-not x n)
 
+    -- and none twice
     once-in-order : (x : ℕ) → distinct (getD (in-order ws n m) x []) ≡ true
     unfolding distinct
     once-in-order x =
@@ -245,6 +248,7 @@ module _ {ws : List ℕ} {ce cn : ℕ} {counts : Counts} {ends : List ℕ} {list
   unfolding run-of
   new-run x h = rw (b .marks x h)
 
+  -- so that there is no run to list
   no-run : (x : ℕ) → x < counts .nodes .bound → run-list ws ce cn x ≡ []
   unfolding run-list
   no-run x h = rw (b .marks x h)
