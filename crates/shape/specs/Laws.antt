@@ -1,6 +1,8 @@
 -- The laws of the shape, for the crates above to cite.
 pub mod Chains
 pub mod Frames
+pub mod Indexing
+pub mod NewBase
 pub mod Taking
 pub mod Refining
 pub mod Stepping
