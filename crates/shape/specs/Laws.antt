@@ -11,3 +11,5 @@ pub mod Reaching
 pub mod Settling
 pub mod Compactness
 pub mod Checking
+pub mod Reading
+pub mod Judging

@@ -76,11 +76,11 @@ list-is-walk s Outgoing x = list-at (edge-flags-of s) (node-flags-of s) (s .outg
 list-is-walk s Incoming x = list-at (edge-flags-of s) (node-flags-of s) (s .incoming) x
 
 -- its slots and ends are the shape's
-nodes-of : (s : Shape) → plain-of s .nodes ≡ s .nodes
+pub nodes-of : (s : Shape) → plain-of s .nodes ≡ s .nodes
 unfolding plain-of
 nodes-of s = refl
 
-ends-of : (s : Shape) (d : TraversalDirection) → incidence d (plain-of s) .ends ≡ axis-in d s .ends
+pub ends-of : (s : Shape) (d : TraversalDirection) → incidence d (plain-of s) .ends ≡ axis-in d s .ends
 unfolding plain-of
 ends-of s Outgoing = refl
 ends-of s Incoming = refl
