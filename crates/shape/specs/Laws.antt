@@ -13,3 +13,4 @@ pub mod Compactness
 pub mod Checking
 pub mod Reading
 pub mod Judging
+pub mod CheckedShape

@@ -1,0 +1,81 @@
+-- The shape of a checked store is proper: its entries are edges of the store, and its walks are well formed. So every operation on it is document 01's.
+use Prim.Native.Nat.{ℕ, zero, suc, _+_, _*_, _-_, _≤_, _<_}
+use mathlib.Core.Path.{_≡_, refl, sym, ap, subst, _∙_}
+use mathlib.Core.Bool.{Bool, true, false, cond, _&&_}
+use mathlib.Core.Logic.{_⊎_, inl, inr, ⊎-elim}
+use mathlib.Core.Option.{Option, none, some}
+use mathlib.Core.List.{List, [], _∷_, _++_, map}
+use native.Mathlib.Omega.{arith}
+use lib.ListN.{length, getD, List·getD-eq-default}
+use lib.Dec.{eqb, leb, ltb}
+use borrow.Author.Tests.{ltb-true, leb-true, eqb-true}
+use Rattle.plain.specs.declared.TraversalDirection.{TraversalDirection}
+use Rattle.plain.specs.declared.Slots.{Slots}
+use Rattle.plain.specs.declared.Counts.{Counts}
+use Rattle.plain.specs.Lists.{member, from}
+use Rattle.plain.specs.Laws.Booleans.{by-test, below-or-not, and-left, and-right}
+use Rattle.plain.specs.Laws.ListLaws.{member-source, member-from}
+use Rattle.shape.specs.Columns.{cell, mark-at}
+use Rattle.shape.specs.Chains.{In, Ring}
+use Rattle.shape.specs.Shape.{Words, Adjacency, Axis, capacities, axis-words, between, base-of, run-list, run-of, ring-of, hiding, raw, no-adjacency, axis-in, adjacency-of, axis-of, shape-of}
+use Rattle.shape.specs.Checked.{Index, Indexed, Rings, Runs, AxisChecked, Checked}
+use Rattle.shape.specs.Laws.Chains.{in-none, ring-below}
+use Rattle.shape.specs.Laws.Frames.{run-list-below}
+use Rattle.shape.specs.Laws.NewBase.{base-start, base-end, base-between, base-range}
+use Rattle.shape.specs.Laws.Keeping.{in-either}
+use Rattle.shape.specs.Laws.Refining.{Proper}
+use Rattle.shape.specs.Laws.Compactness.{Based}
+use Rattle.shape.specs.Laws.Reading.{node-bound-is, edge-bound-is, axis-is, axis-nodes, axis-adjacency}
+
+-- entries of the compressed index are base edges
+base-below : (ws : List ℕ) (ce cn bn be : ℕ) → Index ws ce cn bn be → (x e : ℕ) → In e (base-of ws ce cn bn x) → e < be
+base-below ws ce cn bn be index x e m =
+    let a = base-start ws ce cn bn x in
+    let b = base-end ws ce cn bn x in
+    let source = member-source (cell ws ce) e (from a (b - a)) (ap (member e) (sym (base-between ws ce cn bn x)) ∙ m) in
+    let k = sym (member-from (source .0) a (b - a)) ∙ source .1 in
+    let low : source .0 < a + (b - a) = ltb-true (source .0) (a + (b - a)) (and-right (leb a (source .0)) (ltb (source .0) (a + (b - a))) k) in
+    let range = base-range ws ce cn bn index x in
+    let here : source .0 < be = omega arith in
+    ⊎-elim (λ w. absurd (omega (arith, w .1))) (λ w. let l = w .entries (source .0) here in rw (← source .2) l) index
+
+-- the run of a node, or its base part
+part-below : (ws : List ℕ) (ce cn : ℕ) (counts : Counts) (nodes edges : List Bool) → counts .edges .base ≤ counts .edges .bound
+    → AxisChecked ws ce cn counts nodes edges → (x e : ℕ) → x < counts .nodes .bound
+    → In e (hiding (run-of ws ce cn x) (base-of ws ce cn (counts .nodes .base) x)) → e < counts .edges .bound
+unfolding run-of
+part-below ws ce cn counts nodes edges within c x e l =
+    by-test (eqb (mark-at ws ce cn x) 0)
+    (λ q. rw q (λ m. let k = base-below ws ce cn (counts .nodes .base) (counts .edges .base) (c .index) x e m in omega arith))
+    (λ q. rw q (λ m. run-list-below (c .runs) x e l m))
+
+module _ (w : Words) (c : Checked w) where
+  -- every entry of every adjacency is an edge of the store
+  entries-low : (d : TraversalDirection) (x e : ℕ) → In e (raw (adjacency-of d (shape-of w) x)) → e < length (shape-of w .edges)
+  unfolding member
+  entries-low d x e m =
+      let ce = length (w .edges) in
+      let cn = length (w .nodes) in
+      let ws = axis-words d w in
+      let k = ap (λ (a : Axis). member e (raw (getD (a .nodes) x no-adjacency))) (sym (axis-is w d)) ∙ m in
+      rw (edge-bound-is w)
+      (⊎-elim
+      (λ l. let n = ap (λ (a : Adjacency). member e (raw a)) (sym (axis-adjacency ws ce cn (w .counts) x l)) ∙ k in
+      in-either e (hiding (run-of ws ce cn x) (base-of ws ce cn (w .counts .nodes .base) x)) (ring-of ws ce (w .counts .edges .base) (w .counts .edges .bound) x) n
+      (λ q. part-below ws ce cn (w .counts) _ _ (c .edges .base-within) (c .axis d) x e l q)
+      (λ q. ring-below (c .axis d .rings .ring x l) e q))
+      (λ l. let past = List·getD-eq-default (axis-of ws ce cn (w .counts) .nodes) no-adjacency (rw (axis-nodes ws ce cn (w .counts)) l) in
+      in-none e (ap (λ (a : Adjacency). member e (raw a)) (sym past) ∙ k))
+      (below-or-not x (w .counts .nodes .bound)))
+
+  -- the shape of a checked store is proper
+  pub checked-proper : Proper (capacities w) (shape-of w)
+  checked-proper = record { walks = c .walks; entries-below = entries-low }
+
+  -- its base is within its bounds
+  pub checked-based : Based (shape-of w)
+  unfolding shape-of
+  checked-based = record {
+    nodes-within = rw (node-bound-is w) (c .nodes .base-within);
+    edges-within = rw (edge-bound-is w) (c .edges .base-within);
+  }
