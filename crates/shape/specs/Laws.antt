@@ -14,3 +14,4 @@ pub mod Checking
 pub mod Reading
 pub mod Judging
 pub mod CheckedShape
+pub mod Running

@@ -24,6 +24,7 @@ use Rattle.shape.specs.Shape.{Adjacency, Axis, Shape, no-adjacency, axis
 use Rattle.shape.specs.Steps.{live-entries, taken, swept, with-run, redirected-axis, moved-axis, with-axis, retired, walk-in, acted, acts, shape-step}
 use Rattle.shape.specs.Laws.Refining.{Proper, live-node-below}
 use Rattle.shape.specs.Laws.Stepping.{length-some}
+use Rattle.shape.specs.Laws.Keeping.{retired-length}
 
 -- a test that one element fails, all do not pass
 not-all : {A : Type 0} (test : A → Bool) (l : List A) (x : ℕ) (d : A) → x < length l → test (getD l x d) ≡ false → all test l ≡ false
@@ -176,3 +177,35 @@ module _ {caps : Capacities} {s : Shape} (h : Proper caps s) (b : Based s) where
   pub step-compact : (operation : Operation) → is-compact (shape-step caps s operation) ≡ (is-compact s && step caps (plain-of s) operation .keeps-compact)
   unfolding shape-step
   step-compact operation = case-compact (case-of caps (plain-of s) operation)
+
+-- an operation's own change keeps the base within the bounds
+based-acted : {s : Shape} → Based s → (operation : Operation) → Based (acted operation s)
+unfolding acted
+based-acted {s} b (AddNode v) = record {
+  nodes-within = rw (length-append (s .nodes) (record { payload = v; live = true } ∷ [])) (let w = b .nodes-within in omega arith);
+  edges-within = b .edges-within;
+}
+based-acted {s} b (AddEdge x y v) = record {
+  nodes-within = b .nodes-within;
+  edges-within = rw (length-append (s .edges) (record { payload = v; live = true } ∷ [])) (let w = b .edges-within in omega arith);
+}
+based-acted {s} b (RemoveEdge e) = record { nodes-within = b .nodes-within; edges-within = rw (retired-length (e ∷ []) (s .edges)) (b .edges-within) }
+based-acted {s} b (RemoveNode x) = record {
+  nodes-within = rw (length-set (s .nodes) x (killed-node (getD (s .nodes) x no-node))) (b .nodes-within);
+  edges-within = rw (retired-length (walk-in Outgoing s x ++ walk-in Incoming s x) (s .edges)) (b .edges-within);
+}
+based-acted {s} b (Redirect Outgoing e new) = record { nodes-within = b .nodes-within; edges-within = b .edges-within }
+based-acted {s} b (Redirect Incoming e new) = record { nodes-within = b .nodes-within; edges-within = b .edges-within }
+based-acted {s} b (Move Outgoing old new) = record { nodes-within = b .nodes-within; edges-within = b .edges-within }
+based-acted {s} b (Move Incoming old new) = record { nodes-within = b .nodes-within; edges-within = b .edges-within }
+based-acted {s} b (SetPayload e v) = record {
+  nodes-within = b .nodes-within;
+  edges-within = rw (length-set (s .edges) e (record { payload = v; live = getD (s .edges) e no-edge .live })) (b .edges-within);
+}
+based-acted b Unknown = b
+
+-- the base stays within the bounds
+pub step-based : (caps : Capacities) {s : Shape} → Based s → (operation : Operation) → Based (shape-step caps s operation)
+unfolding shape-step
+step-based caps {s} b operation =
+    by-test (acts operation (step caps (plain-of s) operation)) (λ a. rw a (based-acted b operation)) (λ a. rw a b)

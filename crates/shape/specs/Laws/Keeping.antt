@@ -141,7 +141,7 @@ module _ {caps : Capacities} {s : Shape} (h : Proper caps s) where
   opened-low d x = rw (getD-added (axis-in d s .nodes) no-adjacency x) (low d x)
 
 -- removals keep the number of edge slots
-retired-length : (es : List ℕ) (edges : List EdgeSlot) → length (retired es edges) ≡ length edges
+pub retired-length : (es : List ℕ) (edges : List EdgeSlot) → length (retired es edges) ≡ length edges
 unfolding retired
 retired-length [] edges = refl
 retired-length (e ∷ es) edges = retired-length es (set edges e (killed-edge (getD edges e no-edge))) ∙ length-set edges e (killed-edge (getD edges e no-edge))
