@@ -1,6 +1,6 @@
 -- The shape of a store: what the Rust holds in its vectors, as lists of edge numbers, dead entries included. It is a total function of the counts and the six
 -- lists of words; the plain lists are a total function of it.
-use Prim.Native.Nat.{ℕ, zero, suc, _+_, _-_, _*_}
+use Prim.Native.Nat.{ℕ, suc, _-_, _*_}
 use mathlib.Core.Bool.{Bool, true, false, cond, _&&_, not}
 use mathlib.Core.Option.{Option, none, some}
 use mathlib.Core.List.{List, [], _∷_, _++_, map}
@@ -8,13 +8,12 @@ use lib.ListN.{length, getD}
 use lib.Dec.{eqb, leb, ltb}
 use Rattle.plain.specs.declared.TraversalDirection.{TraversalDirection}
 use Rattle.plain.specs.declared.TraversalDirection.the-variants.{Outgoing, Incoming}
-use Rattle.plain.specs.declared.Slots.{Slots}
 use Rattle.plain.specs.declared.Counts.{Counts}
 use Rattle.plain.specs.Lists.{member, keep, all, from}
 use Rattle.plain.specs.Plain.{Plain, NodeSlot, EdgeSlot, Incidence}
 use Rattle.plain.specs.Step.{Capacities}
 use Rattle.liveness.specs.Flags.{live-flags}
-use Rattle.shape.specs.Columns.{adjacency-at, next-at, link-at, last-at, first-at, count-at, mark-at, offset-at, cell}
+use Rattle.shape.specs.Columns.{last-at, first-at, count-at, mark-at, offset-at, cell}
 use Rattle.shape.specs.Chains.{chain, ring}
 
 -- ---- one node of one direction, from the words of its axis

@@ -1,24 +1,24 @@
 -- Every operation keeps the plain lists well formed.
-use Prim.Native.Nat.{ℕ, zero, suc, _+_, _≤_, _<_, _^_}
+use Prim.Native.Nat.{ℕ, _+_, _<_, _^_}
 use mathlib.Core.Path.{_≡_, refl, sym, ap, subst, _∙_}
-use mathlib.Core.Bool.{Bool, true, false, cond, _&&_, _||_, not, false≢true}
+use mathlib.Core.Bool.{Bool, true, false, _&&_, not, false≢true}
 use mathlib.Core.List.{List, [], _∷_, _++_, map}
 use native.Mathlib.Omega.{arith}
-use lib.ListN.{length, getD, set, length-set, length-append, length-map, List·getD-eq-default}
-use lib.Seq.{map-set-same, set-getD}
+use lib.ListN.{length, getD, set, length-set, length-append, length-map}
+use lib.Seq.{map-set-same}
 use lib.Dec.{eqb, lit<}
 use borrow.Author.Tests.{eq-eqb, ne-eqb, eqb-true, not-true}
 use Rattle.plain.specs.declared.TraversalDirection.{TraversalDirection}
 use Rattle.plain.specs.declared.TraversalDirection.the-variants.{Outgoing, Incoming}
 use Rattle.plain.specs.Lists.{member, without, distinct}
-use Rattle.plain.specs.Plain.{Plain, NodeSlot, EdgeSlot, Incidence, incidence, with-incidence, no-node, no-edge, killed-node, killed-edge, node-bound, edge-bound, node-flags, edge-flags, list-of, end-of, widened, attached, detached, redirected, moved, empty, node-added, edge-added, edge-removed, edges-removed, node-removed, payload-set}
+use Rattle.plain.specs.Plain.{Plain, NodeSlot, EdgeSlot, Incidence, incidence, with-incidence, no-node, no-edge, killed-node, killed-edge, node-bound, edge-bound, node-flags, edge-flags, list-of, end-of, attached, detached, redirected, moved, empty, node-added, edge-added, edge-removed, edges-removed, node-removed, payload-set}
 use Rattle.plain.specs.Step.{Capacities}
 use Rattle.plain.specs.Laws.WellFormed.{Incident, WellFormed}
 use Rattle.plain.specs.Laws.Booleans.{by-test, true-false, and-left, and-right, and-false, and-true, or-true, or-other, refuted}
 use Rattle.plain.specs.Laws.Deleting.{getD-set, getD-snoc, map-set, without-all}
 use Rattle.plain.specs.Laws.ListLaws.{member-append, without-absent}
 use Rattle.plain.specs.Laws.Rank.{live-below}
-use Rattle.plain.specs.Laws.Directions.{widened-incident, attached-incident, attached-end, detached-incident, detached-list, elsewhere, list-at, end-at, redirected-incident, redirected-end, moved-incident, moved-end, moving-live}
+use Rattle.plain.specs.Laws.Directions.{widened-incident, attached-incident, attached-end, detached-incident, detached-list, elsewhere, list-at, end-at, redirected-incident, redirected-end, moved-incident, moved-end}
 
 -- a list with no member is empty
 no-member : (l : List ℕ) → ((e : ℕ) → member e l ≡ false) → l ≡ []

@@ -1,24 +1,22 @@
 -- The shape of a checked store is proper: its entries are edges of the store, and its walks are well formed. So every operation on it is document 01's.
-use Prim.Native.Nat.{ℕ, zero, suc, _+_, _*_, _-_, _≤_, _<_}
-use mathlib.Core.Path.{_≡_, refl, sym, ap, subst, _∙_}
-use mathlib.Core.Bool.{Bool, true, false, cond, _&&_}
-use mathlib.Core.Logic.{_⊎_, inl, inr, ⊎-elim}
-use mathlib.Core.Option.{Option, none, some}
-use mathlib.Core.List.{List, [], _∷_, _++_, map}
+use Prim.Native.Nat.{ℕ, _+_, _-_, _≤_, _<_}
+use mathlib.Core.Path.{sym, ap, _∙_}
+use mathlib.Core.Bool.{Bool}
+use mathlib.Core.Logic.{⊎-elim}
+use mathlib.Core.List.{List}
 use native.Mathlib.Omega.{arith}
 use lib.ListN.{length, getD, List·getD-eq-default}
 use lib.Dec.{eqb, leb, ltb}
-use borrow.Author.Tests.{ltb-true, leb-true, eqb-true}
+use borrow.Author.Tests.{ltb-true}
 use Rattle.plain.specs.declared.TraversalDirection.{TraversalDirection}
-use Rattle.plain.specs.declared.Slots.{Slots}
 use Rattle.plain.specs.declared.Counts.{Counts}
 use Rattle.plain.specs.Lists.{member, from}
-use Rattle.plain.specs.Laws.Booleans.{by-test, below-or-not, and-left, and-right}
+use Rattle.plain.specs.Laws.Booleans.{by-test, below-or-not, and-right}
 use Rattle.plain.specs.Laws.ListLaws.{member-source, member-from}
 use Rattle.shape.specs.Columns.{cell, mark-at}
-use Rattle.shape.specs.Chains.{In, Ring}
-use Rattle.shape.specs.Shape.{Words, Adjacency, Axis, capacities, axis-words, between, base-of, run-list, run-of, ring-of, hiding, raw, no-adjacency, axis-in, adjacency-of, axis-of, shape-of}
-use Rattle.shape.specs.Checked.{Index, Indexed, Rings, Runs, AxisChecked, Checked}
+use Rattle.shape.specs.Chains.{In}
+use Rattle.shape.specs.Shape.{Words, Adjacency, Axis, capacities, axis-words, base-of, run-of, ring-of, hiding, raw, no-adjacency, adjacency-of, axis-of, shape-of}
+use Rattle.shape.specs.Checked.{Index, AxisChecked, Checked}
 use Rattle.shape.specs.Laws.Chains.{in-none, ring-below}
 use Rattle.shape.specs.Laws.Frames.{run-list-below}
 use Rattle.shape.specs.Laws.NewBase.{base-start, base-end, base-between, base-range}

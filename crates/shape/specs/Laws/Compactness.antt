@@ -1,26 +1,25 @@
 -- Whether the shape is compact after an operation: as the compact flag beside the plain lists says.
-use Prim.Native.Nat.{ℕ, zero, suc, _+_, _≤_, _<_}
+use Prim.Native.Nat.{ℕ, zero, suc, _≤_, _<_}
 use mathlib.Core.Path.{_≡_, refl, sym, ap, _∙_}
 use mathlib.Core.Bool.{Bool, true, false, cond, _&&_, not}
-use mathlib.Core.Option.{Option, none, some}
-use mathlib.Core.List.{List, [], _∷_, _++_, map}
+use mathlib.Core.List.{List, [], _∷_, _++_}
 use native.Mathlib.Omega.{arith}
 use lib.ListN.{length, getD, set, length-set, length-map, length-append}
-use lib.Seq.{map-set-same, getD-set-same, getD-set-other}
+use lib.Seq.{map-set-same, getD-set-same}
 use lib.Dec.{eqb}
 use borrow.Author.Tests.{eq-eqb, ne-eqb}
 use Rattle.plain.specs.declared.TraversalDirection.{TraversalDirection}
 use Rattle.plain.specs.declared.TraversalDirection.the-variants.{Outgoing, Incoming}
 use Rattle.plain.specs.declared.Operation.{Operation}
 use Rattle.plain.specs.declared.Operation.the-variants.{AddNode, AddEdge, RemoveEdge, RemoveNode, Redirect, Move, SetPayload, Unknown}
-use Rattle.plain.specs.Lists.{member, without, all}
+use Rattle.plain.specs.Lists.{without, all}
 use Rattle.plain.specs.Plain.{NodeSlot, EdgeSlot, killed-node, killed-edge, no-node, no-edge, list-of, end-of}
 use Rattle.plain.specs.Step.{Capacities, Outcome, step}
 use Rattle.plain.specs.Laws.Booleans.{by-test, and-false, and-true}
 use Rattle.plain.specs.Laws.Deleting.{map-set}
 use Rattle.plain.specs.Laws.Rank.{live-below}
 use Rattle.plain.specs.Laws.Cases.{Case, case-of, add-node-full, add-node, add-edge-source-absent, add-edge-source-removed, add-edge-target-absent, add-edge-target-removed, add-edge-full, add-edge, remove-edge-absent, remove-edge-removed, remove-edge, remove-node-absent, remove-node-removed, remove-node, redirect-edge-absent, redirect-edge-removed, redirect-node-absent, redirect-node-removed, redirect-same, redirect, move-onto-itself, move-old-absent, move-nothing, move-new-absent, move-new-removed, move, set-payload-absent, set-payload, unknown}
-use Rattle.shape.specs.Shape.{Adjacency, Axis, Shape, no-adjacency, axis-in, adjacency-of, node-flags-of, edge-flags-of, has-run, is-compact, plain-of}
+use Rattle.shape.specs.Shape.{Axis, Shape, no-adjacency, axis-in, adjacency-of, node-flags-of, edge-flags-of, has-run, is-compact, plain-of}
 use Rattle.shape.specs.Steps.{live-entries, taken, swept, with-run, redirected-axis, moved-axis, with-axis, retired, walk-in, acted, acts, shape-step}
 use Rattle.shape.specs.Laws.Refining.{Proper, live-node-below}
 use Rattle.shape.specs.Laws.Stepping.{length-some}

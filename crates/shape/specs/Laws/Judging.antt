@@ -1,8 +1,8 @@
 -- `broken` is 0 exactly where the words are a checked store, both ways.
-use Prim.Native.Nat.{ℕ, zero, suc, _+_, _*_, _≤_, _<_, _^_}
-use mathlib.Core.Path.{_≡_, refl, sym, ap, subst, _∙_}
+use Prim.Native.Nat.{ℕ, suc, _+_, _*_, _≤_, _<_, _^_}
+use mathlib.Core.Path.{_≡_, refl, sym, ap, _∙_}
 use mathlib.Core.Bool.{Bool, true, false, cond, _&&_, not}
-use mathlib.Core.List.{List, [], _∷_, _++_, map}
+use mathlib.Core.List.{List, []}
 use native.Mathlib.Omega.{arith}
 use lib.ListN.{length, getD, length-map}
 use lib.Dec.{eqb, leb, ltb, lit<}
@@ -10,26 +10,22 @@ use borrow.Author.Tests.{eq-eqb, eqb-true, leb-true, le-leb, ltb-true, lt-ltb}
 use Rattle.plain.specs.declared.TraversalDirection.{TraversalDirection}
 use Rattle.plain.specs.declared.TraversalDirection.the-variants.{Outgoing, Incoming}
 use Rattle.plain.specs.declared.Slots.{Slots}
-use Rattle.plain.specs.declared.Counts.{Counts}
 use Rattle.plain.specs.Numbers.{LIMIT}
 use Rattle.plain.specs.Lists.{member, keep, all, from}
-use Rattle.plain.specs.Plain.{Plain, NodeSlot, EdgeSlot, no-node, no-edge, incidence, node-bound, edge-bound, node-flags, edge-flags, list-of, end-of}
+use Rattle.plain.specs.Plain.{NodeSlot, EdgeSlot, no-node, no-edge, incidence, end-of}
 use Rattle.plain.specs.Reads.{live-count}
 use Rattle.plain.specs.Memory.{live-words}
-use Rattle.plain.specs.Laws.Booleans.{by-test, below-or-not, and-left, and-right, both-true, true-false}
+use Rattle.plain.specs.Laws.Booleans.{and-left, and-right, both-true, true-false}
 use Rattle.plain.specs.Laws.ListLaws.{member-keep, getD-map-each}
-use Rattle.plain.specs.Laws.WellFormed.{WellFormed}
-use Rattle.plain.specs.Laws.Operating.{each-way}
 use Rattle.liveness.specs.Flags.{packed}
-use Rattle.shape.specs.Columns.{Sized, end-at}
+use Rattle.shape.specs.Columns.{end-at}
 use Rattle.shape.specs.Chains.{In}
-use Rattle.shape.specs.Shape.{Words, Axis, capacities, node-live, edge-live, axis-words, raw, live-in, walk-of, axis-in, adjacency-of, node-flags-of, edge-flags-of, axis-of, shape-of, plain-of}
-use Rattle.shape.specs.Checked.{Bounded, LiveRight, Rings, AxisChecked, Checked}
-use Rattle.shape.specs.Steps.{walk-in}
+use Rattle.shape.specs.Shape.{Words, Axis, node-live, edge-live, axis-words, raw, live-in, adjacency-of, node-flags-of, edge-flags-of, axis-of, shape-of, plain-of}
+use Rattle.shape.specs.Checked.{Bounded, LiveRight, AxisChecked, Checked}
 use Rattle.shape.specs.Rules.{both-axes, slots-right, rule-1, live-agrees, rule-2, ends-right, rule-3, index-right, rule-4, ring-right, rule-5, runs-right, rule-6, walks-right, rule-7, broken}
 use Rattle.shape.specs.Laws.Refining.{lists-length, list-is-walk, ends-of}
 use Rattle.shape.specs.Laws.Checking.{all-below, below-all, ring-sound, ring-own, ring-complete, index-sound, index-complete, runs-sound, dead-runs-sound, runs-complete, Framed, walks-live, walks-sound, walks-complete}
-use Rattle.shape.specs.Laws.Reading.{made-at, made-length, node-bound-is, edge-bound-is, node-flags-are, edge-flags-are, axis-is, axis-ends, axis-end, axis-nodes}
+use Rattle.shape.specs.Laws.Reading.{node-bound-is, edge-bound-is, axis-is, axis-ends, axis-end, axis-nodes}
 
 -- the payload words are words of 32 bits, as a lent slice's are
 pub record Payloads (w : Words) : Type 0 where

@@ -1,21 +1,19 @@
 -- What the shape of a store's words holds: flags, bounds, ends and adjacencies, each by the words that it is read from.
-use Prim.Native.Nat.{ℕ, zero, suc, _+_, _*_, _≤_, _<_, _^_}
-use mathlib.Core.Path.{_≡_, refl, sym, ap, subst, _∙_}
-use mathlib.Core.Bool.{Bool, true, false}
-use mathlib.Core.List.{List, [], _∷_, map, map-map}
-use native.Mathlib.Omega.{arith}
+use Prim.Native.Nat.{ℕ, _<_}
+use mathlib.Core.Path.{_≡_, refl, sym, ap, _∙_}
+use mathlib.Core.Bool.{false}
+use mathlib.Core.List.{List, map, map-map}
 use native.Mathlib.Nat.{zero-add}
-use lib.ListN.{length, getD, length-map, List·getD-eq-default}
+use lib.ListN.{length, getD, length-map}
 use Rattle.plain.specs.declared.TraversalDirection.{TraversalDirection}
 use Rattle.plain.specs.declared.TraversalDirection.the-variants.{Outgoing, Incoming}
-use Rattle.plain.specs.declared.Slots.{Slots}
 use Rattle.plain.specs.declared.Counts.{Counts}
 use Rattle.plain.specs.Lists.{from}
-use Rattle.plain.specs.Plain.{NodeSlot, EdgeSlot, incidence, node-bound, edge-bound, node-flags, edge-flags, end-of}
+use Rattle.plain.specs.Plain.{NodeSlot, EdgeSlot}
 use Rattle.plain.specs.Laws.ListLaws.{getD-map, getD-from, length-from, map-getD}
 use Rattle.liveness.specs.FlagLaws.{length-flags}
 use Rattle.shape.specs.Columns.{end-at}
-use Rattle.shape.specs.Shape.{Words, Adjacency, Axis, Shape, node-live, edge-live, axis-words, base-of, run-of, ring-of, axis-of, shape-of, axis-in, adjacency-of, no-adjacency, node-flags-of, edge-flags-of, plain-of}
+use Rattle.shape.specs.Shape.{Words, node-live, edge-live, axis-words, base-of, run-of, ring-of, axis-of, shape-of, axis-in, no-adjacency, node-flags-of, edge-flags-of}
 
 -- a list made of the slots below n
 module _ {A : Type 0} (f : ℕ → A) (n : ℕ) where

@@ -1,13 +1,12 @@
 -- A whole strip on the shape: its plain lists and compact flag are those of the strip of document 01, and what holds of the shape at its start holds at its end.
-use Prim.Native.Nat.{ℕ}
-use mathlib.Core.Path.{_≡_, refl, sym, ap, ap₂, _∙_}
-use mathlib.Core.Bool.{Bool, _&&_}
-use mathlib.Core.List.{List, [], _∷_}
+use mathlib.Core.Path.{_≡_, refl, ap, ap₂, _∙_}
+use mathlib.Core.Bool.{Bool}
+use mathlib.Core.List.{List}
 use Rattle.plain.specs.declared.Operation.{Operation}
 use Rattle.plain.specs.Plain.{Plain}
-use Rattle.plain.specs.Step.{Capacities, State, step, stepped, run}
-use Rattle.plain.specs.Laws.Stepping.{Fitting, AllFitting, no-more, one-more}
-use Rattle.shape.specs.Shape.{Shape, is-compact, plain-of}
+use Rattle.plain.specs.Step.{Capacities, State, stepped, run}
+use Rattle.plain.specs.Laws.Stepping.{AllFitting, no-more, one-more}
+use Rattle.shape.specs.Shape.{Shape}
 use Rattle.shape.specs.Checked.{Reached}
 use Rattle.shape.specs.Steps.{shape-step, shape-run, state-of}
 use Rattle.shape.specs.Laws.Refining.{Proper}
