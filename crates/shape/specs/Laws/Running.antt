@@ -40,3 +40,10 @@ pub run-reached : {caps : Capacities} {s : Shape} {ops : List Operation} → Pro
 unfolding shape-run
 run-reached h r no-more = r
 run-reached h r (one-more {x} f fs) = run-reached (step-proper h x f) (step-reached h r x) fs
+
+-- one operation more
+pub shape-run-snoc : (caps : Capacities) (s : Shape) (ops : List Operation) (x : Operation)
+    → shape-run caps s (ops ++ (x ∷ [])) ≡ shape-step caps (shape-run caps s ops) x
+unfolding shape-run
+shape-run-snoc caps s [] x = refl
+shape-run-snoc caps s (y ∷ ops) x = shape-run-snoc caps (shape-step caps s y) ops x
