@@ -1,2 +1,3 @@
 -- The laws of the shape, for the crates above to cite.
 pub mod Chains
+pub mod Walking
