@@ -9,7 +9,6 @@ ghost use Rattle.plain.specs.Numbers.{NONE as none};
 ghost use Rattle.plain.specs.Lists.{written};
 ghost use Rattle.liveness.specs.Flags.{live-flags};
 ghost use Rattle.adjacency.specs.Cursor.{word, exhausted as exhausted-cursor, base-at, delta-at, ring-step, step-of, listed, listed-left, Ready, Seekable, Sought, Writable};
-
 use plain::NONE;
 
 // Where a walk stands. Of a base part `base` and `base_end` are positions in the adjacency column. Of a run `base` is the entry to read next

@@ -122,7 +122,15 @@ pub fn write_walk(
     let slots = counts.edges.bound as usize;
     let entries = entries_of(axis, edges, linked);
     let next = next_of(axis, edges);
-    start.cursor.write(linked, entries, next, tombstoned(counts), live_edges, slots, out);
+    start.cursor.write(
+        linked,
+        entries,
+        next,
+        tombstoned(counts),
+        live_edges,
+        slots,
+        out,
+    );
 }
 
 // Writes the far ends of a node's walk to the start of `out`: successors, or predecessors. `far` is the axis of the other direction.
@@ -142,7 +150,16 @@ pub fn write_neighbors(
     let slots = counts.edges.bound as usize;
     let entries = entries_of(axis, edges, linked);
     let next = next_of(axis, edges);
-    start.cursor.write_ends(linked, entries, next, tombstoned(counts), live_edges, slots, far, out);
+    start.cursor.write_ends(
+        linked,
+        entries,
+        next,
+        tombstoned(counts),
+        live_edges,
+        slots,
+        far,
+        out,
+    );
 }
 
 // How many entries a ring has, from `delta` to `delta_last`.
@@ -182,5 +199,6 @@ pub fn degree(
     }
     let start = start(axis, edges, nodes, counts, node, live);
     let cursor = start.cursor;
-    part_size(start.linked, cursor) + ring_size(next_of(axis, edges), cursor.delta, cursor.delta_last)
+    part_size(start.linked, cursor)
+        + ring_size(next_of(axis, edges), cursor.delta, cursor.delta_last)
 }

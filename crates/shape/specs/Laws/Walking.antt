@@ -1,6 +1,6 @@
 -- Laws for walks over linked lists and over parts of a column: what is read next, and that a list is the same, read from a column that is handed out
 -- as a slice of its own. A ring read up to its last entry is closed where that entry is on the way; more room then reads no more.
-use Prim.Native.Nat.{ℕ, zero, suc, _+_, _-_, _≤_, _<_}
+use Prim.Native.Nat.{ℕ, zero, suc, _+_, _-_, _≤_, _<_, zero-le, suc-le-suc}
 use native.Mathlib.Nat.{not-suc-le-zero, le-of-suc-le-suc}
 use native.Mathlib.Numerals.{add-one}
 use native.Mathlib.Omega.{arith}
@@ -61,6 +61,13 @@ module _ (link : ℕ → ℕ) (last : ℕ) where
   closed-rest : (n e : ℕ) → eqb e last ≡ false → In last (until link last (suc n) e) → In last (until link last n (link e))
   unfolding until member
   closed-rest n e q m = or-other (rw q at m) (eqb-comm last e ∙ q)
+
+  -- no more is read than there is room for
+  pub until-short : (n e : ℕ) → length (until link last n e) ≤ n
+  unfolding until
+  until-short zero e = zero-le
+  until-short (suc n) e =
+      by-test (eqb e last) (λ q. rw q (suc-le-suc zero-le)) (λ q. rw q (suc-le-suc (until-short n (link e))))
 
   -- more room reads no more of a closed ring
   pub until-wider : (n m e : ℕ) → n ≤ m → In last (until link last n e) → until link last m e ≡ until link last n e
