@@ -1,3 +1,4 @@
+pub mod Rings
 pub mod Cursor
 pub mod CursorLaws
 pub mod Reading

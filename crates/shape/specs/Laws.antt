@@ -1,3 +1,4 @@
 -- The laws of the shape, for the crates above to cite.
 pub mod Chains
+pub mod Frames
 pub mod Walking

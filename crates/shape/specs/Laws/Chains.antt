@@ -5,7 +5,7 @@ use native.Mathlib.Nat.{not-suc-le-zero, le-of-suc-le-suc, lt-of-lt-of-le, le-tr
 use native.Mathlib.Numerals.{sub-one}
 use native.Mathlib.Omega.{arith}
 use mathlib.Core.Path.{_≡_, refl, sym, ap, _∙_, subst}
-use mathlib.Core.Bool.{Bool, true, false, cond, _||_}
+use mathlib.Core.Bool.{true, false, cond}
 use mathlib.Core.Logic.{_⊎_, inl, inr, ⊎-elim, _≢_}
 use mathlib.Core.List.{List, [], _∷_, _++_}
 use lib.ListN.{length, length-append}
@@ -285,7 +285,7 @@ until-agree nx mx last (suc n) e h =
     (by-test (eqb e last) (λ q. rw q)
     (λ q. rw q (ap (λ (l : List ℕ). e ∷ l) (until-agree nx mx last n (nx e) (λ x m. h x (rw q (member-later x e (until nx last n (nx e)) m)))))))
 
--- NONE is the last entry of the empty ring alone
+-- the last entry of a ring that is not empty is a number below the bound, so it is not NONE
 ring-some : {link : ℕ → ℕ} {lo hi l : ℕ} {xs : List ℕ} → hi ≤ LIMIT → Line link lo hi (link l) l xs → l ≢ NONE
 ring-some small w q = let high = w .below _ (line-last w) in omega arith
 

@@ -12,7 +12,7 @@ use lib.Dec.{eqb, leb, ltb}
 use borrow.Author.Tests.{eq-eqb, ne-eqb, leb-true, ltb-true}
 use Rattle.plain.specs.Lists.{member, from}
 use Rattle.plain.specs.Laws.Booleans.{by-test, true-false, and-left, and-right, or-other, eqb-comm}
-use Rattle.plain.specs.Laws.ListLaws.{member-first, member-later, member-source, member-from, map-same, length-from}
+use Rattle.plain.specs.Laws.ListLaws.{member-first, member-later, member-source, member-from, length-from}
 use Rattle.shape.specs.Chains.{chain, until, In}
 use Rattle.shape.specs.Shape.{between}
 use Rattle.shape.specs.Laws.Chains.{in-none}
@@ -43,16 +43,6 @@ module _ (column : ℕ → ℕ) (a b : ℕ) where
       let low = leb-true a i (and-left (leb a i) (ltb i (a + (b - a))) within) in
       let high = ltb-true i (a + (b - a)) (and-right (leb a i) (ltb i (a + (b - a))) within) in
       (i, low, omega arith, found .2)
-
--- a part of a column is read at its own places alone
-pub between-agree : (f g : ℕ → ℕ) (a b : ℕ) → ((i : ℕ) → a ≤ i → i < b → g i ≡ f i) → between g a b ≡ between f a b
-between-agree f g a b agree =
-    map-same g f (from a (b - a))
-    (λ i m.
-    let within : (leb a i && ltb i (a + (b - a))) ≡ true = sym (member-from i a (b - a)) ∙ m in
-    let low = leb-true a i (and-left (leb a i) (ltb i (a + (b - a))) within) in
-    let high = ltb-true i (a + (b - a)) (and-right (leb a i) (ltb i (a + (b - a))) within) in
-    agree i low (omega arith))
 
 -- ---- rings
 
