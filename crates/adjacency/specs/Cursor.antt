@@ -28,6 +28,11 @@ abbrev pub part-left : Bool → List ℕ → ℕ → ℕ → List ℕ
 part-left true entries at end = chain (word entries) end at
 part-left false entries at end = between (word entries) at end
 
+-- how many they are
+abbrev pub part-count : Bool → ℕ → ℕ → ℕ
+part-count true at end = end
+part-count false at end = end - at
+
 -- of the ring: the entries from `at` on up to `last`; NONE is where nothing is left
 abbrev pub ring-left : List ℕ → ℕ → ℕ → List ℕ
 ring-left next at last = cond (eqb at NONE) [] (until (word next) last (length next) at)

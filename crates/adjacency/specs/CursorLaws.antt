@@ -21,7 +21,12 @@ use Rattle.adjacency.specs.declared.cursor.AdjacencyCursor.{AdjacencyCur
 use Rattle.adjacency.specs.declared.cursor.Found.{Found}
 use Rattle.adjacency.specs.declared.cursor.Found.the-variants.{Edge, Done}
 use Rattle.adjacency.specs.declared.cursor.Step.{Step}
-use Rattle.adjacency.specs.Cursor.{word, part-left, ring-left, remaining, exhausted, base-at, delta-at, ring-step, step-of, found-then, PartWithin, Closed, Ready, from-first, Sought}
+use Rattle.adjacency.specs.Cursor.{word, part-left, part-count, ring-left, remaining, exhausted, base-at, delta-at, ring-step, step-of, found-then, PartWithin, Closed, Ready, from-first, Sought}
+
+-- as many entries of the run or base part as the cursor's numbers tell
+pub part-counted : (linked : Bool) (entries : List ℕ) (at end : ℕ) → length (part-left linked entries at end) ≡ part-count linked at end
+part-counted true entries at end = chain-length (word entries) end at
+part-counted false entries at end = between-length (word entries) at end
 
 -- What a step from c leaves: the entry found stands before what the cursor left has to read, and that is ready too.
 pub record Stepped (linked : Bool) (entries next : List ℕ) (c : AdjacencyCursor) (s : Step) : Type 0 where
@@ -159,3 +164,23 @@ module _ {test : ℕ → Bool} {linked : Bool} {entries next : List ℕ} {c₀ c
   -- less is left
   pub seek-less : {e : ℕ} → s .found ≡ Edge e → length (remaining linked entries next (s .cursor)) < length (remaining linked entries next c)
   seek-less {e} q = rw (found-is q) (omega arith)
+
+-- the same walk without the run or base part, over columns of which the first is not read
+pub ring-ready : {linked : Bool} {entries next : List ℕ} {c : AdjacencyCursor} → Ready linked entries next c → Ready false next next (base-at c 0 0)
+unfolding remaining
+ring-ready {linked} {entries} {next} {c} r =
+    let nothing = between-none (word next) 0 0 (omega arith) in
+    let before = part-left linked entries (c .base) (c .«base_end») in
+    let ring = ring-left next (c .delta) (c .«delta_last») in
+    record {
+      few = r .few;
+      short = omega arith;
+      part = (omega arith, omega arith);
+      closed = r .closed;
+      below = λ e m. r .below e (member-append e before ring ∙ rw (rw nothing at m) (or-true (member e before)));
+    }
+
+-- and all that it has to read
+pub ring-remaining : (next : List ℕ) (c : AdjacencyCursor) → remaining false next next (base-at c 0 0) ≡ ring-left next (c .delta) (c .«delta_last»)
+unfolding remaining
+ring-remaining next c = rw (between-none (word next) 0 0 (omega arith))

@@ -2,3 +2,5 @@ pub mod Rings
 pub mod Cursor
 pub mod CursorLaws
 pub mod Reading
+pub mod Walk
+pub mod WalkLaws

@@ -14,13 +14,13 @@ use Rattle.plain.specs.Lists.{member, keep, count, written}
 use Rattle.plain.specs.Laws.Booleans.{by-test, true-false, and-left}
 use Rattle.plain.specs.Laws.ListLaws.{member-first, member-keep, length-keep, count-length}
 use Rattle.shape.specs.Chains.{In}
-use Rattle.shape.specs.Laws.Chains.{chain-length}
-use Rattle.shape.specs.Laws.Walking.{between-length, until-short}
+use Rattle.shape.specs.Laws.Walking.{until-short}
 use Rattle.adjacency.specs.declared.cursor.AdjacencyCursor.{AdjacencyCursor}
 use Rattle.adjacency.specs.declared.cursor.Found.{Found}
 use Rattle.adjacency.specs.declared.cursor.Found.the-variants.{Edge, Done}
 use Rattle.adjacency.specs.declared.cursor.Step.{Step}
 use Rattle.adjacency.specs.Cursor.{word, part-left, ring-left, remaining, found-then, Ready, from-first, Sought}
+use Rattle.adjacency.specs.CursorLaws.{part-counted}
 
 -- ---- a list from its first entry on that passes
 
@@ -113,8 +113,8 @@ remaining-short {linked} {entries} {next} {c} r =
     rw (length-append (part-left linked entries (c .base) (c .«base_end»)) (ring-left next (c .delta) (c .«delta_last»))) (omega arith)
   where
     part-short : (b : Bool) → length (part-left b entries (c .base) (c .«base_end»)) ≤ c .«base_end»
-    part-short true = omega (arith, chain-length (word entries) (c .«base_end») (c .base))
-    part-short false = omega (arith, between-length (word entries) (c .base) (c .«base_end»))
+    part-short true = omega (arith, part-counted true entries (c .base) (c .«base_end»))
+    part-short false = omega (arith, part-counted false entries (c .base) (c .«base_end»))
 
     ring-short : length (ring-left next (c .delta) (c .«delta_last»)) ≤ length next
     ring-short =

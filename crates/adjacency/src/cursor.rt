@@ -3,12 +3,13 @@
 
 ghost use mathlib.Core.Path.{_≡_};
 ghost use mathlib.Core.List.{map};
+ghost use mathlib.Core.Bool.{false};
 ghost use Prim.Native.Nat.{_*_, _<_, _≤_};
 ghost use lib.ListN.{length};
 ghost use Rattle.plain.specs.Numbers.{NONE as none};
 ghost use Rattle.plain.specs.Lists.{written};
 ghost use Rattle.liveness.specs.Flags.{live-flags};
-ghost use Rattle.adjacency.specs.Cursor.{word, exhausted as exhausted-cursor, base-at, delta-at, ring-step, step-of, listed, listed-left, Ready, Seekable, Sought, Writable};
+ghost use Rattle.adjacency.specs.Cursor.{word, part-count, exhausted as exhausted-cursor, base-at, delta-at, ring-step, step-of, listed, listed-left, Ready, Seekable, Sought, Writable};
 use plain::NONE;
 
 // Where a walk stands. Of a base part `base` and `base_end` are positions in the adjacency column. Of a run `base` is the entry to read next
@@ -76,8 +77,8 @@ impl AdjacencyCursor {
         }
     }
 
-    // The cursor with the base part or run moved on.
-    fn with_base(self, base: u32, base_end: u32) -> Self
+    // The cursor with the base part or run at another place.
+    pub fn with_base(self, base: u32, base_end: u32) -> Self
         ensures { λ r. ⌜ r ≡ base-at self base «base_end» ⌝ }
     {
         AdjacencyCursor {
@@ -86,6 +87,17 @@ impl AdjacencyCursor {
             delta: self.delta,
             delta_last: self.delta_last,
         }
+    }
+
+    // How many entries of the run or base part are left, in constant time.
+    pub fn part_count(self, linked: bool) -> usize
+        requires { ⌜ (linked ≡ false → self .base ≤ self .«base_end») ⌝ }
+        ensures { λ r. ⌜ r ≡ part-count linked (self .base) (self .«base_end») ⌝ }
+    {
+        if linked {
+            return self.base_end as usize;
+        }
+        (self.base_end - self.base) as usize
     }
 
     // The next entry of the ring.

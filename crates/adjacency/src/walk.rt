@@ -1,25 +1,28 @@
-// Walks over one node's adjacency in one direction, from the packed axis: where a walk starts, the walk into a lent slice with the count
-// first, degrees, and far ends. Both directions use the same functions with the one axis or the other.
+// Walks over one node's adjacency in one direction, from the packed axis: where a walk starts, the walk into a lent slice with the count first, degrees, and far
+// ends. Both directions use the same functions with the one axis or the other. `edges` and `nodes` are the capacities of the axis; `live` says whether the node
+// is live.
+
+ghost use mathlib.Core.Path.{_≡_};
+ghost use mathlib.Core.List.{map};
+ghost use Prim.Native.Nat.{_≤_};
+ghost use lib.ListN.{length};
+ghost use Rattle.plain.specs.Lists.{written};
+ghost use Rattle.shape.specs.Columns.{end-at};
+ghost use Rattle.adjacency.specs.Walk.{walk-in, tombstoned-in, entries-column, next-column, ColumnsThere, Readable, Walkable, WalkFits, Started};
 
 use crate::cursor::AdjacencyCursor;
 use crate::cursor::Start;
+use crate::rings;
 use plain::Counts;
-use plain::NONE;
 
 // Whether some edge is removed.
-fn tombstoned(counts: Counts) -> bool {
+fn tombstoned(counts: Counts) -> bool
+    ensures { λ r. ⌜ r ≡ tombstoned-in counts ⌝ }
+{
     counts.edges.live != counts.edges.bound
 }
 
-// The first entry of the ring with this last entry.
-fn ring_first(axis: &[u32], edges: usize, last: u32) -> u32 {
-    if last == NONE {
-        return NONE;
-    }
-    axis[2 * edges + last as usize]
-}
-
-// Where the walk over a node's adjacency starts; a removed node walks empty.
+// Where the walk over a node's adjacency starts.
 pub fn start(
     axis: &[u32],
     edges: usize,
@@ -27,51 +30,39 @@ pub fn start(
     counts: Counts,
     node: usize,
     live: bool,
-) -> Start {
+) -> Start
+    requires { ⌜ Readable (now axis) edges nodes counts node ⌝ }
+    ensures { λ r. ⌜ Started (now (axis .entry)) edges nodes counts node live r ⌝ }
+{
+    let mut cursor = AdjacencyCursor::EXHAUSTED;
     if !live {
         return Start {
             linked: false,
-            cursor: AdjacencyCursor::EXHAUSTED,
+            cursor,
         };
     }
-    let delta_last = axis[4 * edges + node];
-    let delta = ring_first(axis, edges, delta_last);
-    if axis[4 * edges + 4 * nodes + node] != 0 {
-        return Start {
-            linked: true,
-            cursor: AdjacencyCursor {
-                base: axis[4 * edges + nodes + node],
-                base_end: axis[4 * edges + 3 * nodes + node],
-                delta,
-                delta_last,
-            },
-        };
+    let ring = rings::ring_ends(axis, edges, node);
+    cursor.delta = ring.first;
+    cursor.delta_last = ring.last;
+    let linked = axis[4 * edges + 4 * nodes + node] != 0;
+    if linked {
+        cursor.base = axis[4 * edges + nodes + node];
+        cursor.base_end = axis[4 * edges + 3 * nodes + node];
+        return Start { linked, cursor };
     }
-    if node >= counts.nodes.base as usize {
-        return Start {
-            linked: false,
-            cursor: AdjacencyCursor {
-                base: 0,
-                base_end: 0,
-                delta,
-                delta_last,
-            },
-        };
+    if node < counts.nodes.base as usize {
+        let at = 4 * edges + 5 * nodes + node;
+        cursor.base = axis[at];
+        cursor.base_end = axis[at + 1];
     }
-    let at = 4 * edges + 5 * nodes + node;
-    Start {
-        linked: false,
-        cursor: AdjacencyCursor {
-            base: axis[at],
-            base_end: axis[at + 1],
-            delta,
-            delta_last,
-        },
-    }
+    Start { linked, cursor }
 }
 
 // The column that a walk reads before the ring: the run links, or the compressed index's edge numbers.
-fn entries_of(axis: &[u32], edges: usize, linked: bool) -> &[u32] {
+fn entries_of(axis: &[u32], edges: usize, linked: bool) -> &[u32]
+    requires { ⌜ ColumnsThere (now axis) edges ⌝ }
+    ensures { λ r. ⌜ now r ≡ entries-column (now (axis .entry)) edges linked ⌝ }
+{
     if linked {
         let from = 3 * edges;
         let to = 4 * edges;
@@ -82,7 +73,10 @@ fn entries_of(axis: &[u32], edges: usize, linked: bool) -> &[u32] {
 }
 
 // The column of the ring links.
-fn next_of(axis: &[u32], edges: usize) -> &[u32] {
+fn next_of(axis: &[u32], edges: usize) -> &[u32]
+    requires { ⌜ ColumnsThere (now axis) edges ⌝ }
+    ensures { λ r. ⌜ now r ≡ next-column (now (axis .entry)) edges ⌝ }
+{
     let from = 2 * edges;
     let to = 3 * edges;
     &axis[from..to]
@@ -97,7 +91,10 @@ pub fn count_walk(
     live_edges: &[u64],
     node: usize,
     live: bool,
-) -> usize {
+) -> usize
+    requires { ⌜ Walkable (now axis) edges nodes counts (now «live_edges») node ⌝ }
+    ensures { λ r. ⌜ r ≡ length (walk-in (now (axis .entry)) edges nodes counts (now («live_edges» .entry)) node live) ⌝ }
+{
     let start = start(axis, edges, nodes, counts, node, live);
     let linked = start.linked;
     let slots = counts.edges.bound as usize;
@@ -106,7 +103,7 @@ pub fn count_walk(
     start.cursor.count(linked, entries, next, tombstoned(counts), live_edges, slots)
 }
 
-// Writes a node's walk to the start of `out`.
+// Writes a node's walk to the start of `out`. The caller has counted it.
 pub fn write_walk(
     axis: &[u32],
     edges: usize,
@@ -116,21 +113,16 @@ pub fn write_walk(
     node: usize,
     live: bool,
     out: &mut [u32],
-) {
+)
+    requires { ⌜ WalkFits (now axis) edges nodes counts (now «live_edges») node live (now out) ⌝ }
+    ensures { λ _. ⌜ now (out .exit) ≡ written (walk-in (now (axis .entry)) edges nodes counts (now («live_edges» .entry)) node live) (now (out .entry)) ⌝ }
+{
     let start = start(axis, edges, nodes, counts, node, live);
     let linked = start.linked;
     let slots = counts.edges.bound as usize;
     let entries = entries_of(axis, edges, linked);
     let next = next_of(axis, edges);
-    start.cursor.write(
-        linked,
-        entries,
-        next,
-        tombstoned(counts),
-        live_edges,
-        slots,
-        out,
-    );
+    start.cursor.write(linked, entries, next, tombstoned(counts), live_edges, slots, out);
 }
 
 // Writes the far ends of a node's walk to the start of `out`: successors, or predecessors. `far` is the axis of the other direction.
@@ -144,44 +136,17 @@ pub fn write_neighbors(
     node: usize,
     live: bool,
     out: &mut [u32],
-) {
+)
+    requires { ⌜ WalkFits (now axis) edges nodes counts (now «live_edges») node live (now out) ⌝ }
+    requires { ⌜ edges ≤ length (now far) ⌝ }
+    ensures { λ _. ⌜ now (out .exit) ≡ written (map (end-at (now (far .entry))) (walk-in (now (axis .entry)) edges nodes counts (now («live_edges» .entry)) node live)) (now (out .entry)) ⌝ }
+{
     let start = start(axis, edges, nodes, counts, node, live);
     let linked = start.linked;
     let slots = counts.edges.bound as usize;
     let entries = entries_of(axis, edges, linked);
     let next = next_of(axis, edges);
-    start.cursor.write_ends(
-        linked,
-        entries,
-        next,
-        tombstoned(counts),
-        live_edges,
-        slots,
-        far,
-        out,
-    );
-}
-
-// How many entries a ring has, from `delta` to `delta_last`.
-fn ring_size(next: &[u32], delta: u32, delta_last: u32) -> usize {
-    let mut n: usize = 0;
-    let mut at = delta;
-    while at != NONE {
-        n += 1;
-        if at == delta_last {
-            return n;
-        }
-        at = next[at as usize];
-    }
-    n
-}
-
-// How many entries the base part or the run has, in constant time.
-fn part_size(linked: bool, cursor: AdjacencyCursor) -> usize {
-    if linked {
-        return cursor.base_end as usize;
-    }
-    (cursor.base_end - cursor.base) as usize
+    start.cursor.write_ends(linked, entries, next, tombstoned(counts), live_edges, slots, far, out);
 }
 
 // The degree of a node: how many entries its walk has. Where no edge is removed, only the ring is walked.
@@ -193,12 +158,15 @@ pub fn degree(
     live_edges: &[u64],
     node: usize,
     live: bool,
-) -> usize {
+) -> usize
+    requires { ⌜ Walkable (now axis) edges nodes counts (now «live_edges») node ⌝ }
+    ensures { λ r. ⌜ r ≡ length (walk-in (now (axis .entry)) edges nodes counts (now («live_edges» .entry)) node live) ⌝ }
+{
     if tombstoned(counts) {
         return count_walk(axis, edges, nodes, counts, live_edges, node, live);
     }
     let start = start(axis, edges, nodes, counts, node, live);
-    let cursor = start.cursor;
-    part_size(start.linked, cursor)
-        + ring_size(next_of(axis, edges), cursor.delta, cursor.delta_last)
+    let next = next_of(axis, edges);
+    let ring = start.cursor.with_base(0, 0);
+    start.cursor.part_count(start.linked) + ring.count(false, next, next, false, live_edges, 0)
 }
