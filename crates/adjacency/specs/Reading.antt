@@ -121,7 +121,7 @@ remaining-short {linked} {entries} {next} {c} r =
         by-test (eqb (c .delta) NONE) (λ q. rw q (omega arith)) (λ q. rw q (until-short (word next) (c .«delta_last») (length next) (c .delta)))
 
 -- and so are the entries of it that pass
-kept-short : (test : ℕ → Bool) {linked : Bool} {entries next : List ℕ} {c : AdjacencyCursor} → Ready linked entries next c
+pub kept-short : (test : ℕ → Bool) {linked : Bool} {entries next : List ℕ} {c : AdjacencyCursor} → Ready linked entries next c
     → length (keep test (remaining linked entries next c)) ≤ NONE + LIMIT
 kept-short test {linked} {entries} {next} {c} r =
     let short = remaining-short r in

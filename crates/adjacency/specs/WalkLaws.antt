@@ -23,14 +23,15 @@ use Rattle.shape.specs.Columns.{cell, last-at, first-at, count-at, mark-at, off
 use Rattle.shape.specs.Chains.{chain, until, ring, In}
 use Rattle.shape.specs.Shape.{between, base-of, run-list, run-of, ring-of, part, raw, live-in, walk-of}
 use Rattle.shape.specs.Checked.{Indexed}
-use Rattle.shape.specs.Laws.Chains.{in-none, chain-agree, run-below, run-short, until-agree, ring-line, ring-below, line-last}
+use Rattle.shape.specs.Laws.Chains.{in-none, chain-agree, run-below, run-short, until-agree, ring-line, ring-last, ring-below, line-last}
 use Rattle.shape.specs.Laws.Frames.{between-agree, offset-within}
 use Rattle.shape.specs.Laws.Walking.{between-none, between-length, between-member, until-wider, until-first}
 use Rattle.adjacency.specs.declared.cursor.AdjacencyCursor.{AdjacencyCursor}
 use Rattle.adjacency.specs.declared.cursor.Start.{Start}
-use Rattle.adjacency.specs.Rings.{ring-ends}
-use Rattle.adjacency.specs.Cursor.{word, part-left, part-count, ring-left, remaining, exhausted, base-at, PartWithin, Closed, Ready, listed, listed-left}
+use Rattle.adjacency.specs.Rings.{EndsReadable, ring-ends}
+use Rattle.adjacency.specs.Cursor.{word, part-left, part-count, ring-left, remaining, exhausted, base-at, PartWithin, Closed, Ready, listed, listed-left, Seekable, Writable}
 use Rattle.adjacency.specs.CursorLaws.{part-counted, ring-remaining}
+use Rattle.adjacency.specs.Reading.{kept-short}
 use Rattle.adjacency.specs.Walk.{adjacency-in, walk-in, tombstoned-in, column, entries-column, next-column, ColumnsThere, Readable, Walkable, Started}
 
 -- ---- columns
@@ -55,7 +56,8 @@ module _ {ws : List ℕ} {ce cn : ℕ} {counts : Counts} {x : ℕ} (r : Readable
   pub columns-there : ColumnsThere ws ce
   columns-there = let s = r .sized in record { few = s .edges-within; room = omega arith }
 
-  next-length : length (next-column ws ce) ≡ ce
+  -- and as long as there are edges
+  pub next-length : length (next-column ws ce) ≡ ce
   next-length = let s = r .sized in column-length ws (2 * ce) ce (omega arith)
 
   run-length : length (entries-column ws ce true) ≡ ce
@@ -108,6 +110,18 @@ module _ {ws : List ℕ} {ce cn : ℕ} {counts : Counts} {x : ℕ} (r : Readable
         rw (q, ring-first-some q) (ring-column q ∙ ring-entries q),
         inr (rw q (subst (λ (l : List ℕ). In (last-at ws ce x) l) (sym (ring-column q)) (rw (ring-entries q) (ring-closed q)))),
       ))
+
+  -- the ends of the ring can be read
+  pub ends-readable : EndsReadable ws ce x
+  ends-readable =
+      let sized = r .sized in
+      let bounded = r .nodes in
+      let edges = r .edges in
+      let node = r .node in
+      record {
+        room = omega arith;
+        edge = λ some. let low = ring-below (r .rings .ring x (r .node)) (last-at ws ce x) (ring-last some (r .rings .ring x (r .node))) in omega arith;
+      }
 
   -- ---- its run or base part
 
@@ -294,18 +308,46 @@ module _ {ws : List ℕ} {ce cn : ℕ} {counts : Counts} {live-edges : List ℕ}
         kept false = refl
 
     -- where no edge is removed, the walk is as long as the run or base part and the ring together
-    pub started-degree : tombstoned-in counts ≡ false → (some-live : List ℕ) (slots : ℕ)
+    started-degree : tombstoned-in counts ≡ false
         → part-count (s .linked) (s .cursor .base) (s .cursor .«base_end»)
-        + length (listed-left false (next-column ws ce) (next-column ws ce) false some-live slots (base-at (s .cursor) 0 0))
+        + length (listed-left false (next-column ws ce) (next-column ws ce) false live-edges 0 (base-at (s .cursor) 0 0))
         ≡ length (walk-in ws ce cn counts live-edges x live)
     unfolding remaining
-    started-degree whole some-live slots =
+    started-degree whole =
         let entries = entries-column ws ce (s .linked) in
         let before = part-left (s .linked) entries (s .cursor .base) (s .cursor .«base_end») in
         let ring = ring-left (next-column ws ce) (s .cursor .delta) (s .cursor .«delta_last») in
         let all : walk-in ws ce cn counts live-edges x live ≡ before ++ ring = sym started-walk ∙ rw whole (keep-all (before ++ ring)) in
         let sum = ap length all ∙ length-append before ring in
         let size = part-counted (s .linked) entries (s .cursor .base) (s .cursor .«base_end») in
-        let counted : length (keep (listed false (live-flags some-live slots)) (remaining false (next-column ws ce) (next-column ws ce) (base-at (s .cursor) 0 0))) ≡ length ring
+        let counted : length (keep (listed false (live-flags live-edges 0)) (remaining false (next-column ws ce) (next-column ws ce) (base-at (s .cursor) 0 0))) ≡ length ring
         = ap length (keep-all (remaining false (next-column ws ce) (next-column ws ce) (base-at (s .cursor) 0 0)) ∙ ring-remaining (next-column ws ce) (s .cursor)) in
         omega arith
+
+    -- a walk is short
+    pub walk-short : length (walk-in ws ce cn counts live-edges x live) ≤ NONE + LIMIT
+    walk-short = rw (← started-walk) (kept-short (listed (tombstoned-in counts) flags) (t .ready))
+
+    -- ---- the same with columns that were handed out
+
+    -- the degree, from the two counts
+    pub given-degree : {next : List ℕ} {a b : ℕ} {ring : AdjacencyCursor} → tombstoned-in counts ≡ false → next ≡ next-column ws ce
+        → ring ≡ base-at (s .cursor) 0 0 → a ≡ part-count (s .linked) (s .cursor .base) (s .cursor .«base_end»)
+        → b ≡ length (listed-left false next next false live-edges 0 ring) → a + b ≡ length (walk-in ws ce cn counts live-edges x live)
+    given-degree whole is-next is-ring of-part of-ring = rw (of-part, of-ring, is-next, is-ring) (started-degree whole)
+
+    module _ {entries next : List ℕ} (are-entries : entries ≡ entries-column ws ce (s .linked)) (is-next : next ≡ next-column ws ce) where
+      -- the walk can be read
+      pub given-seekable : Seekable (s .linked) entries next live-edges (counts .edges .bound) (s .cursor)
+      given-seekable = rw (are-entries, is-next) (record { ready = t .ready; live-long = w .live-long })
+
+      -- its listed entries are the node's walk
+      pub given-walk : {tombstoned : Bool} → tombstoned ≡ tombstoned-in counts
+          → listed-left (s .linked) entries next tombstoned live-edges (counts .edges .bound) (s .cursor) ≡ walk-in ws ce cn counts live-edges x live
+      given-walk q = rw (are-entries, is-next, q) started-walk
+
+      -- and it can be written where there is room
+      pub given-writable : {tombstoned : Bool} {out : List ℕ} → tombstoned ≡ tombstoned-in counts
+          → length (walk-in ws ce cn counts live-edges x live) ≤ length out
+          → Writable (s .linked) entries next tombstoned live-edges (counts .edges .bound) (s .cursor) out
+      given-writable q h = record { seekable = given-seekable; fits = rw (given-walk q) h }

@@ -9,7 +9,6 @@ ghost use lib.ListN.{length};
 ghost use Rattle.plain.specs.Lists.{written};
 ghost use Rattle.shape.specs.Columns.{end-at};
 ghost use Rattle.adjacency.specs.Walk.{walk-in, tombstoned-in, entries-column, next-column, ColumnsThere, Readable, Walkable, WalkFits, Started};
-
 use crate::cursor::AdjacencyCursor;
 use crate::cursor::Start;
 use crate::rings;
@@ -44,18 +43,24 @@ pub fn start(
     let ring = rings::ring_ends(axis, edges, node);
     cursor.delta = ring.first;
     cursor.delta_last = ring.last;
-    let linked = axis[4 * edges + 4 * nodes + node] != 0;
-    if linked {
+    let mark = axis[4 * edges + 4 * nodes + node];
+    if mark != 0 {
         cursor.base = axis[4 * edges + nodes + node];
         cursor.base_end = axis[4 * edges + 3 * nodes + node];
-        return Start { linked, cursor };
+        return Start {
+            linked: true,
+            cursor,
+        };
     }
     if node < counts.nodes.base as usize {
         let at = 4 * edges + 5 * nodes + node;
         cursor.base = axis[at];
         cursor.base_end = axis[at + 1];
     }
-    Start { linked, cursor }
+    Start {
+        linked: false,
+        cursor,
+    }
 }
 
 // The column that a walk reads before the ring: the run links, or the compressed index's edge numbers.
@@ -122,7 +127,15 @@ pub fn write_walk(
     let slots = counts.edges.bound as usize;
     let entries = entries_of(axis, edges, linked);
     let next = next_of(axis, edges);
-    start.cursor.write(linked, entries, next, tombstoned(counts), live_edges, slots, out);
+    start.cursor.write(
+        linked,
+        entries,
+        next,
+        tombstoned(counts),
+        live_edges,
+        slots,
+        out,
+    );
 }
 
 // Writes the far ends of a node's walk to the start of `out`: successors, or predecessors. `far` is the axis of the other direction.
@@ -146,7 +159,16 @@ pub fn write_neighbors(
     let slots = counts.edges.bound as usize;
     let entries = entries_of(axis, edges, linked);
     let next = next_of(axis, edges);
-    start.cursor.write_ends(linked, entries, next, tombstoned(counts), live_edges, slots, far, out);
+    start.cursor.write_ends(
+        linked,
+        entries,
+        next,
+        tombstoned(counts),
+        live_edges,
+        slots,
+        far,
+        out,
+    );
 }
 
 // The degree of a node: how many entries its walk has. Where no edge is removed, only the ring is walked.
