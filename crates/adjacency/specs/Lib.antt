@@ -1,3 +1,5 @@
+pub mod Index
+pub mod IndexLaws
 pub mod Rings
 pub mod Cursor
 pub mod CursorLaws

@@ -2,5 +2,6 @@
 // directions. Port of adjacency.rs. All functions are internal: they require the part of a checked store that they need, by its name in crate `shape`.
 
 pub mod cursor;
+pub mod index;
 pub mod rings;
 pub mod walk;

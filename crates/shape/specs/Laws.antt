@@ -2,3 +2,5 @@
 pub mod Chains
 pub mod Frames
 pub mod Walking
+pub mod Indexing
+pub mod NewBase
