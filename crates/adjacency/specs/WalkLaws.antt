@@ -28,6 +28,8 @@ use Rattle.shape.specs.Laws.Frames.{between-agree, offset-within}
 use Rattle.shape.specs.Laws.Walking.{between-none, between-length, between-member, until-wider, until-first}
 use Rattle.adjacency.specs.declared.cursor.AdjacencyCursor.{AdjacencyCursor}
 use Rattle.adjacency.specs.declared.cursor.Start.{Start}
+use Rattle.adjacency.specs.Index.{base-bounds}
+use Rattle.adjacency.specs.IndexLaws.{bounds-part, bounds-range}
 use Rattle.adjacency.specs.Rings.{EndsReadable, ring-ends}
 use Rattle.adjacency.specs.Cursor.{word, part-left, part-count, ring-left, remaining, exhausted, base-at, PartWithin, Closed, Ready, listed, listed-left, Seekable, Writable}
 use Rattle.adjacency.specs.CursorLaws.{part-counted, ring-remaining}
@@ -65,6 +67,9 @@ module _ {ws : List ℕ} {ce cn : ℕ} {counts : Counts} {x : ℕ} (r : Readable
 
   base-length : length (entries-column ws ce false) ≡ ce
   base-length = let s = r .sized in column-length ws ce ce (omega arith)
+
+  abbrev bn : ℕ
+  bn = counts .nodes .base
 
   abbrev be : ℕ
   be = counts .edges .base
@@ -131,43 +136,31 @@ module _ {ws : List ℕ} {ce cn : ℕ} {counts : Counts} {x : ℕ} (r : Readable
   unfolding run-of run-list
   run-read marked = rw (ne-eqb (mark-at ws ce cn x) 0 marked)
 
-  -- where it has none, and is in the base, its part of the compressed index
-  base-read : mark-at ws ce cn x ≡ 0 → x < counts .nodes .base
-      → part (adjacency-in ws ce cn counts x) ≡ between (cell ws ce) (offset-at ws ce cn x) (offset-at ws ce cn (suc x))
-  unfolding run-of base-of
-  base-read unmarked in-base = rw (eq-eqb (mark-at ws ce cn x) 0 unmarked, lt-ltb x (counts .nodes .base) in-base)
-
-  -- else nothing
-  later-read : mark-at ws ce cn x ≡ 0 → counts .nodes .base ≤ x → part (adjacency-in ws ce cn counts x) ≡ []
-  unfolding run-of base-of
-  later-read unmarked later = rw (eq-eqb (mark-at ws ce cn x) 0 unmarked, le-ltb x (counts .nodes .base) later)
-
-  -- the bounds of the base part, and that its entries are base edges
-  base-bounded : x < counts .nodes .base → (offset-at ws ce cn x ≤ offset-at ws ce cn (suc x)) × (offset-at ws ce cn (suc x) ≤ be)
-      × ((i : ℕ) → i < be → cell ws ce i < be)
-  base-bounded in-base =
-      ⊎-elim (λ q. absurd (omega (arith, q .0))) (λ ok. (ok .ascends x in-base, offset-within ok (suc x) in-base, ok .entries)) (r .index)
+  -- where it has none, its part of the compressed index
+  base-read : mark-at ws ce cn x ≡ 0
+      → part (adjacency-in ws ce cn counts x) ≡ between (cell ws ce) (base-bounds ws ce cn bn x .start) (base-bounds ws ce cn bn x .end)
+  unfolding run-of
+  base-read unmarked = rw (eq-eqb (mark-at ws ce cn x) 0 unmarked) (bounds-part ws ce cn bn x)
 
   -- its entries are below the edge bound
   part-below : (e : ℕ) → In e (part (adjacency-in ws ce cn counts x)) → e < eb
   unfolding run-list
   part-below e m =
-      by-test (eqb (mark-at ws ce cn x) 0) (λ q. ⊎-elim (in-base (eqb-true (mark-at ws ce cn x) 0 q)) (later (eqb-true (mark-at ws ce cn x) 0 q)) (below-or-not x (counts .nodes .base)))
-      (λ q. in-run (eqb-false (mark-at ws ce cn x) 0 q))
+      by-test (eqb (mark-at ws ce cn x) 0) (λ q. in-base (eqb-true (mark-at ws ce cn x) 0 q)) (λ q. in-run (eqb-false (mark-at ws ce cn x) 0 q))
     where
       in-run : (mark-at ws ce cn x ≡ 0 → ⊥) → e < eb
       in-run marked = run-below (r .runs .run x (r .node) marked) e (rw (ne-eqb (mark-at ws ce cn x) 0 marked) (rw (run-read marked) at m))
 
-      in-base : mark-at ws ce cn x ≡ 0 → x < counts .nodes .base → e < eb
-      in-base unmarked h =
-          let at = between-member (cell ws ce) (offset-at ws ce cn x) (offset-at ws ce cn (suc x)) e (rw (base-read unmarked h) at m) in
-          let bounds = base-bounded h in
-          let bounded = r .edges in
-          let low = bounds .2 (at .0) (omega (arith, at .2, bounds .1)) in
-          omega (arith, at .3)
+      in-index : (i : ℕ) → i < be → cell ws ce i < be
+      in-index i h = ⊎-elim (λ q. absurd (omega (arith, q .1))) (λ ok. ok .entries i h) (r .index)
 
-      later : mark-at ws ce cn x ≡ 0 → counts .nodes .base ≤ x → e < eb
-      later unmarked h = in-none e (rw (later-read unmarked h) at m)
+      in-base : mark-at ws ce cn x ≡ 0 → e < eb
+      in-base unmarked =
+          let at = between-member (cell ws ce) (base-bounds ws ce cn bn x .start) (base-bounds ws ce cn bn x .end) e (rw (base-read unmarked) at m) in
+          let stop = bounds-range ws ce cn bn x (r .index) .1 in
+          let bounded = r .edges in
+          let low = in-index (at .0) (omega (arith, at .2)) in
+          omega (arith, at .3)
 
   -- and so are all that a walk reads
   raw-below : (e : ℕ) → In e (raw (adjacency-in ws ce cn counts x)) → e < eb
@@ -209,24 +202,19 @@ module _ {ws : List ℕ} {ce cn : ℕ} {counts : Counts} {x : ℕ} (r : Readable
       (chain-agree (cell ws (3 * ce)) (word (entries-column ws ce true)) (count-at ws ce cn x) (first-at ws ce cn x)
       (λ e m. let low = part-below e (rw (run-read marked) m) in column-word ws (3 * ce) ce e (omega arith))))
 
-  -- a node without a run, in the base
-  pub base-starts : mark-at ws ce cn x ≡ 0 → x < counts .nodes .base
-      → Started ws ce cn counts x true (record { linked = false; cursor = cursor-at (offset-at ws ce cn x) (offset-at ws ce cn (suc x)) })
-  base-starts unmarked in-base =
+  -- a node without a run
+  pub base-starts : mark-at ws ce cn x ≡ 0
+      → Started ws ce cn counts x true
+      (record { linked = false; cursor = cursor-at (base-bounds ws ce cn bn x .start) (base-bounds ws ce cn bn x .end) })
+  base-starts unmarked =
       let bounded = r .edges in
       let small = r .sized .edges-within in
-      let bounds = base-bounded in-base in
+      let bounds = bounds-range ws ce cn bn x (r .index) in
       let stop = bounds .1 in
-      started false (offset-at ws ce cn x) (offset-at ws ce cn (suc x)) (omega arith) (bounds .0, rw base-length (omega arith))
-      (rw (base-read unmarked in-base)
-      (between-agree (word (entries-column ws ce false)) (cell ws ce) (offset-at ws ce cn x) (offset-at ws ce cn (suc x))
+      started false (base-bounds ws ce cn bn x .start) (base-bounds ws ce cn bn x .end) (omega arith) (bounds .0, rw base-length (omega arith))
+      (rw (base-read unmarked)
+      (between-agree (word (entries-column ws ce false)) (cell ws ce) (base-bounds ws ce cn bn x .start) (base-bounds ws ce cn bn x .end)
       (λ i low high. column-word ws ce ce i (omega arith))))
-
-  -- a node without a run that came after the base
-  pub later-starts : mark-at ws ce cn x ≡ 0 → counts .nodes .base ≤ x → Started ws ce cn counts x true (record { linked = false; cursor = cursor-at 0 0 })
-  later-starts unmarked later =
-      started false 0 0 (omega arith) (omega arith, omega arith)
-      (rw (later-read unmarked later) (between-none (word (entries-column ws ce false)) 0 0 (omega arith)))
 
   -- a removed node
   pub none-starts : Started ws ce cn counts x false (record { linked = false; cursor = exhausted })

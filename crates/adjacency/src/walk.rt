@@ -11,6 +11,7 @@ ghost use Rattle.shape.specs.Columns.{end-at};
 ghost use Rattle.adjacency.specs.Walk.{walk-in, tombstoned-in, entries-column, next-column, ColumnsThere, Readable, Walkable, WalkFits, Started};
 use crate::cursor::AdjacencyCursor;
 use crate::cursor::Start;
+use crate::index;
 use crate::rings;
 use plain::Counts;
 
@@ -52,11 +53,9 @@ pub fn start(
             cursor,
         };
     }
-    if node < counts.nodes.base as usize {
-        let at = 4 * edges + 5 * nodes + node;
-        cursor.base = axis[at];
-        cursor.base_end = axis[at + 1];
-    }
+    let bounds = index::base_bounds(axis, edges, nodes, counts.nodes.base as usize, node);
+    cursor.base = bounds.start;
+    cursor.base_end = bounds.end;
     Start {
         linked: false,
         cursor,
