@@ -1,20 +1,19 @@
 -- Laws of the cursor: a step finds the head of what remains and leaves the tail, and nothing is found exactly where nothing remains; a search finds the first
 -- entry that passes.
-use Prim.Native.Nat.{ℕ, zero, suc, _+_, _-_, _*_, _≤_, _<_}
+use Prim.Native.Nat.{ℕ, _+_, _-_, _≤_, _<_}
 use native.Mathlib.Omega.{arith}
-use native.Mathlib.Numerals.{sub-one}
 use mathlib.Core.Path.{_≡_, refl, sym, ap, _∙_, subst}
-use mathlib.Core.Bool.{Bool, true, false, cond, _||_}
+use mathlib.Core.Bool.{Bool, true, false}
 use mathlib.Core.Logic.{_⊎_, inl, inr, ⊎-elim}
 use mathlib.Core.List.{List, [], _∷_, _++_}
-use lib.ListN.{length, length-append}
+use lib.ListN.{length}
 use lib.Dec.{eqb, ltb}
-use borrow.Author.Tests.{eqb-true, eqb-false, eq-eqb, ne-eqb, ltb-true, ltb-false}
-use Rattle.plain.specs.Numbers.{NONE, LIMIT}
-use Rattle.plain.specs.Lists.{member, keep}
+use borrow.Author.Tests.{eqb-true, eqb-false, ne-eqb, ltb-true, ltb-false}
+use Rattle.plain.specs.Numbers.{NONE}
+use Rattle.plain.specs.Lists.{member}
 use Rattle.plain.specs.Laws.Booleans.{by-test, or-true}
 use Rattle.plain.specs.Laws.ListLaws.{member-first, member-later, member-append}
-use Rattle.shape.specs.Chains.{chain, until, In}
+use Rattle.shape.specs.Chains.{until, In}
 use Rattle.shape.specs.Laws.Chains.{chain-none, chain-some, chain-length}
 use Rattle.shape.specs.Laws.Walking.{between-none, between-some, between-length, until-first, until-end, until-on}
 use Rattle.adjacency.specs.declared.cursor.AdjacencyCursor.{AdjacencyCursor}
@@ -103,6 +102,21 @@ step-stepped false {entries} {next} {c} r =
     (stepped r (word entries (c .base)) (base-at c (c .base + 1) (c .«base_end»)) (r .short) (omega arith, r .part .1) (r .closed)
     (ap (λ (l : List ℕ). l ++ ring-left next (c .delta) (c .«delta_last»)) (between-some (word entries) (c .base) (c .«base_end») some))))
     (λ q. rw q (ring-stepped r (between-none (word entries) (c .base) (c .«base_end») (ltb-false (c .base) (c .«base_end») q))))
+
+-- where nothing remains nothing is found
+pub step-done : (linked : Bool) {entries next : List ℕ} {c : AdjacencyCursor} → Ready linked entries next c → remaining linked entries next c ≡ []
+    → step-of linked entries next c .found ≡ Done
+step-done linked {entries} {next} {c} r none = only (step-of linked entries next c .found) (sym none ∙ step-stepped linked r .left)
+  where
+    only : (f : Found) → [] ≡ found-then f (remaining linked entries next (step-of linked entries next c .cursor)) → f ≡ Done
+    only Done q = refl
+    only (Edge e) q = let z : _≡_ {A = ℕ} 0 1 = cc in absurd (omega arith)
+
+-- nothing remains of the exhausted cursor, over any columns
+pub exhausted-remaining : (linked : Bool) (entries next : List ℕ) → remaining linked entries next exhausted ≡ []
+unfolding remaining
+exhausted-remaining true entries next = rw (chain-none (word entries) 0 0 refl)
+exhausted-remaining false entries next = rw (between-none (word entries) 0 0 (omega arith))
 
 -- ---- what a step reads stands in the columns
 

@@ -6,3 +6,4 @@ pub mod CursorLaws
 pub mod Reading
 pub mod Walk
 pub mod WalkLaws
+pub mod StoreWalks

@@ -3,35 +3,34 @@ use Prim.Native.Nat.{ℕ, zero, suc, _+_, _-_, _*_, _≤_, _<_}
 use native.Mathlib.Nat.{le-of-suc-le-suc, not-suc-le-zero}
 use native.Mathlib.Omega.{arith}
 use mathlib.Core.Path.{_≡_, refl, sym, ap, _∙_, subst}
-use mathlib.Core.Bool.{Bool, true, false, cond, _||_}
+use mathlib.Core.Bool.{Bool, true, false, cond}
 use mathlib.Core.Logic.{_⊎_, inl, inr, ⊎-elim}
-use mathlib.Core.Option.{none, some}
+use mathlib.Core.Option.{some}
 use mathlib.Core.List.{List, [], _∷_, _++_}
-use lib.ListN.{length, getD, take, drop, length-take, length-drop, length-append}
+use lib.ListN.{length, drop, length-take, length-drop, length-append}
 use lib.Seq.{getD-take, getD-drop}
-use lib.Dec.{eqb, ltb}
-use borrow.Author.Tests.{eqb-true, eqb-false, eq-eqb, ne-eqb, lt-ltb, le-ltb, not-false}
+use lib.Dec.{eqb}
+use borrow.Author.Tests.{eqb-true, eqb-false, eq-eqb, ne-eqb}
 use Rattle.plain.specs.declared.Counts.{Counts}
 use Rattle.plain.specs.Numbers.{NONE, LIMIT}
 use Rattle.plain.specs.Lists.{member, keep, count}
 use Rattle.plain.specs.Reads.{live-count}
-use Rattle.plain.specs.Laws.Booleans.{by-test, or-other, below-or-not}
-use Rattle.plain.specs.Laws.ListLaws.{member-append, member-first, member-later, count-length}
+use Rattle.plain.specs.Laws.Booleans.{by-test, and-left, or-other}
+use Rattle.plain.specs.Laws.ListLaws.{member-append, member-keep, member-first, member-later, count-length}
 use Rattle.liveness.specs.Flags.{live-flags}
 use Rattle.liveness.specs.FlagLaws.{length-flags}
-use Rattle.shape.specs.Columns.{cell, last-at, first-at, count-at, mark-at, offset-at}
+use Rattle.shape.specs.Columns.{cell, last-at, first-at, count-at, mark-at}
 use Rattle.shape.specs.Chains.{chain, until, ring, In}
-use Rattle.shape.specs.Shape.{between, base-of, run-list, run-of, ring-of, part, raw, live-in, walk-of}
-use Rattle.shape.specs.Checked.{Indexed}
+use Rattle.shape.specs.Shape.{between, run-list, run-of, ring-of, part, raw, live-in}
 use Rattle.shape.specs.Laws.Chains.{in-none, chain-agree, run-below, run-short, until-agree, ring-line, ring-last, ring-below, line-last}
-use Rattle.shape.specs.Laws.Frames.{between-agree, offset-within}
-use Rattle.shape.specs.Laws.Walking.{between-none, between-length, between-member, until-wider, until-first}
+use Rattle.shape.specs.Laws.Frames.{between-agree}
+use Rattle.shape.specs.Laws.Walking.{between-none, between-member, until-wider, until-first}
 use Rattle.adjacency.specs.declared.cursor.AdjacencyCursor.{AdjacencyCursor}
 use Rattle.adjacency.specs.declared.cursor.Start.{Start}
 use Rattle.adjacency.specs.Index.{base-bounds}
 use Rattle.adjacency.specs.IndexLaws.{bounds-part, bounds-range}
 use Rattle.adjacency.specs.Rings.{EndsReadable, ring-ends}
-use Rattle.adjacency.specs.Cursor.{word, part-left, part-count, ring-left, remaining, exhausted, base-at, PartWithin, Closed, Ready, listed, listed-left, Seekable, Writable}
+use Rattle.adjacency.specs.Cursor.{word, part-left, part-count, ring-left, remaining, exhausted, base-at, PartWithin, Closed, listed, listed-left, Seekable, Writable}
 use Rattle.adjacency.specs.CursorLaws.{part-counted, ring-remaining}
 use Rattle.adjacency.specs.Reading.{kept-short}
 use Rattle.adjacency.specs.Walk.{adjacency-in, walk-in, tombstoned-in, column, entries-column, next-column, ColumnsThere, Readable, Walkable, Started}
@@ -269,6 +268,13 @@ module _ {ws : List ℕ} {ce cn : ℕ} {counts : Counts} {live-edges : List ℕ}
       full : eqb (counts .edges .live) (counts .edges .bound) ≡ true → live-count flags ≡ length flags
       full q =
           sym (w .live-right .live-right) ∙ eqb-true (counts .edges .live) (counts .edges .bound) q ∙ sym (length-flags live-edges (counts .edges .bound))
+
+  -- a walk has edges below the bound
+  pub walk-below : (live : Bool) (e : ℕ) → In e (walk-in ws ce cn counts live-edges x live) → e < counts .edges .bound
+  walk-below true e m =
+      raw-below (w .readable) e
+      (and-left (member e (raw (adjacency-in ws ce cn counts x))) (live-in flags e) (sym (member-keep (live-in flags) e (raw (adjacency-in ws ce cn counts x))) ∙ m))
+  walk-below false e m = in-none e m
 
   module _ {live : Bool} {s : Start} (t : Started ws ce cn counts x live s) where
     -- the run or base part and the ring of a live node
