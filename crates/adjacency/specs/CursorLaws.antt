@@ -157,6 +157,7 @@ module _ {test : ℕ → Bool} {linked : Bool} {entries next : List ℕ} {c₀ c
   turn : Stepped linked entries next c s
   turn = subst (λ (t : Step). Stepped linked entries next c t) (sym r) (step-stepped linked (i .ready))
 
+  -- what was found stands before what is left
   found-is : {f : Found} → s .found ≡ f → remaining linked entries next c ≡ found-then f (remaining linked entries next (s .cursor))
   found-is q = turn .left ∙ ap (λ (f : Found). found-then f (remaining linked entries next (s .cursor))) q
 

@@ -138,6 +138,7 @@ write-one : (past out₀ : List ℕ) (n v : ℕ) → n ≡ length past → n < l
 write-one past out₀ n v q h =
     rw (drop-cons out₀ n 0 h, add-one n) (set-at past (getD out₀ n 0) (drop (suc n) out₀) v n (sym q) ∙ sym (append-snoc past v (drop (suc n) out₀)))
 
+-- a map of a list with one entry more
 map-snoc : (f : ℕ → ℕ) (xs : List ℕ) (e : ℕ) → map f (xs ++ (e ∷ [])) ≡ map f xs ++ (f e ∷ [])
 map-snoc f [] e = refl
 map-snoc f (x ∷ xs) e = ap (λ (l : List ℕ). f x ∷ l) (map-snoc f xs e)

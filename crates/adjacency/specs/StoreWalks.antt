@@ -50,24 +50,28 @@ unfolding plain-of
 plain-lists s Outgoing = refl
 plain-lists s Incoming = refl
 
+-- and the ends
 plain-ends : (s : Shape) (d : TraversalDirection) → incidence d (plain-of s) .ends ≡ axis-in d s .ends
 unfolding plain-of
 plain-ends s Outgoing = refl
 plain-ends s Incoming = refl
 
 module _ (w : Words) where
+  -- the flags of the shape's edge slots are those of the live words
   edge-flags : edge-flags-of (shape-of w) ≡ edge-live w
   unfolding shape-of
   edge-flags =
       map-map (λ (e : EdgeSlot). e .live) (λ e. record { payload = getD (w .edges) e 0; live = getD (edge-live w) e false }) (from 0 (w .counts .edges .bound))
       ∙ flags-back (edge-live w) (w .counts .edges .bound) (length-flags (w .live-edges) (w .counts .edges .bound))
 
+  -- so are those of its node slots
   node-flags : node-flags-of (shape-of w) ≡ node-live w
   unfolding shape-of
   node-flags =
       map-map (λ (n : NodeSlot). n .live) (λ x. record { payload = getD (w .nodes) x 0; live = getD (node-live w) x false }) (from 0 (w .counts .nodes .bound))
       ∙ flags-back (node-live w) (w .counts .nodes .bound) (length-flags (w .live-nodes) (w .counts .nodes .bound))
 
+  -- a direction of the shape is made of the words of its axis
   axis-shape : (d : TraversalDirection) → axis-in d (shape-of w) ≡ axis-of (axis-words d w) (length (w .edges)) (length (w .nodes)) (w .counts)
   unfolding shape-of
   axis-shape Outgoing = refl
@@ -87,6 +91,7 @@ module _ (w : Words) where
         rw (axis-shape d)
         (getD-below (adjacency-in (axis-words d w) (length (w .edges)) (length (w .nodes)) (w .counts)) (w .counts .nodes .bound) x no-adjacency node)
 
+    -- the node has an adjacency in the shape
     nodes-there : x < length (axis-in d (shape-of w) .nodes)
     unfolding axis-of
     nodes-there =

@@ -33,7 +33,7 @@ use Rattle.adjacency.specs.Rings.{EndsReadable, ring-ends}
 use Rattle.adjacency.specs.Cursor.{word, part-left, part-count, ring-left, remaining, exhausted, base-at, PartWithin, Closed, listed, listed-left, Seekable, Writable}
 use Rattle.adjacency.specs.CursorLaws.{part-counted, ring-remaining}
 use Rattle.adjacency.specs.Reading.{kept-short}
-use Rattle.adjacency.specs.Walk.{adjacency-in, walk-in, tombstoned-in, column, entries-column, next-column, ColumnsThere, Readable, Walkable, Started}
+use Rattle.adjacency.specs.Walk.{adjacency-in, walk-in, tombstoned-in, column, entries-column, next-column, Readable, Walkable, Started}
 
 -- ---- columns
 
@@ -53,11 +53,7 @@ in-either : (e : ℕ) (xs ys : List ℕ) → In e (xs ++ ys) → In e xs ⊎ In 
 in-either e xs ys m = by-test (member e xs) (λ q. inl q) (λ q. inr (or-other (sym (member-append e xs ys) ∙ m) q))
 
 module _ {ws : List ℕ} {ce cn : ℕ} {counts : Counts} {x : ℕ} (r : Readable ws ce cn counts x) where
-  -- the columns are there
-  pub columns-there : ColumnsThere ws ce
-  columns-there = let s = r .sized in record { few = s .edges-within; room = omega arith }
-
-  -- and as long as there are edges
+  -- the columns are as long as there are edges
   pub next-length : length (next-column ws ce) ≡ ce
   next-length = let s = r .sized in column-length ws (2 * ce) ce (omega arith)
 
@@ -76,15 +72,19 @@ module _ {ws : List ℕ} {ce cn : ℕ} {counts : Counts} {x : ℕ} (r : Readable
   abbrev eb : ℕ
   eb = counts .edges .bound
 
-  -- the ring, read from its ends in the column of the ring links
+  -- ---- its ring, where that is not empty
+
   module _ (some : eqb (last-at ws ce x) NONE ≡ false) where
+    -- the entries from the one behind the last on up to the last
     ring-entries : ring-of ws ce be eb x ≡ until (cell ws (2 * ce)) (last-at ws ce x) (eb - be) (cell ws (2 * ce) (last-at ws ce x))
     unfolding ring-of ring
     ring-entries = rw some
 
+    -- the last entry is one of them
     ring-closed : In (last-at ws ce x) (until (cell ws (2 * ce)) (last-at ws ce x) (eb - be) (cell ws (2 * ce) (last-at ws ce x)))
     ring-closed = rw ring-entries at (line-last (ring-line (eqb-false (last-at ws ce x) NONE some) (r .rings .ring x (r .node))))
 
+    -- the same, read in the column of the ring links
     ring-column : until (word (next-column ws ce)) (last-at ws ce x) (length (next-column ws ce)) (cell ws (2 * ce) (last-at ws ce x))
         ≡ ring-of ws ce be eb x
     ring-column =
@@ -97,6 +97,7 @@ module _ {ws : List ℕ} {ce cn : ℕ} {counts : Counts} {x : ℕ} (r : Readable
         (until-agree link (word (next-column ws ce)) last ce (link last)
         (λ e m. let low = ring-below (r .rings .ring x (r .node)) e (rw same at m) in column-word ws (2 * ce) ce e (omega arith)) ∙ same)
 
+    -- the first entry is an edge, not NONE
     ring-first-some : eqb (cell ws (2 * ce) (last-at ws ce x)) NONE ≡ false
     ring-first-some =
         let first = until-first (cell ws (2 * ce)) (last-at ws ce x) (eb - be) (cell ws (2 * ce) (last-at ws ce x)) ring-closed in
@@ -105,6 +106,7 @@ module _ {ws : List ℕ} {ce cn : ℕ} {counts : Counts} {x : ℕ} (r : Readable
         let small = r .sized .edges-within in
         ne-eqb (cell ws (2 * ce) (last-at ws ce x)) NONE (λ q. omega arith)
 
+  -- the ring from its ends, empty or not
   ring-starts : (ring-left (next-column ws ce) (ring-ends ws ce x .first) (ring-ends ws ce x .last) ≡ ring-of ws ce be eb x)
       × Closed (next-column ws ce) (ring-ends ws ce x .first) (ring-ends ws ce x .last)
   unfolding ring-ends ring-of ring
