@@ -16,12 +16,14 @@ use Rattle.plain.specs.Numbers.{NONE, LIMIT}
 use Rattle.plain.specs.Lists.{member, keep, count}
 use Rattle.plain.specs.Reads.{live-count}
 use Rattle.plain.specs.Laws.Booleans.{by-test, and-left, or-other}
-use Rattle.plain.specs.Laws.ListLaws.{member-append, member-keep, member-first, member-later, count-length}
+use Rattle.plain.specs.Laws.ListLaws.{member-append, member-keep, count-length}
 use Rattle.liveness.specs.Flags.{live-flags}
 use Rattle.liveness.specs.FlagLaws.{length-flags}
+use Rattle.plain.specs.Laws.Deleting.{keep-all}
+use Rattle.shape.specs.Laws.Taking.{keep-agree}
 use Rattle.shape.specs.Columns.{cell, last-at, first-at, count-at, mark-at}
 use Rattle.shape.specs.Chains.{chain, until, ring, In}
-use Rattle.shape.specs.Shape.{between, run-list, run-of, ring-of, part, raw, live-in}
+use Rattle.shape.specs.Shape.{adjacency-in, between, run-list, run-of, ring-of, part, raw, live-in}
 use Rattle.shape.specs.Laws.Chains.{in-none, chain-agree, run-below, run-short, until-agree, ring-line, ring-last, ring-below, line-last}
 use Rattle.shape.specs.Laws.Frames.{between-agree}
 use Rattle.shape.specs.Laws.Walking.{between-none, between-member, until-wider, until-first}
@@ -33,7 +35,7 @@ use Rattle.adjacency.specs.Rings.{EndsReadable, ring-ends}
 use Rattle.adjacency.specs.Cursor.{word, part-left, part-count, ring-left, remaining, exhausted, base-at, PartWithin, Closed, listed, listed-left, Seekable, Writable}
 use Rattle.adjacency.specs.CursorLaws.{part-counted, ring-remaining}
 use Rattle.adjacency.specs.Reading.{kept-short}
-use Rattle.adjacency.specs.Walk.{adjacency-in, walk-in, tombstoned-in, column, entries-column, next-column, Readable, Walkable, Started}
+use Rattle.adjacency.specs.Walk.{walk-in, tombstoned-in, column, entries-column, next-column, Readable, Walkable, Started}
 
 -- ---- columns
 
@@ -244,19 +246,6 @@ flag-set (true ∷ flags) zero full h = refl
 flag-set (true ∷ flags) (suc i) full h = flag-set flags i (omega arith) (le-of-suc-le-suc h)
 flag-set (false ∷ flags) i full h = absurd (omega (arith, count-length (λ f. f) flags))
 
--- filters that agree at the members are equal
-keep-same : (f g : ℕ → Bool) (xs : List ℕ) → ((e : ℕ) → In e xs → f e ≡ g e) → keep f xs ≡ keep g xs
-unfolding keep
-keep-same f g [] agree = refl
-keep-same f g (x ∷ xs) agree =
-    rw (agree x (member-first x xs), keep-same f g xs (λ e m. agree e (member-later e x xs m)))
-
--- a filter that all pass
-keep-all : (xs : List ℕ) → keep (λ e. true) xs ≡ xs
-unfolding keep
-keep-all [] = refl
-keep-all (x ∷ xs) = rw (keep-all xs)
-
 module _ {ws : List ℕ} {ce cn : ℕ} {counts : Counts} {live-edges : List ℕ} {x : ℕ} (w : Walkable ws ce cn counts live-edges x) where
   abbrev flags : List Bool
   flags = live-flags live-edges (counts .edges .bound)
@@ -299,7 +288,7 @@ module _ {ws : List ℕ} {ce cn : ℕ} {counts : Counts} {live-edges : List ℕ}
         kept : (b : Bool) → keep (listed (tombstoned-in counts) flags) (cond b (raw (adjacency-in ws ce cn counts x)) [])
             ≡ cond b (keep (live-in flags) (raw (adjacency-in ws ce cn counts x))) []
         kept true =
-            keep-same (listed (tombstoned-in counts) flags) (live-in flags) (raw (adjacency-in ws ce cn counts x))
+            keep-agree (listed (tombstoned-in counts) flags) (live-in flags) (raw (adjacency-in ws ce cn counts x))
             (λ e m. listed-live e (raw-below (w .readable) e m))
         kept false = refl
 
