@@ -4,7 +4,7 @@ use native.Mathlib.Nat.{le-of-suc-le-suc, not-suc-le-zero}
 use native.Mathlib.Omega.{arith}
 use mathlib.Core.Path.{_≡_, refl, sym, ap, _∙_, subst}
 use mathlib.Core.Bool.{Bool, true, false, cond}
-use mathlib.Core.Logic.{_⊎_, inl, inr, ⊎-elim}
+use mathlib.Core.Logic.{_⊎_, inl, inr}
 use mathlib.Core.Option.{some}
 use mathlib.Core.List.{List, [], _∷_, _++_}
 use lib.ListN.{length, drop, length-take, length-drop, length-append}
@@ -21,12 +21,13 @@ use Rattle.liveness.specs.Flags.{live-flags}
 use Rattle.liveness.specs.FlagLaws.{length-flags}
 use Rattle.plain.specs.Laws.Deleting.{keep-all}
 use Rattle.shape.specs.Laws.Taking.{keep-agree}
+use Rattle.shape.specs.Laws.CheckedShape.{part-below, raw-below}
 use Rattle.shape.specs.Columns.{cell, last-at, first-at, count-at, mark-at}
 use Rattle.shape.specs.Chains.{chain, until, ring, In}
 use Rattle.shape.specs.Shape.{adjacency-in, between, run-list, run-of, ring-of, part, raw, live-in}
-use Rattle.shape.specs.Laws.Chains.{in-none, chain-agree, run-below, run-short, until-agree, ring-line, ring-last, ring-below, line-last}
+use Rattle.shape.specs.Laws.Chains.{in-none, chain-agree, run-short, until-agree, ring-line, ring-last, ring-below, line-last}
 use Rattle.shape.specs.Laws.Frames.{between-agree}
-use Rattle.shape.specs.Laws.Walking.{between-none, between-member, until-wider, until-first}
+use Rattle.shape.specs.Laws.Walking.{between-none, until-wider, until-first}
 use Rattle.adjacency.specs.declared.cursor.AdjacencyCursor.{AdjacencyCursor}
 use Rattle.adjacency.specs.declared.cursor.Start.{Start}
 use Rattle.adjacency.specs.Index.{base-bounds}
@@ -145,31 +146,9 @@ module _ {ws : List ℕ} {ce cn : ℕ} {counts : Counts} {x : ℕ} (r : Readable
   unfolding run-of
   base-read unmarked = rw (eq-eqb (mark-at ws ce cn x) 0 unmarked) (bounds-part ws ce cn bn x)
 
-  -- its entries are below the edge bound
-  part-below : (e : ℕ) → In e (part (adjacency-in ws ce cn counts x)) → e < eb
-  unfolding run-list
-  part-below e m =
-      by-test (eqb (mark-at ws ce cn x) 0) (λ q. in-base (eqb-true (mark-at ws ce cn x) 0 q)) (λ q. in-run (eqb-false (mark-at ws ce cn x) 0 q))
-    where
-      in-run : (mark-at ws ce cn x ≡ 0 → ⊥) → e < eb
-      in-run marked = run-below (r .runs .run x (r .node) marked) e (rw (ne-eqb (mark-at ws ce cn x) 0 marked) (rw (run-read marked) at m))
-
-      in-index : (i : ℕ) → i < be → cell ws ce i < be
-      in-index i h = ⊎-elim (λ q. absurd (omega (arith, q .1))) (λ ok. ok .entries i h) (r .index)
-
-      in-base : mark-at ws ce cn x ≡ 0 → e < eb
-      in-base unmarked =
-          let at = between-member (cell ws ce) (base-bounds ws ce cn bn x .start) (base-bounds ws ce cn bn x .end) e (rw (base-read unmarked) at m) in
-          let stop = bounds-range ws ce cn bn x (r .index) .1 in
-          let bounded = r .edges in
-          let low = in-index (at .0) (omega (arith, at .2)) in
-          omega (arith, at .3)
-
-  -- and so are all that a walk reads
-  raw-below : (e : ℕ) → In e (raw (adjacency-in ws ce cn counts x)) → e < eb
-  raw-below e m =
-      ⊎-elim (part-below e) (ring-below (r .rings .ring x (r .node)) e)
-      (in-either e (part (adjacency-in ws ce cn counts x)) (ring-of ws ce be eb x) m)
+  -- all that a walk reads is below the edge bound
+  read-below : (e : ℕ) → In e (raw (adjacency-in ws ce cn counts x)) → e < eb
+  read-below = raw-below ws ce cn counts (r .edges .base-within) (r .index) (r .runs) x (r .node) (r .rings)
 
   -- ---- the start
 
@@ -187,7 +166,7 @@ module _ {ws : List ℕ} {ce cn : ℕ} {counts : Counts} {x : ℕ} (r : Readable
       short = omega arith;
       part = within;
       closed = ring-starts .1;
-      below = λ e m. let low = raw-below e (rw (whole, ring-starts .0) at m) in let bounded = r .edges in omega (arith, next-length);
+      below = λ e m. let low = read-below e (rw (whole, ring-starts .0) at m) in let bounded = r .edges in omega (arith, next-length);
     };
     part-is = whole;
     ring-is = ring-starts .0;
@@ -203,7 +182,7 @@ module _ {ws : List ℕ} {ce cn : ℕ} {counts : Counts} {x : ℕ} (r : Readable
       started true (first-at ws ce cn x) (count-at ws ce cn x) (omega arith) (rw (run-length, next-length) (omega arith))
       (rw (run-read marked)
       (chain-agree (cell ws (3 * ce)) (word (entries-column ws ce true)) (count-at ws ce cn x) (first-at ws ce cn x)
-      (λ e m. let low = part-below e (rw (run-read marked) m) in column-word ws (3 * ce) ce e (omega arith))))
+      (λ e m. let low = part-below ws ce cn counts (r .edges .base-within) (r .index) (r .runs) x (r .node) e (rw (run-read marked) m) in column-word ws (3 * ce) ce e (omega arith))))
 
   -- a node without a run
   pub base-starts : mark-at ws ce cn x ≡ 0
@@ -263,7 +242,7 @@ module _ {ws : List ℕ} {ce cn : ℕ} {counts : Counts} {live-edges : List ℕ}
   -- a walk has edges below the bound
   pub walk-below : (live : Bool) (e : ℕ) → In e (walk-in ws ce cn counts live-edges x live) → e < counts .edges .bound
   walk-below true e m =
-      raw-below (w .readable) e
+      read-below (w .readable) e
       (and-left (member e (raw (adjacency-in ws ce cn counts x))) (live-in flags e) (sym (member-keep (live-in flags) e (raw (adjacency-in ws ce cn counts x))) ∙ m))
   walk-below false e m = in-none e m
 
@@ -289,7 +268,7 @@ module _ {ws : List ℕ} {ce cn : ℕ} {counts : Counts} {live-edges : List ℕ}
             ≡ cond b (keep (live-in flags) (raw (adjacency-in ws ce cn counts x))) []
         kept true =
             keep-agree (listed (tombstoned-in counts) flags) (live-in flags) (raw (adjacency-in ws ce cn counts x))
-            (λ e m. listed-live e (raw-below (w .readable) e m))
+            (λ e m. listed-live e (read-below (w .readable) e m))
         kept false = refl
 
     -- where no edge is removed, the walk is as long as the run or base part and the ring together
