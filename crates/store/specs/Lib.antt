@@ -1,0 +1,5 @@
+pub mod Made
+pub mod Operations
+pub mod Axes
+pub mod Acting
+pub mod Adding

@@ -1,0 +1,53 @@
+// The store: operations on a checked store, and the reads of a record and a payload. Port of store.rs, edge.rs and view.rs. All functions are internal: they
+// require a checked store, by its name in crate `shape`, and what an operation's refusals leave. What they promise is a record of specs/Operations.antt.
+
+use adjacency::rings;
+use liveness;
+use plain::Counts;
+use plain::Slots;
+ghost use mathlib.Core.Path.{_≡_};
+ghost use Rattle.plain.specs.declared.Operation.the-variants.{AddNode, AddEdge};
+ghost use Rattle.store.specs.Operations.{store, Acted, Raisable, one-more as raised, NodeAddable, EdgeAddable};
+
+// The counts of a kind of slot with a live one more.
+fn one_more(slots: Slots) -> Slots
+    requires { ⌜ Raisable slots ⌝ }
+    ensures { λ r. ⌜ r ≡ raised slots ⌝ }
+{
+    Slots {
+        bound: slots.bound + 1,
+        base: slots.base,
+        live: slots.live + 1,
+    }
+}
+
+// Adds a node: the slot is the bound, which rises by one.
+pub fn add_node(
+    counts: Counts,
+    nodes: &mut [u32],
+    edges: &[u32],
+    live_nodes: &mut [u64],
+    live_edges: &[u64],
+    outgoing: &mut [u32],
+    incoming: &mut [u32],
+    payload: u32,
+) -> Counts
+    requires { ⌜ NodeAddable (store counts (now nodes) (now edges) (now «live_nodes») (now «live_edges») (now outgoing) (now incoming)) ⌝ }
+    ensures { λ r. ⌜ Acted (AddNode payload)
+        (store counts (now (nodes .entry)) (now (edges .entry)) (now («live_nodes» .entry)) (now («live_edges» .entry)) (now (outgoing .entry)) (now (incoming .entry)))
+        (store r (now (nodes .exit)) (now (edges .exit)) (now («live_nodes» .exit)) (now («live_edges» .exit)) (now (outgoing .exit)) (now (incoming .exit))) ⌝ }
+{
+    let slots = counts.nodes;
+    let others = counts.edges;
+    let slot = slots.bound as usize;
+    let capacity = nodes.len();
+    let more = one_more(slots);
+    nodes[slot] = payload;
+    liveness::push_live(live_nodes, slot);
+    rings::open_node(outgoing, edges.len(), capacity, slot);
+    rings::open_node(incoming, edges.len(), capacity, slot);
+    Counts {
+        nodes: more,
+        edges: others,
+    }
+}
