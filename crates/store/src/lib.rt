@@ -51,3 +51,55 @@ pub fn add_node(
         edges: others,
     }
 }
+
+// Adds an edge: the slot is the bound, which rises by one; the edge is appended to its source's out-list and its target's in-list.
+pub fn add_edge(
+    counts: Counts,
+    nodes: &[u32],
+    edges: &mut [u32],
+    live_nodes: &[u64],
+    live_edges: &mut [u64],
+    outgoing: &mut [u32],
+    incoming: &mut [u32],
+    source: u32,
+    target: u32,
+    payload: u32,
+) -> Counts
+    requires { ⌜ EdgeAddable (store counts (now nodes) (now edges) (now «live_nodes») (now «live_edges») (now outgoing) (now incoming)) source target ⌝ }
+    ensures { λ r. ⌜ Acted (AddEdge source target payload)
+        (store counts (now (nodes .entry)) (now (edges .entry)) (now («live_nodes» .entry)) (now («live_edges» .entry)) (now (outgoing .entry)) (now (incoming .entry)))
+        (store r (now (nodes .exit)) (now (edges .exit)) (now («live_nodes» .exit)) (now («live_edges» .exit)) (now (outgoing .exit)) (now (incoming .exit))) ⌝ }
+{
+    let others = counts.nodes;
+    let slots = counts.edges;
+    let slot = slots.bound;
+    let at = slot as usize;
+    let bound = others.bound as usize;
+    let base = slots.base as usize;
+    let capacity = edges.len();
+    let more = one_more(slots);
+    edges[at] = payload;
+    liveness::push_live(live_edges, at);
+    rings::append(
+        outgoing,
+        capacity,
+        nodes.len(),
+        bound,
+        base,
+        source as usize,
+        slot,
+    );
+    rings::append(
+        incoming,
+        capacity,
+        nodes.len(),
+        bound,
+        base,
+        target as usize,
+        slot,
+    );
+    Counts {
+        nodes: others,
+        edges: more,
+    }
+}
