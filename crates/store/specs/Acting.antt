@@ -1,5 +1,5 @@
 -- What every operation on a store rests on: its walks are well formed again because the shape's own step keeps them so, and live counts follow the flags.
-use Prim.Native.Nat.{ℕ, _+_, _≤_}
+use Prim.Native.Nat.{ℕ, _+_, _≤_, _<_}
 use native.Mathlib.Omega.{arith}
 use mathlib.Core.Path.{_≡_, sym, ap, subst, _∙_}
 use mathlib.Core.Bool.{Bool, true, false, cond}
@@ -49,6 +49,11 @@ pushed-right {words} {s = s} right p =
       unused-clear = p .packs (right .unused-clear);
       live-right = rw (p .flags) (omega (arith, right .live-right, live-count-pushed (live-flags words (s .bound))));
     }
+
+-- where a slot is live, some are counted
+pub some-live : {words : List ℕ} {s : Slots} (slot : ℕ) → LiveRight words (live-flags words (s .bound)) s → getD (live-flags words (s .bound)) slot false ≡ true
+    → 0 < s .live
+some-live {words} {s} slot right live = omega (arith, right .live-right, live-count-removed (live-flags words (s .bound)) slot live)
 
 -- a live slot removed
 pub cleared-right : {words after : List ℕ} {s : Slots} {slot : ℕ} {answer : Bool} → LiveRight words (live-flags words (s .bound)) s

@@ -3,3 +3,4 @@ pub mod Operations
 pub mod Axes
 pub mod Acting
 pub mod Adding
+pub mod Editing

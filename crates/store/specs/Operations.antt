@@ -7,6 +7,7 @@ use mathlib.Core.Bool.{Bool, true, false}
 use mathlib.Core.List.{List}
 use lib.ListN.{length, getD}
 use Rattle.plain.specs.declared.Operation.{Operation}
+use Rattle.plain.specs.declared.Operation.the-variants.{RemoveEdge}
 use Rattle.plain.specs.declared.Slots.{Slots}
 use Rattle.plain.specs.declared.Counts.{Counts}
 use Rattle.plain.specs.Numbers.{LIMIT}
@@ -40,6 +41,16 @@ pub record Acted (operation : Operation) (w v : Words) : Type 0 where
   pub shape : shape-of v ≡ acted operation (shape-of w)
   pub checked : Checked v
   pub lengths : SameLengths w v
+
+-- The operation was done if something live was there, which is the answer; else nothing changed.
+pub record Removing (operation : Operation) (live : Bool) (w : Words) (answer : Bool) (v : Words) : Type 0 where
+  pub answers : answer ≡ live
+  pub acts : answer ≡ true → Acted operation w v
+  pub keeps : answer ≡ false → v ≡ w
+
+-- An edge was removed, if it was live.
+abbrev pub RemovedEdge : ℕ → Words → Bool → Words → Type 0
+RemovedEdge edge w answer v = Removing (RemoveEdge edge) (getD (edge-live w) edge false) w answer v
 
 -- ---- the counts
 
@@ -75,3 +86,8 @@ pub record EdgeAddable (w : Words) (source target : ℕ) : Type 0 where
   pub source-live : getD (node-live w) source false ≡ true
   pub target-live : getD (node-live w) target false ≡ true
   pub room : w .counts .edges .bound < length (w .edges)
+
+-- What it takes to set an edge's payload: the slot is below the bound; the edge may be removed.
+pub record PayloadSettable (w : Words) (edge : ℕ) : Type 0 where
+  pub checked : Checked w
+  pub below : edge < w .counts .edges .bound

@@ -5,9 +5,17 @@ use adjacency::rings;
 use liveness;
 use plain::Counts;
 use plain::Slots;
+ghost use Prim.Native.Nat.{_<_};
 ghost use mathlib.Core.Path.{_≡_};
-ghost use Rattle.plain.specs.declared.Operation.the-variants.{AddNode, AddEdge};
-ghost use Rattle.store.specs.Operations.{store, Acted, Raisable, one-more as raised, NodeAddable, EdgeAddable};
+ghost use Rattle.plain.specs.declared.Operation.the-variants.{AddNode, AddEdge, SetPayload};
+ghost use Rattle.shape.specs.Checked.{Checked};
+ghost use Rattle.store.specs.Operations.{store, Acted, RemovedEdge, Raisable, one-more as raised, one-less as lowered, NodeAddable, EdgeAddable, PayloadSettable};
+
+// What removing answers: the counts, and whether something live was there.
+pub struct Removal {
+    pub counts: Counts,
+    pub removed: bool,
+}
 
 // The counts of a kind of slot with a live one more.
 fn one_more(slots: Slots) -> Slots
@@ -18,6 +26,18 @@ fn one_more(slots: Slots) -> Slots
         bound: slots.bound + 1,
         base: slots.base,
         live: slots.live + 1,
+    }
+}
+
+// The counts of a kind of slot with a live one less.
+fn one_less(slots: Slots) -> Slots
+    requires { ⌜ 0 < slots .live ⌝ }
+    ensures { λ r. ⌜ r ≡ lowered slots ⌝ }
+{
+    Slots {
+        bound: slots.bound,
+        base: slots.base,
+        live: slots.live - 1,
     }
 }
 
@@ -102,4 +122,60 @@ pub fn add_edge(
         nodes: others,
         edges: more,
     }
+}
+
+// Removes an edge, if it is live. No list is edited.
+pub fn remove_edge(
+    counts: Counts,
+    nodes: &[u32],
+    edges: &[u32],
+    live_nodes: &[u64],
+    live_edges: &mut [u64],
+    outgoing: &[u32],
+    incoming: &[u32],
+    edge: u32,
+) -> Removal
+    requires { ⌜ Checked (store counts (now nodes) (now edges) (now «live_nodes») (now «live_edges») (now outgoing) (now incoming)) ⌝ }
+    ensures { λ r. ⌜ RemovedEdge edge
+        (store counts (now (nodes .entry)) (now (edges .entry)) (now («live_nodes» .entry)) (now («live_edges» .entry)) (now (outgoing .entry)) (now (incoming .entry)))
+        (r .removed)
+        (store (r .counts) (now (nodes .exit)) (now (edges .exit)) (now («live_nodes» .exit)) (now («live_edges» .exit)) (now (outgoing .exit)) (now (incoming .exit))) ⌝ }
+{
+    let others = counts.nodes;
+    let slots = counts.edges;
+    let bound = slots.bound as usize;
+    if liveness::clear(live_edges, bound, edge as usize) {
+        let less = one_less(slots);
+        return Removal {
+            counts: Counts {
+                nodes: others,
+                edges: less,
+            },
+            removed: true,
+        };
+    }
+    Removal {
+        counts: counts,
+        removed: false,
+    }
+}
+
+// Sets the payload of an edge, also of a removed one. The counts stay.
+pub fn set_payload(
+    counts: Counts,
+    nodes: &[u32],
+    edges: &mut [u32],
+    live_nodes: &[u64],
+    live_edges: &[u64],
+    outgoing: &[u32],
+    incoming: &[u32],
+    edge: u32,
+    payload: u32,
+)
+    requires { ⌜ PayloadSettable (store counts (now nodes) (now edges) (now «live_nodes») (now «live_edges») (now outgoing) (now incoming)) edge ⌝ }
+    ensures { λ _. ⌜ Acted (SetPayload edge payload)
+        (store counts (now (nodes .entry)) (now (edges .entry)) (now («live_nodes» .entry)) (now («live_edges» .entry)) (now (outgoing .entry)) (now (incoming .entry)))
+        (store counts (now (nodes .exit)) (now (edges .exit)) (now («live_nodes» .exit)) (now («live_edges» .exit)) (now (outgoing .exit)) (now (incoming .exit))) ⌝ }
+{
+    edges[edge as usize] = payload;
 }
