@@ -13,6 +13,7 @@ use mathlib.Core.Logic.{⊎-elim}
 use Rattle.shape.specs.Shape.{Words, node-live, edge-live}
 use Rattle.shape.specs.Checked.{Checked}
 use Rattle.store.specs.Operations.{Acted, RemovedEdge}
+use Rattle.strip.specs.Faults.{fault-of, by-fault}
 use Rattle.strip.specs.Step.{StepOf, absent-node, live-node, removed-node, absent-edge, live-edge, removed-edge, node-bound-of, edge-bound-of, stays, done}
 
 module _ {w : Words} (c : Checked w) where
@@ -42,6 +43,14 @@ module _ {w : Words} (c : Checked w) where
         → StepOf (AddEdge source target payload) w w 6 NONE
     target-removed s l h = stays c (add-edge-target-removed (live-node w source s) (removed-node w target l h)) refl
 
+    pub source-fault : let number = fault-of (node-live w) (w .counts .nodes .bound) source 5 6 in (number ≡ 0 → ⊥) → StepOf (AddEdge source target payload) w w number NONE
+    source-fault = by-fault (node-live w) (w .counts .nodes .bound) source 5 6 (λ n. StepOf (AddEdge source target payload) w w n NONE) source-absent source-removed
+
+    pub target-fault : getD (node-live w) source false ≡ true
+        → let number = fault-of (node-live w) (w .counts .nodes .bound) target 5 6 in (number ≡ 0 → ⊥) → StepOf (AddEdge source target payload) w w number NONE
+    target-fault s =
+        by-fault (node-live w) (w .counts .nodes .bound) target 5 6 (λ n. StepOf (AddEdge source target payload) w w n NONE) (target-absent s) (target-removed s)
+
     pub edge-full : getD (node-live w) source false ≡ true → getD (node-live w) target false ≡ true → length (w .edges) ≤ w .counts .edges .bound
         → StepOf (AddEdge source target payload) w w 10 NONE
     edge-full s t h = stays c (add-edge-full (live-node w source s) (live-node w target t) (rw (edge-bound-of w) h)) refl
@@ -54,13 +63,14 @@ module _ {w : Words} (c : Checked w) where
 
   -- ---- remove edge: 1, or 0 where nothing live was there
 
-  pub edge-removed : {v : Words} (e : ℕ) → RemovedEdge e w true v → StepOf (RemoveEdge e) w v 0 1
-  edge-removed e r = done (remove-edge (live-edge w e (sym (r .answers)))) refl refl (r .acts refl)
+  pub edge-removed : {v : Words} {answer : Bool} (e : ℕ) → answer ≡ true → RemovedEdge e w answer v → StepOf (RemoveEdge e) w v 0 1
+  edge-removed e was r = done (remove-edge (live-edge w e (sym (r .answers) ∙ was))) refl refl (r .acts was)
 
-  pub no-edge-removed : {v : Words} (e : ℕ) → RemovedEdge e w false v → StepOf (RemoveEdge e) w v 0 0
-  no-edge-removed {v} e r =
-      subst (λ (u : Words). StepOf (RemoveEdge e) w u 0 0) (sym (r .keeps refl))
-      (⊎-elim (λ l. stays c (remove-edge-removed (removed-edge w e l (sym (r .answers)))) refl) (λ l. stays c (remove-edge-absent (absent-edge w e l)) refl)
+  pub no-edge-removed : {v : Words} {answer : Bool} (e : ℕ) → answer ≡ false → RemovedEdge e w answer v → StepOf (RemoveEdge e) w v 0 0
+  no-edge-removed {v} e was-not r =
+      let dead = sym (r .answers) ∙ was-not in
+      subst (λ (u : Words). StepOf (RemoveEdge e) w u 0 0) (sym (r .keeps was-not))
+      (⊎-elim (λ l. stays c (remove-edge-removed (removed-edge w e l dead)) refl) (λ l. stays c (remove-edge-absent (absent-edge w e l)) refl)
       (below-or-not e (w .counts .edges .bound)))
 
   -- ---- set payload, of removed edges too
