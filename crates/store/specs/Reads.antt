@@ -1,7 +1,7 @@
 -- What the reads of a slot answer on the plain lists of a checked store, by the words that they read.
 use Prim.Native.Nat.{ℕ, _≤_, _<_}
 use native.Mathlib.Omega.{arith}
-use mathlib.Core.Path.{_≡_, refl, sym, ap, _∙_}
+use mathlib.Core.Path.{_≡_, sym, ap, _∙_}
 use mathlib.Core.Bool.{Bool, true, false}
 use mathlib.Core.List.{List}
 use lib.ListN.{length, getD}
@@ -11,10 +11,9 @@ use Rattle.plain.specs.declared.Record.{Record}
 use Rattle.plain.specs.Numbers.{NONE}
 use Rattle.plain.specs.Plain.{NodeSlot, EdgeSlot, no-node, no-edge, end-of}
 use Rattle.plain.specs.Reads.{answered, yes-or-no, no-record, node-payload, edge-record, live-edge-record, contains-node, contains-edge}
-use Rattle.plain.specs.Laws.Cases.{Removed}
 use Rattle.plain.specs.Laws.CallCases.{node-payload-absent, node-payload-there, edge-record-absent, edge-record-there, live-edge-record-absent, live-edge-record-removed, live-edge-record-there, contains-node-is, contains-edge-is}
 use Rattle.liveness.specs.FlagLaws.{length-flags}
-use Rattle.shape.specs.Shape.{Words, Axis, node-live, edge-live, axis-words, axis-of, axis-in, shape-of, plain-of}
+use Rattle.shape.specs.Shape.{Words, Axis, node-live, edge-live, axis-words, shape-of, plain-of}
 use Rattle.shape.specs.Laws.Reading.{made-at, node-bound-is, edge-bound-is, node-flags-are, edge-flags-are, axis-is, axis-end}
 use Rattle.shape.specs.Checked.{Checked}
 use Rattle.store.specs.Operations.{lists}

@@ -17,8 +17,8 @@ returns-2 : tie.Need-returns-2
 returns-2 c =
     let live = c .before .before in
     let start = entry (live .before .before) in
-    c .edge-record .ensures
-    ∙ sym (live-record-live (start .pre) (start .args .edge) (live .before .if1 .left) (sym (live .is-live .ensures) ∙ c .before .if2 .taken))
+    rw (live-record-live (start .pre) (start .args .edge) (live .before .if1 .left) (sym (live .is-live .ensures) ∙ c .before .if2 .taken))
+    (c .edge-record .ensures)
 
 returns-3 : tie.Need-returns-3
 returns-3 c =

@@ -1,5 +1,4 @@
 -- `reads::yes_or_no` meets its contract, by its test.
-use mathlib.Core.Path.{sym}
 use Rattle.store.proofs.reads.yes_or_no.Statement.{statement}
 use Rattle.store.proofs.reads.yes_or_no.Tie as tie
 
