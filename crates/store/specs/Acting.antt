@@ -1,41 +1,42 @@
 -- What every operation on a store rests on: its walks are well formed again because the shape's own step keeps them so, and live counts follow the flags.
 use Prim.Native.Nat.{ℕ, _+_, _≤_, _<_}
 use native.Mathlib.Omega.{arith}
-use mathlib.Core.Path.{_≡_, sym, ap, subst, _∙_}
-use mathlib.Core.Bool.{Bool, true, false, cond}
+use mathlib.Core.Path.{_≡_}
+use mathlib.Core.Bool.{Bool, true, false}
 use mathlib.Core.List.{List}
-use lib.ListN.{length, getD}
+use lib.ListN.{getD}
 use Rattle.plain.specs.declared.Operation.{Operation}
 use Rattle.plain.specs.declared.Slots.{Slots}
-use Rattle.plain.specs.Plain.{NodeSlot, EdgeSlot}
-use Rattle.plain.specs.Step.{Capacities, step}
+use Rattle.plain.specs.Step.{Outcome, step}
 use Rattle.plain.specs.Laws.Rank.{live-count-removed, live-count-pushed}
 use Rattle.plain.specs.Laws.Stepping.{Fitting}
 use Rattle.plain.specs.Laws.WellFormed.{WellFormed}
 use Rattle.liveness.specs.Flags.{live-flags}
 use Rattle.liveness.specs.WordFlags.{count-le}
 use Rattle.liveness.specs.Calls.{Pushed, Cleared}
-use Rattle.shape.specs.Shape.{Words, Axis, Shape, capacities, shape-of, plain-of}
+use Rattle.shape.specs.Shape.{Words, Shape, capacities, shape-of}
 use Rattle.shape.specs.Checked.{LiveRight, Checked}
 use Rattle.shape.specs.Steps.{acted, acts, shape-step}
 use Rattle.shape.specs.Laws.CheckedShape.{checked-proper}
 use Rattle.shape.specs.Laws.Keeping.{step-proper}
-use Rattle.store.specs.Operations.{SameLengths, one-more, one-less}
+use Rattle.store.specs.Operations.{lists, SameLengths, one-more, one-less}
 
 -- two shapes with the same parts
 pub shape-ext : {s t : Shape} → s .nodes ≡ t .nodes → s .edges ≡ t .edges → s .base-nodes ≡ t .base-nodes → s .base-edges ≡ t .base-edges
     → s .outgoing ≡ t .outgoing → s .incoming ≡ t .incoming → s ≡ t
 shape-ext a b c d e f = λ i. record { nodes = a i; edges = b i; base-nodes = c i; base-edges = d i; outgoing = e i; incoming = f i }
 
--- after an operation that acts the walks are well formed, where the shape is what the operation makes of it
-pub acted-walks : {w : Words} (v : Words) (operation : Operation) → Checked w → Fitting operation
-    → acts operation (step (capacities w) (plain-of (shape-of w)) operation) ≡ true → SameLengths w v → shape-of v ≡ acted operation (shape-of w)
-    → WellFormed (capacities v) (plain-of (shape-of v))
-unfolding shape-step
-acted-walks {w} v operation checked fits acting same shape =
-    rw (same .nodes, same .edges, shape)
-    (subst (λ (b : Bool). WellFormed (capacities w) (plain-of (cond b (acted operation (shape-of w)) (shape-of w)))) acting
-    (step-proper (checked-proper w checked) operation fits .walks))
+module _ {w : Words} (checked : Checked w) (operation : Operation) {o : Outcome} (comes : step (capacities w) (lists w) operation ≡ o) (acting : acts operation o ≡ true) where
+  -- an operation whose outcome changes the store is what the shape's step does to a checked store
+  pub step-is : shape-step (capacities w) (shape-of w) operation ≡ acted operation (shape-of w)
+  unfolding shape-step
+  step-is = rw (comes, acting)
+
+  -- after it the walks are well formed, where the shape is what it makes of the shape
+  pub acted-walks : (v : Words) → Fitting operation → SameLengths w v → shape-of v ≡ acted operation (shape-of w)
+      → WellFormed (capacities v) (lists v)
+  acted-walks v fits same shape =
+      rw (same .nodes, same .edges, shape, ← step-is) (step-proper (checked-proper w checked) operation fits .walks)
 
 -- no more slots are live than there are
 pub live-within : {words : List ℕ} {s : Slots} → LiveRight words (live-flags words (s .bound)) s → s .live ≤ s .bound

@@ -1,28 +1,26 @@
 -- A store after a node or an edge was added: from what the liveness words and the two directions became, the shape and the check of the whole.
-use Prim.Native.Nat.{ℕ, _+_, _≤_, _<_, _^_}
+use Prim.Native.Nat.{ℕ, _<_, _^_}
 use native.Mathlib.Omega.{arith}
 use mathlib.Core.Path.{_≡_, refl, sym, ap, _∙_}
-use mathlib.Core.Bool.{Bool, true, false}
+use mathlib.Core.Bool.{true, false}
 use mathlib.Core.List.{List, [], _∷_, _++_}
 use lib.ListN.{length, getD, set, length-set}
 use Rattle.plain.specs.declared.TraversalDirection.{TraversalDirection}
 use Rattle.plain.specs.declared.TraversalDirection.the-variants.{Outgoing, Incoming}
 use Rattle.plain.specs.declared.Operation.the-variants.{AddNode, AddEdge}
-use Rattle.plain.specs.declared.Slots.{Slots}
-use Rattle.plain.specs.declared.Counts.{Counts}
-use Rattle.plain.specs.Plain.{NodeSlot, EdgeSlot}
-use Rattle.plain.specs.Step.{step}
+use Rattle.plain.specs.Plain.{node-added, edge-added}
+use Rattle.plain.specs.Step.{changed, step}
 use Rattle.plain.specs.Laws.Cases.{comes-to, add-node, add-edge}
 use Rattle.plain.specs.Laws.Rank.{live-below}
 use Rattle.liveness.specs.Calls.{Pushed}
 use Rattle.liveness.specs.FlagLaws.{length-flags}
-use Rattle.shape.specs.Shape.{Words, Axis, capacities, node-live, edge-live, axis-words, axis-of, shape-of, plain-of}
-use Rattle.shape.specs.Checked.{Bounded, AxisChecked, Checked}
-use Rattle.shape.specs.Steps.{opened, appended, acted, acts}
+use Rattle.shape.specs.Shape.{Words, capacities, node-live, edge-live, axis-words, axis-of, shape-of, plain-of}
+use Rattle.shape.specs.Checked.{AxisChecked}
+use Rattle.shape.specs.Steps.{opened, appended, acted}
 use Rattle.shape.specs.Laws.Reading.{node-bound-is, edge-bound-is, node-flags-are}
 use Rattle.adjacency.specs.Rings.{Openable, Opened, Appendable, Appended}
 use Rattle.store.specs.Made.{slots-more}
-use Rattle.store.specs.Operations.{SameLengths, Acted, one-more, with-nodes, with-edges, Raisable, NodeAddable, EdgeAddable}
+use Rattle.store.specs.Operations.{lists, SameLengths, Acted, one-more, with-nodes, with-edges, Raisable, NodeAddable, EdgeAddable}
 use Rattle.store.specs.Axes.{opened-axis, opened-checked, appended-axis, appended-checked}
 use Rattle.store.specs.Acting.{shape-ext, acted-walks, live-within, pushed-right}
 
@@ -60,10 +58,11 @@ module _ {w : Words} (pre : NodeAddable w) where
           opened-checked vs (pre .checked .nodes) (pre .checked .edges) (length-flags (w .live-nodes) (w .counts .nodes .bound))
           (length-flags (w .live-edges) (w .counts .edges .bound)) (pre .checked .axis d) long o (pre .room)
 
-  -- the step of document 01 adds a node
-  node-acts : (payload : ℕ) → acts (AddNode payload) (step (capacities w) (plain-of (shape-of w)) (AddNode payload)) ≡ true
+  -- the step of document 01 adds a node; its value is the slot
+  pub node-comes : (payload : ℕ) → step (capacities w) (lists w) (AddNode payload) ≡ changed (w .counts .nodes .bound) (node-added payload (lists w))
   unfolding plain-of
-  node-acts payload = rw (comes-to {caps = capacities w} {p = plain-of (shape-of w)} (add-node {v = payload} (rw (node-bound-is w) (pre .room))))
+  node-comes payload =
+      comes-to (add-node (rw (node-bound-is w) (pre .room))) ∙ ap (λ (n : ℕ). changed n (node-added payload (lists w))) (node-bound-is w)
 
   -- the store with its node, from what was written
   module _
@@ -119,7 +118,7 @@ module _ {w : Words} (pre : NodeAddable w) where
           nodes-live = pushed-right (pre .checked .nodes-live) pushed;
           edges-live = pre .checked .edges-live;
           axis = directions;
-          walks = acted-walks with-node (AddNode payload) (pre .checked) fits (node-acts payload) node-lengths node-shape;
+          walks = acted-walks (pre .checked) (AddNode payload) (node-comes payload) refl with-node fits node-lengths node-shape;
         };
         lengths = node-lengths;
       }
@@ -173,14 +172,13 @@ module _ {w : Words} {source target : ℕ} (pre : EdgeAddable w source target) w
             appended-checked vs (pre .checked .nodes) (pre .checked .edges) (length-flags (w .live-nodes) (w .counts .nodes .bound))
             (length-flags (w .live-edges) (w .counts .edges .bound)) (pre .checked .axis d) long x o (pre .room) (end-below x live)
 
-  -- the step of document 01 adds an edge
-  edge-acts : (payload : ℕ) → acts (AddEdge source target payload) (step (capacities w) (plain-of (shape-of w)) (AddEdge source target payload)) ≡ true
+  -- the step of document 01 adds an edge; its value is the slot
+  pub edge-comes : (payload : ℕ)
+      → step (capacities w) (lists w) (AddEdge source target payload) ≡ changed (w .counts .edges .bound) (edge-added source target payload (lists w))
   unfolding plain-of
-  edge-acts payload =
-      rw
-      (comes-to {caps = capacities w} {p = plain-of (shape-of w)}
-      (add-edge {s = source} {t = target} {v = payload} (rw (node-flags-are w) (pre .source-live)) (rw (node-flags-are w) (pre .target-live))
-      (rw (edge-bound-is w) (pre .room))))
+  edge-comes payload =
+      comes-to (add-edge (rw (node-flags-are w) (pre .source-live)) (rw (node-flags-are w) (pre .target-live)) (rw (edge-bound-is w) (pre .room)))
+      ∙ ap (λ (n : ℕ). changed n (edge-added source target payload (lists w))) (edge-bound-is w)
 
   -- the store with its edge, from what was written
   module _
@@ -240,7 +238,7 @@ module _ {w : Words} {source target : ℕ} (pre : EdgeAddable w source target) w
           nodes-live = pre .checked .nodes-live;
           edges-live = pushed-right (pre .checked .edges-live) pushed;
           axis = directions;
-          walks = acted-walks with-edge (AddEdge source target payload) (pre .checked) fits (edge-acts payload) edge-lengths edge-shape;
+          walks = acted-walks (pre .checked) (AddEdge source target payload) (edge-comes payload) refl with-edge fits edge-lengths edge-shape;
         };
         lengths = edge-lengths;
       }

@@ -1,32 +1,29 @@
 -- A store after an edge was removed or given another payload: no list is edited, so the directions are as they were.
 use Prim.Native.Nat.{ℕ, _<_, _^_}
-use native.Mathlib.Omega.{arith}
 use mathlib.Core.Path.{_≡_, refl, sym, ap, _∙_}
-use mathlib.Core.Bool.{Bool, true, false}
+use mathlib.Core.Bool.{Bool, true, false, cond}
 use mathlib.Core.List.{List, [], _∷_, map}
-use lib.ListN.{length, getD, set, length-set}
+use lib.ListN.{length, getD, set, length-set, List·getD-eq-default}
 use lib.Seq.{set-getD}
 use lib.Dec.{eqb}
 use Rattle.plain.specs.declared.TraversalDirection.{TraversalDirection}
 use Rattle.plain.specs.declared.TraversalDirection.the-variants.{Outgoing, Incoming}
 use Rattle.plain.specs.declared.Operation.the-variants.{RemoveEdge, SetPayload}
-use Rattle.plain.specs.declared.Slots.{Slots}
-use Rattle.plain.specs.declared.Counts.{Counts}
 use Rattle.plain.specs.Lists.{from}
-use Rattle.plain.specs.Plain.{EdgeSlot, killed-edge, no-edge}
-use Rattle.plain.specs.Step.{step}
+use Rattle.plain.specs.Plain.{EdgeSlot, killed-edge, no-edge, edge-flags, edge-removed, payload-set}
+use Rattle.plain.specs.Step.{changed, unchanged, step}
 use Rattle.plain.specs.Laws.Booleans.{by-test, true-false}
-use Rattle.plain.specs.Laws.Cases.{comes-to, remove-edge, set-payload}
+use Rattle.plain.specs.Laws.Cases.{Slot, absent, removed, live, slot, comes-to, remove-edge-absent, remove-edge-removed, remove-edge, set-payload}
 use Rattle.plain.specs.Laws.Deleting.{getD-set}
 use Rattle.plain.specs.Laws.Rank.{live-below}
 use Rattle.liveness.specs.Calls.{Cleared}
 use Rattle.liveness.specs.FlagLaws.{length-flags}
 use Rattle.shape.specs.Shape.{Words, capacities, node-live, edge-live, axis-words, axis-of, shape-of, plain-of}
 use Rattle.shape.specs.Checked.{AxisChecked, Checked}
-use Rattle.shape.specs.Steps.{retired, acted, acts}
+use Rattle.shape.specs.Steps.{retired, acted}
 use Rattle.shape.specs.Laws.Reading.{made-at, edge-bound-is, edge-flags-are}
 use Rattle.store.specs.Made.{slots-set}
-use Rattle.store.specs.Operations.{store, SameLengths, Acted, RemovedEdge, one-less, with-edges, PayloadSettable}
+use Rattle.store.specs.Operations.{store, lists, SameLengths, Acted, RemovedEdge, one-less, with-edges, PayloadSettable}
 use Rattle.store.specs.Acting.{shape-ext, acted-walks, some-live, cleared-right}
 
 -- an edge slot by its payload and its flag
@@ -39,15 +36,24 @@ set-false flags e k l dead = getD-set flags e k false false l ∙ by-test (eqb k
 
 -- ---- an edge removed
 
+-- the step of document 01 removes an edge if it is live
+pub remove-comes : (w : Words) (edge : ℕ)
+    → step (capacities w) (lists w) (RemoveEdge edge) ≡ cond (getD (edge-live w) edge false) (changed 1 (edge-removed edge (lists w))) (unchanged 0 (lists w))
+unfolding plain-of
+remove-comes w edge =
+    at (slot (edge-flags (lists w)) edge)
+    ∙ ap (λ (fs : List Bool). cond (getD fs edge false) (changed 1 (edge-removed edge (lists w))) (unchanged 0 (lists w))) (edge-flags-are w)
+  where
+    at : Slot (edge-flags (lists w)) edge → step (capacities w) (lists w) (RemoveEdge edge)
+        ≡ cond (getD (edge-flags (lists w)) edge false) (changed 1 (edge-removed edge (lists w))) (unchanged 0 (lists w))
+    at (absent k) = comes-to (remove-edge-absent k) ∙ sym (rw (List·getD-eq-default (edge-flags (lists w)) false k))
+    at (removed k) = comes-to (remove-edge-removed k) ∙ sym (rw (k .dead))
+    at (live k) = comes-to (remove-edge k) ∙ sym (rw k)
+
 module _ {w : Words} (checked : Checked w) (edge : ℕ) (live : getD (edge-live w) edge false ≡ true) where
   -- it is below the bound
   removed-below : edge < w .counts .edges .bound
   removed-below = rw (← length-flags (w .live-edges) (w .counts .edges .bound)) (live-below (edge-live w) edge live)
-
-  -- the step of document 01 removes it
-  remove-acts : acts (RemoveEdge edge) (step (capacities w) (plain-of (shape-of w)) (RemoveEdge edge)) ≡ true
-  unfolding plain-of
-  remove-acts = rw (comes-to {caps = capacities w} {p = plain-of (shape-of w)} (remove-edge {e = edge} (rw (edge-flags-are w) live)))
 
   -- a direction passes the check without it
   remove-direction : (d : TraversalDirection) → AxisChecked (axis-words d w) (length (w .edges)) (length (w .nodes))
@@ -99,8 +105,8 @@ module _ {w : Words} (checked : Checked w) (edge : ℕ) (live : getD (edge-live 
           refl refl refl refl)
 
       -- the edge was removed
-      pub edge-removed : Acted (RemoveEdge edge) w without-edge
-      edge-removed = record {
+      pub removed-acted : Acted (RemoveEdge edge) w without-edge
+      removed-acted = record {
         shape = remove-shape;
         checked = record {
           nodes = checked .nodes;
@@ -110,7 +116,7 @@ module _ {w : Words} (checked : Checked w) (edge : ℕ) (live : getD (edge-live 
           nodes-live = checked .nodes-live;
           edges-live = cleared-right (checked .edges-live) cleared live;
           axis = directions;
-          walks = acted-walks without-edge (RemoveEdge edge) checked tt remove-acts remove-lengths remove-shape;
+          walks = acted-walks checked (RemoveEdge edge) (rw live at (remove-comes w edge)) refl without-edge tt remove-lengths remove-shape;
         };
         lengths = remove-lengths;
       }
@@ -130,7 +136,7 @@ module _ {w : Words} (checked : Checked w) (edge : ℕ) {after : List ℕ} {answ
       → RemovedEdge edge w true (without-edge checked edge (sym (cleared .answers) ∙ found) cleared long)
   removing-live found long = record {
     answers = sym found ∙ cleared .answers;
-    acts = λ _. edge-removed checked edge (sym (cleared .answers) ∙ found) cleared long;
+    acts = λ _. removed-acted checked edge (sym (cleared .answers) ∙ found) cleared long;
     keeps = λ q. true-false refl q;
   }
 
@@ -150,9 +156,10 @@ module _ {w : Words} {edge : ℕ} (pre : PayloadSettable w edge) (payload : ℕ)
   with-payload = store (w .counts) (w .nodes) (set (w .edges) edge payload) (w .live-nodes) (w .live-edges) (w .outgoing) (w .incoming)
 
   -- the step of document 01 sets it
-  payload-acts : acts (SetPayload edge payload) (step (capacities w) (plain-of (shape-of w)) (SetPayload edge payload)) ≡ true
+  pub payload-comes : step (capacities w) (lists w) (SetPayload edge payload)
+      ≡ record { number = 0; value = 0; lists = payload-set edge payload (lists w); keeps-compact = true }
   unfolding plain-of
-  payload-acts = rw (comes-to {caps = capacities w} {p = plain-of (shape-of w)} (set-payload {e = edge} {v = payload} (rw (edge-bound-is w) (pre .below))))
+  payload-comes = comes-to (set-payload (rw (edge-bound-is w) (pre .below)))
 
   payload-lengths : SameLengths w with-payload
   payload-lengths = record {
@@ -189,7 +196,7 @@ module _ {w : Words} {edge : ℕ} (pre : PayloadSettable w edge) (payload : ℕ)
       nodes-live = pre .checked .nodes-live;
       edges-live = pre .checked .edges-live;
       axis = directions;
-      walks = acted-walks with-payload (SetPayload edge payload) (pre .checked) fits payload-acts payload-lengths payload-shape;
+      walks = acted-walks (pre .checked) (SetPayload edge payload) payload-comes refl with-payload fits payload-lengths payload-shape;
     };
     lengths = payload-lengths;
   }

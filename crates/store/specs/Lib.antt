@@ -4,3 +4,4 @@ pub mod Axes
 pub mod Acting
 pub mod Adding
 pub mod Editing
+pub mod Reads

@@ -10,8 +10,9 @@ use Rattle.plain.specs.declared.Operation.{Operation}
 use Rattle.plain.specs.declared.Operation.the-variants.{RemoveEdge}
 use Rattle.plain.specs.declared.Slots.{Slots}
 use Rattle.plain.specs.declared.Counts.{Counts}
+use Rattle.plain.specs.Plain.{Plain}
 use Rattle.plain.specs.Numbers.{LIMIT}
-use Rattle.shape.specs.Shape.{Words, node-live, edge-live, shape-of}
+use Rattle.shape.specs.Shape.{Words, node-live, edge-live, shape-of, plain-of}
 use Rattle.shape.specs.Checked.{Checked}
 use Rattle.shape.specs.Steps.{acted}
 
@@ -26,6 +27,10 @@ store counts nodes edges live-nodes live-edges outgoing incoming = record {
   outgoing = outgoing;
   incoming = incoming;
 }
+
+-- the plain lists of a store
+abbrev pub lists : Words → Plain
+lists w = plain-of (shape-of w)
 
 -- Every slice is as long as it was.
 pub record SameLengths (w v : Words) : Type 0 where
