@@ -217,6 +217,18 @@ module _ {ws : List ℕ} {ce cn : ℕ} {counts : Counts} {x : ℕ} (r : Readable
 
 -- ---- what a started walk reads
 
+module _ {ws : List ℕ} {ce cn : ℕ} {counts : Counts} {x : ℕ} {live : Bool} {s : Start} (t : Started ws ce cn counts x live s) where
+  -- the run or base part and the ring of a live node
+  pub started-left : remaining (s .linked) (entries-column ws ce (s .linked)) (next-column ws ce) (s .cursor)
+      ≡ cond live (raw (adjacency-in ws ce cn counts x)) []
+  unfolding remaining
+  started-left = rw (t .part-is, t .ring-is) (both live)
+    where
+      both : (b : Bool) → cond b (part (adjacency-in ws ce cn counts x)) [] ++ cond b (adjacency-in ws ce cn counts x .ring) []
+          ≡ cond b (raw (adjacency-in ws ce cn counts x)) []
+      both true = refl
+      both false = refl
+
 -- all flags are set where as many are as there are
 flag-set : (flags : List Bool) (i : ℕ) → live-count flags ≡ length flags → i < length flags → live-in flags i ≡ true
 unfolding count
@@ -247,22 +259,11 @@ module _ {ws : List ℕ} {ce cn : ℕ} {counts : Counts} {live-edges : List ℕ}
   walk-below false e m = in-none e m
 
   module _ {live : Bool} {s : Start} (t : Started ws ce cn counts x live s) where
-    -- the run or base part and the ring of a live node
-    started-left : remaining (s .linked) (entries-column ws ce (s .linked)) (next-column ws ce) (s .cursor)
-        ≡ cond live (raw (adjacency-in ws ce cn counts x)) []
-    unfolding remaining
-    started-left = rw (t .part-is, t .ring-is) (both live)
-      where
-        both : (b : Bool) → cond b (part (adjacency-in ws ce cn counts x)) [] ++ cond b (adjacency-in ws ce cn counts x .ring) []
-            ≡ cond b (raw (adjacency-in ws ce cn counts x)) []
-        both true = refl
-        both false = refl
-
     -- the listed entries of it are the node's walk
     pub started-walk : listed-left (s .linked) (entries-column ws ce (s .linked)) (next-column ws ce) (tombstoned-in counts) live-edges
         (counts .edges .bound) (s .cursor) ≡ walk-in ws ce cn counts live-edges x live
     unfolding keep
-    started-walk = rw started-left (kept live)
+    started-walk = rw (started-left t) (kept live)
       where
         kept : (b : Bool) → keep (listed (tombstoned-in counts) flags) (cond b (raw (adjacency-in ws ce cn counts x)) [])
             ≡ cond b (keep (live-in flags) (raw (adjacency-in ws ce cn counts x))) []
