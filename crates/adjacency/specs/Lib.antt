@@ -7,3 +7,5 @@ pub mod Reading
 pub mod Walk
 pub mod WalkLaws
 pub mod StoreWalks
+pub mod Clear
+pub mod ClearLaws

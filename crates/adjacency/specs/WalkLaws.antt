@@ -229,6 +229,11 @@ module _ {ws : List ℕ} {ce cn : ℕ} {counts : Counts} {x : ℕ} {live : Bool}
       both true = refl
       both false = refl
 
+  -- with columns that were handed out, and live words that are long enough, it can be read
+  pub started-seekable : {entries next live-edges : List ℕ} {slots : ℕ} → entries ≡ entries-column ws ce (s .linked) → next ≡ next-column ws ce
+      → slots ≤ 64 * length live-edges → Seekable (s .linked) entries next live-edges slots (s .cursor)
+  started-seekable are-entries is-next long = rw (are-entries, is-next) (record { ready = t .ready; live-long = long })
+
 -- all flags are set where as many are as there are
 flag-set : (flags : List Bool) (i : ℕ) → live-count flags ≡ length flags → i < length flags → live-in flags i ≡ true
 unfolding count
@@ -304,7 +309,7 @@ module _ {ws : List ℕ} {ce cn : ℕ} {counts : Counts} {live-edges : List ℕ}
     module _ {entries next : List ℕ} (are-entries : entries ≡ entries-column ws ce (s .linked)) (is-next : next ≡ next-column ws ce) where
       -- the walk can be read
       pub given-seekable : Seekable (s .linked) entries next live-edges (counts .edges .bound) (s .cursor)
-      given-seekable = rw (are-entries, is-next) (record { ready = t .ready; live-long = w .live-long })
+      given-seekable = started-seekable t are-entries is-next (w .live-long)
 
       -- its listed entries are the node's walk
       pub given-walk : {tombstoned : Bool} → tombstoned ≡ tombstoned-in counts
