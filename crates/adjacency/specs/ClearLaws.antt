@@ -19,6 +19,7 @@ use Rattle.liveness.specs.FlagLaws.{length-flags}
 use Rattle.liveness.specs.Calls.{Cleared}
 use Rattle.liveness.specs.CallLaws.{clear-keeps}
 use Rattle.shape.specs.Shape.{Adjacency, adjacency-in, raw, live-in, walk-of}
+use Rattle.shape.specs.Laws.Taking.{keep-append}
 use Rattle.adjacency.specs.declared.cursor.AdjacencyCursor.{AdjacencyCursor}
 use Rattle.adjacency.specs.declared.cursor.Found.the-variants.{Edge, Done}
 use Rattle.adjacency.specs.declared.cursor.Step.{Step}
@@ -102,17 +103,31 @@ module _ {slots n : ℕ} {entry exit : List ℕ} where
       → Retired slots es entry exit n → Retired slots fs entry exit n
   retired-same same a = record { flags = λ k. a .flags k ∙ same k; counted = a .counted; packs = a .packs; others = a .others; long = a .long }
 
-  -- the entries of a live node, and none of a removed one: to make them dead is to make the walk dead
-  pub retired-walk : (live : Bool) (a : Adjacency) → Retired slots (cond live (raw a) []) entry exit n
+  -- to make a list dead is to make the live ones of it dead
+  retired-live : (l : List ℕ) → Retired slots l entry exit n → Retired slots (keep (live-in (live-flags entry slots)) l) entry exit n
+  retired-live l = retired-same (λ k. sym (live-gone (live-in (live-flags entry slots)) l k))
+
+  -- so to make the entries of a live node dead, and none of a removed one, is to make the walk dead
+  retired-walk : (live : Bool) (a : Adjacency) → Retired slots (cond live (raw a) []) entry exit n
       → Retired slots (walk-of (live-flags entry slots) live a) entry exit n
-  retired-walk true a r = retired-same (λ k. sym (live-gone (live-in (live-flags entry slots)) (raw a) k)) r
-  retired-walk false a r = r
+  retired-walk true a gone = retired-live (raw a) gone
+  retired-walk false a gone = gone
 
   -- and the other way round
-  pub retired-raw : (live : Bool) (a : Adjacency) → Retired slots (walk-of (live-flags entry slots) live a) entry exit n
+  retired-raw : (live : Bool) (a : Adjacency) → Retired slots (walk-of (live-flags entry slots) live a) entry exit n
       → Retired slots (cond live (raw a) []) entry exit n
-  retired-raw true a r = retired-same (live-gone (live-in (live-flags entry slots)) (raw a)) r
-  retired-raw false a r = r
+  retired-raw true a gone = retired-same (live-gone (live-in (live-flags entry slots)) (raw a)) gone
+  retired-raw false a gone = gone
+
+-- Two walks made dead, the second as it is read after the first was made dead, are both as they were at entry: what the first pass made dead is in both, or was
+-- dead.
+pub retired-both : {slots n m : ℕ} {entry mid exit : List ℕ} (live : Bool) (a b : Adjacency)
+    → Retired slots (walk-of (live-flags entry slots) live a) entry mid n → Retired slots (walk-of (live-flags mid slots) live b) mid exit m
+    → Retired slots (walk-of (live-flags entry slots) live a ++ walk-of (live-flags entry slots) live b) entry exit (n + m)
+retired-both {slots} {entry = entry} true a b first second =
+    rw (keep-append (live-in (live-flags entry slots)) (raw a) (raw b)) at
+    (retired-live (raw a ++ raw b) (retired-then (retired-raw true a first) (retired-raw true b second)))
+retired-both false a b first second = retired-then first second
 
 -- no more are counted than there are slots
 pub retired-few : {slots n : ℕ} {es entry exit : List ℕ} → Retired slots es entry exit n → n ≤ slots

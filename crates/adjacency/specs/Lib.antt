@@ -9,3 +9,4 @@ pub mod WalkLaws
 pub mod StoreWalks
 pub mod Clear
 pub mod ClearLaws
+pub mod StoreClears
