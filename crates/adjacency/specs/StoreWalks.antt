@@ -12,6 +12,7 @@ use Rattle.plain.specs.Laws.ListLaws.{map-same}
 use Rattle.shape.specs.Columns.{end-at}
 use Rattle.shape.specs.Shape.{Words, node-live, axis-words, shape-of, plain-of}
 use Rattle.shape.specs.Checked.{Checked}
+use Rattle.shape.specs.Steps.{walk-in as walk-of-shape}
 use Rattle.shape.specs.Laws.Refining.{list-is-walk as walked}
 use Rattle.shape.specs.Laws.Reading.{edge-flags-are, node-flags-are, shape-adjacency, plain-end}
 use Rattle.adjacency.specs.Walk.{walk-in, Readable, Walkable}
@@ -32,10 +33,15 @@ module _ {w : Words} (k : Checked w) (d : TraversalDirection) (x : ℕ) (node : 
       record { readable = checked-readable; live-long = omega arith; live-right = k .edges-live }
 
 module _ (w : Words) (d : TraversalDirection) (x : ℕ) (node : x < w .counts .nodes .bound) where
+  -- the walk of a node of the shape is read from the words
+  pub shape-walk : walk-of-shape d (shape-of w) x
+      ≡ walk-in (axis-words d w) (length (w .edges)) (length (w .nodes)) (w .counts) (w .live-edges) x (getD (node-live w) x false)
+  shape-walk = rw (edge-flags-are w, node-flags-are w, shape-adjacency w d x node)
+
   -- the list of a node is its walk
   pub list-is-walk : list-of d (plain-of (shape-of w)) x
       ≡ walk-in (axis-words d w) (length (w .edges)) (length (w .nodes)) (w .counts) (w .live-edges) x (getD (node-live w) x false)
-  list-is-walk = walked (shape-of w) d x ∙ rw (edge-flags-are w, node-flags-are w, shape-adjacency w d x node)
+  list-is-walk = walked (shape-of w) d x ∙ shape-walk
 
 -- the far ends of a node's list are the far ends of its walk
 pub far-ends : {w : Words} (k : Checked w) (d : TraversalDirection) (x : ℕ) → x < w .counts .nodes .bound

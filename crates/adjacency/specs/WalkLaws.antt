@@ -217,6 +217,23 @@ module _ {ws : List ℕ} {ce cn : ℕ} {counts : Counts} {x : ℕ} (r : Readable
 
 -- ---- what a started walk reads
 
+module _ {ws : List ℕ} {ce cn : ℕ} {counts : Counts} {x : ℕ} {live : Bool} {s : Start} (t : Started ws ce cn counts x live s) where
+  -- the run or base part and the ring of a live node
+  pub started-left : remaining (s .linked) (entries-column ws ce (s .linked)) (next-column ws ce) (s .cursor)
+      ≡ cond live (raw (adjacency-in ws ce cn counts x)) []
+  unfolding remaining
+  started-left = rw (t .part-is, t .ring-is) (both live)
+    where
+      both : (b : Bool) → cond b (part (adjacency-in ws ce cn counts x)) [] ++ cond b (adjacency-in ws ce cn counts x .ring) []
+          ≡ cond b (raw (adjacency-in ws ce cn counts x)) []
+      both true = refl
+      both false = refl
+
+  -- with columns that were handed out, and live words that are long enough, it can be read
+  pub started-seekable : {entries next live-edges : List ℕ} {slots : ℕ} → entries ≡ entries-column ws ce (s .linked) → next ≡ next-column ws ce
+      → slots ≤ 64 * length live-edges → Seekable (s .linked) entries next live-edges slots (s .cursor)
+  started-seekable are-entries is-next long = rw (are-entries, is-next) (record { ready = t .ready; live-long = long })
+
 -- all flags are set where as many are as there are
 flag-set : (flags : List Bool) (i : ℕ) → live-count flags ≡ length flags → i < length flags → live-in flags i ≡ true
 unfolding count
@@ -247,22 +264,11 @@ module _ {ws : List ℕ} {ce cn : ℕ} {counts : Counts} {live-edges : List ℕ}
   walk-below false e m = in-none e m
 
   module _ {live : Bool} {s : Start} (t : Started ws ce cn counts x live s) where
-    -- the run or base part and the ring of a live node
-    started-left : remaining (s .linked) (entries-column ws ce (s .linked)) (next-column ws ce) (s .cursor)
-        ≡ cond live (raw (adjacency-in ws ce cn counts x)) []
-    unfolding remaining
-    started-left = rw (t .part-is, t .ring-is) (both live)
-      where
-        both : (b : Bool) → cond b (part (adjacency-in ws ce cn counts x)) [] ++ cond b (adjacency-in ws ce cn counts x .ring) []
-            ≡ cond b (raw (adjacency-in ws ce cn counts x)) []
-        both true = refl
-        both false = refl
-
     -- the listed entries of it are the node's walk
     pub started-walk : listed-left (s .linked) (entries-column ws ce (s .linked)) (next-column ws ce) (tombstoned-in counts) live-edges
         (counts .edges .bound) (s .cursor) ≡ walk-in ws ce cn counts live-edges x live
     unfolding keep
-    started-walk = rw started-left (kept live)
+    started-walk = rw (started-left t) (kept live)
       where
         kept : (b : Bool) → keep (listed (tombstoned-in counts) flags) (cond b (raw (adjacency-in ws ce cn counts x)) [])
             ≡ cond b (keep (live-in flags) (raw (adjacency-in ws ce cn counts x))) []
@@ -303,7 +309,7 @@ module _ {ws : List ℕ} {ce cn : ℕ} {counts : Counts} {live-edges : List ℕ}
     module _ {entries next : List ℕ} (are-entries : entries ≡ entries-column ws ce (s .linked)) (is-next : next ≡ next-column ws ce) where
       -- the walk can be read
       pub given-seekable : Seekable (s .linked) entries next live-edges (counts .edges .bound) (s .cursor)
-      given-seekable = rw (are-entries, is-next) (record { ready = t .ready; live-long = w .live-long })
+      given-seekable = started-seekable t are-entries is-next (w .live-long)
 
       -- its listed entries are the node's walk
       pub given-walk : {tombstoned : Bool} → tombstoned ≡ tombstoned-in counts
