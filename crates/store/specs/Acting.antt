@@ -19,7 +19,7 @@ use Rattle.shape.specs.Checked.{LiveRight, Checked}
 use Rattle.shape.specs.Steps.{acted, acts, shape-step}
 use Rattle.shape.specs.Laws.CheckedShape.{checked-proper}
 use Rattle.shape.specs.Laws.Keeping.{step-proper}
-use Rattle.store.specs.Operations.{lists, SameLengths, one-more, one-less}
+use Rattle.store.specs.Operations.{lists, SameLengths, one-more, fewer}
 
 -- two shapes with the same parts
 pub shape-ext : {s t : Shape} → s .nodes ≡ t .nodes → s .edges ≡ t .edges → s .base-nodes ≡ t .base-nodes → s .base-edges ≡ t .base-edges
@@ -59,7 +59,7 @@ some-live {words} {s} slot right live = omega (arith, right .live-right, live-co
 -- a live slot removed
 pub cleared-right : {words after : List ℕ} {s : Slots} {slot : ℕ} {answer : Bool} → LiveRight words (live-flags words (s .bound)) s
     → Cleared words (s .bound) slot answer after → getD (live-flags words (s .bound)) slot false ≡ true
-    → LiveRight after (live-flags after (s .bound)) (one-less s)
+    → LiveRight after (live-flags after (s .bound)) (fewer 1 s)
 cleared-right {words} {s = s} {slot = slot} right p live =
     record {
       unused-clear = p .packs (right .unused-clear);

@@ -23,7 +23,7 @@ use Rattle.shape.specs.Checked.{AxisChecked, Checked}
 use Rattle.shape.specs.Steps.{retired, acted}
 use Rattle.shape.specs.Laws.Reading.{made-at, edge-bound-is, edge-flags-are}
 use Rattle.store.specs.Made.{slots-set}
-use Rattle.store.specs.Operations.{store, lists, SameLengths, Acted, RemovedEdge, one-less, with-edges, PayloadSettable}
+use Rattle.store.specs.Operations.{store, lists, SameLengths, Acted, RemovedEdge, fewer, with-edges, PayloadSettable}
 use Rattle.store.specs.Acting.{shape-ext, acted-walks, some-live, cleared-right}
 
 -- an edge slot by its payload and its flag
@@ -57,7 +57,7 @@ module _ {w : Words} (checked : Checked w) (edge : ℕ) (live : getD (edge-live 
 
   -- a direction passes the check without it
   remove-direction : (d : TraversalDirection) → AxisChecked (axis-words d w) (length (w .edges)) (length (w .nodes))
-      (with-edges (one-less (w .counts .edges)) (w .counts)) (node-live w) (set (edge-live w) edge false)
+      (with-edges (fewer 1 (w .counts .edges)) (w .counts)) (node-live w) (set (edge-live w) edge false)
   remove-direction d =
       let old = checked .axis d in
       record {
@@ -78,7 +78,7 @@ module _ {w : Words} (checked : Checked w) (edge : ℕ) (live : getD (edge-live 
     where
       abbrev without-edge : Words
       without-edge = record {
-        counts = with-edges (one-less (w .counts .edges)) (w .counts);
+        counts = with-edges (fewer 1 (w .counts .edges)) (w .counts);
         nodes = w .nodes;
         edges = w .edges;
         live-nodes = w .live-nodes;
