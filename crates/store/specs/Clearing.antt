@@ -12,26 +12,21 @@ use Rattle.plain.specs.declared.TraversalDirection.{TraversalDirection}
 use Rattle.plain.specs.declared.TraversalDirection.the-variants.{Outgoing, Incoming}
 use Rattle.plain.specs.declared.Operation.the-variants.{RemoveNode}
 use Rattle.plain.specs.Numbers.{LIMIT}
-use Rattle.plain.specs.Lists.{member, from}
+use Rattle.plain.specs.Lists.{from}
 use Rattle.plain.specs.Plain.{NodeSlot, killed-node, no-node}
-use Rattle.plain.specs.Laws.Booleans.{by-test, true-false, and-false, or-true}
+use Rattle.plain.specs.Laws.Booleans.{by-test, true-false}
 use Rattle.plain.specs.Laws.Cases.{comes-to, remove-node}
 use Rattle.plain.specs.Laws.Deleting.{getD-set}
-use Rattle.plain.specs.Laws.ListLaws.{member-append, member-keep}
 use Rattle.plain.specs.Laws.Rank.{live-below}
 use Rattle.liveness.specs.Calls.{Cleared}
 use Rattle.liveness.specs.FlagLaws.{length-flags}
-use Rattle.shape.specs.Columns.{mark-at}
-use Rattle.shape.specs.Chains.{In}
-use Rattle.shape.specs.Shape.{Words, node-live, edge-live, axis-words, axis-of, run-list, run-of, live-in, raw, adjacency-in, shape-of, plain-of}
+use Rattle.shape.specs.Shape.{Words, node-live, edge-live, axis-words, axis-of, shape-of, plain-of}
 use Rattle.shape.specs.Checked.{AxisChecked, Checked}
 use Rattle.shape.specs.Steps.{acted, walk-in as walk-of-shape}
-use Rattle.shape.specs.Laws.Chains.{in-front, in-none}
 use Rattle.shape.specs.Laws.Reading.{made-at, node-flags-are}
 use Rattle.adjacency.specs.Walk.{walk-in}
-use Rattle.adjacency.specs.StoreWalks.{shape-walk}
 use Rattle.adjacency.specs.Clear.{Retired, Clearable}
-use Rattle.adjacency.specs.StoreClears.{checked-clearable, retired-slots, retired-within, retired-right, node-retired}
+use Rattle.adjacency.specs.StoreClears.{checked-clearable, retired-slots, retired-within, retired-right, node-retired, node-dead}
 use Rattle.store.specs.Made.{slots-set}
 use Rattle.store.specs.Operations.{store, SameLengths, Acted, RemovedNode, fewer}
 use Rattle.store.specs.Acting.{shape-ext, acted-walks, live-within, some-live, cleared-right}
@@ -40,16 +35,6 @@ use Rattle.store.specs.Acting.{shape-ext, acted-walks, live-within, some
 abbrev node-slot : ℕ → Bool → NodeSlot
 node-slot v b = record { payload = v; live = b }
 
--- a live entry of a live node's run is in its walk
-run-walked : (w : Words) (d : TraversalDirection) (x e : ℕ) → In e (run-list (axis-words d w) (length (w .edges)) (length (w .nodes)) x)
-    → getD (edge-live w) e false ≡ true → In e (walk-in (axis-words d w) (length (w .edges)) (length (w .nodes)) (w .counts) (w .live-edges) x true)
-unfolding run-list run-of
-run-walked w d x e m live =
-    let a = adjacency-in (axis-words d w) (length (w .edges)) (length (w .nodes)) (w .counts) x in
-    by-test (eqb (mark-at (axis-words d w) (length (w .edges)) (length (w .nodes)) x) 0)
-    (λ t. in-none e (rw t at m))
-    (λ t. rw (member-keep (live-in (edge-live w)) e (raw a), live, t, in-front e _ (a .ring) (rw t at m)))
-
 module _ {w : Words} (checked : Checked w) (node : ℕ) (live : getD (node-live w) node false ≡ true) where
   node-below : node < w .counts .nodes .bound
   node-below = rw (← length-flags (w .live-nodes) (w .counts .nodes .bound)) (live-below (node-live w) node live)
@@ -57,17 +42,6 @@ module _ {w : Words} (checked : Checked w) (node : ℕ) (live : getD (node-live 
   -- the edges of both walks
   abbrev incident : List ℕ
   incident = walk-of-shape Outgoing (shape-of w) node ++ walk-of-shape Incoming (shape-of w) node
-
-  -- a live entry of the node's own runs is one of them
-  run-incident : (d : TraversalDirection) (e : ℕ) → In e (run-list (axis-words d w) (length (w .edges)) (length (w .nodes)) node) → getD (edge-live w) e false ≡ true
-      → In e incident
-  run-incident Outgoing e m on =
-      in-front e (walk-of-shape Outgoing (shape-of w) node) (walk-of-shape Incoming (shape-of w) node)
-      (rw (shape-walk w Outgoing node node-below, live) (run-walked w Outgoing node e m on))
-  run-incident Incoming e m on =
-      rw (member-append e (walk-of-shape Outgoing (shape-of w) node) (walk-of-shape Incoming (shape-of w) node), shape-walk w Incoming node node-below, live,
-      run-walked w Incoming node e m on)
-      (or-true (member e (walk-of-shape Outgoing (shape-of w) node)))
 
   -- the store without it, from what was written
   module _
@@ -92,6 +66,11 @@ module _ {w : Words} (checked : Checked w) (node : ℕ) (live : getD (node-live 
       clear-lengths : SameLengths w without-node
       clear-lengths = record { nodes = refl; edges = refl; live-nodes = long; live-edges = gone .long; outgoing = refl; incoming = refl }
 
+      -- another node that is dead now was dead
+      was-dead : (x : ℕ) → eqb x node ≡ false → getD (node-live without-node) x false ≡ false → getD (node-live w) x false ≡ false
+      was-dead x other dead =
+          sym (ap (λ (f : List Bool). getD f x false) (cleared .flags) ∙ getD-set (node-live w) node x false false (live-below (node-live w) node live) ∙ rw other) ∙ dead
+
       -- a direction passes the check without it: a live edge of the node's run went with it
       clear-direction : (d : TraversalDirection)
           → AxisChecked (axis-words d w) (length (w .edges)) (length (w .nodes)) (without-node .counts) (node-live without-node) (edge-live without-node)
@@ -103,11 +82,9 @@ module _ {w : Words} (checked : Checked w) (node : ℕ) (live : getD (node-live 
             index = old .index;
             rings = old .rings;
             runs = old .runs;
-            removed-runs = λ x e l dead m. gone .flags e ∙ by-test (getD (edge-live w) e false)
-            (λ on. by-test (eqb x node)
-            (λ t. rw (run-incident d e (rw (eqb-true x node t) at m) on) (and-false (getD (edge-live w) e false)))
-            (λ t. true-false on (old .removed-runs x e l (sym (rw t at (getD-set (node-live w) node x false false (live-below (node-live w) node live))) ∙ ap (λ (f : List Bool). getD f x false) (sym (cleared .flags)) ∙ dead) m)))
-            (λ off. rw off);
+            removed-runs = λ x e l dead m. by-test (eqb x node)
+            (λ t. node-dead w node node-below live gone d e (rw (eqb-true x node t) at m))
+            (λ t. gone .flags e ∙ rw (old .removed-runs x e l (was-dead x t dead) m));
           }
 
       clear-shape : shape-of without-node ≡ acted (RemoveNode node) (shape-of w)
