@@ -1,1 +1,12 @@
+pub mod Index
+pub mod IndexLaws
 pub mod Rings
+pub mod Cursor
+pub mod CursorLaws
+pub mod Reading
+pub mod Walk
+pub mod WalkLaws
+pub mod StoreWalks
+pub mod Clear
+pub mod ClearLaws
+pub mod StoreClears

@@ -1,6 +1,9 @@
 -- The laws of the shape, for the crates above to cite.
 pub mod Chains
 pub mod Frames
+pub mod Walking
+pub mod Indexing
+pub mod NewBase
 pub mod Taking
 pub mod Refining
 pub mod Stepping
@@ -8,3 +11,8 @@ pub mod Keeping
 pub mod Reaching
 pub mod Settling
 pub mod Compactness
+pub mod Checking
+pub mod Reading
+pub mod Judging
+pub mod CheckedShape
+pub mod Running

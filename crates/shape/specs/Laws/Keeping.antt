@@ -1,11 +1,11 @@
 -- What the shape's step keeps: a proper shape stays proper.
-use Prim.Native.Nat.{ℕ, zero, suc, _+_, _≤_, _<_}
-use mathlib.Core.Path.{_≡_, refl, sym, ap, subst, _∙_}
-use mathlib.Core.Bool.{Bool, true, false, cond, _&&_, _||_, not, false≢true}
+use Prim.Native.Nat.{ℕ, zero, suc, _+_, _<_}
+use mathlib.Core.Path.{_≡_, refl, sym, _∙_}
+use mathlib.Core.Bool.{Bool, true, not}
 use mathlib.Core.Option.{Option, none, some}
 use mathlib.Core.List.{List, [], _∷_, _++_}
 use native.Mathlib.Omega.{arith}
-use lib.ListN.{length, getD, set, length-set, length-append, List·getD-eq-default}
+use lib.ListN.{length, getD, set, length-set, length-append}
 use lib.Dec.{eqb}
 use borrow.Author.Tests.{eqb-true}
 use Rattle.plain.specs.declared.TraversalDirection.{TraversalDirection}
@@ -15,16 +15,15 @@ use Rattle.plain.specs.declared.Operation.the-variants.{AddNode, AddEdge, Remov
 use Rattle.plain.specs.Lists.{member, without, keep}
 use Rattle.plain.specs.Plain.{EdgeSlot, killed-edge, no-edge}
 use Rattle.plain.specs.Step.{Capacities, Outcome, step}
-use Rattle.plain.specs.Laws.Booleans.{by-test, true-false, and-left, or-other, or-false}
+use Rattle.plain.specs.Laws.Booleans.{by-test, and-left, or-other, or-false}
 use Rattle.plain.specs.Laws.ListLaws.{member-append, member-keep, member-without}
-use Rattle.plain.specs.Laws.Deleting.{getD-set, getD-snoc}
-use Rattle.plain.specs.Laws.WellFormed.{WellFormed}
 use Rattle.plain.specs.Laws.Cases.{Case, case-of, redirect-edge-absent, redirect-edge-removed, redirect-node-absent, redirect-node-removed, redirect-same, redirect}
 use Rattle.plain.specs.Laws.Operating.{edge-below}
 use Rattle.plain.specs.Laws.Stepping.{Fitting, step-well-formed}
 use Rattle.shape.specs.Chains.{In}
-use Rattle.shape.specs.Shape.{Adjacency, Axis, Shape, hiding, part, raw, live-in, no-adjacency, axis-in, adjacency-of, edge-flags-of, plain-of}
-use Rattle.shape.specs.Steps.{live-entries, run-or-base, taken, power-of-two, swept, with-run, opened, appended, redirected-axis, moved-axis, with-axis, retired, walk-in, acted, acts, shape-step}
+use Rattle.shape.specs.Shape.{Adjacency, Shape, hiding, part, raw, live-in, no-adjacency, axis-in, adjacency-of, edge-flags-of, plain-of}
+use Rattle.shape.specs.Steps.{live-entries, run-or-base, taken, power-of-two, swept, with-run, opened, appended, redirected-axis, moved-axis, retired, walk-in, acted, acts, shape-step}
+use Rattle.shape.specs.Laws.Chains.{in-front, in-none}
 use Rattle.shape.specs.Laws.Refining.{Proper, getD-added}
 use Rattle.shape.specs.Laws.Stepping.{step-refines}
 
@@ -35,9 +34,6 @@ pub in-either : {P : Type 0} (e : ℕ) (a b : List ℕ) → In e (a ++ b) → (I
 in-either e a b m f g =
     let k = sym (member-append e a b) ∙ m in
     by-test (member e a) f (λ q. g (or-other k q))
-
-pub in-first : (e : ℕ) (a b : List ℕ) → In e a → In e (a ++ b)
-in-first e a b m = rw (member-append e a b, m)
 
 pub in-second : (e : ℕ) (a b : List ℕ) → In e b → In e (a ++ b)
 in-second e a b m = rw (member-append e a b, m) (by-test (member e a) (λ q. rw q) (λ q. rw q))
@@ -54,7 +50,7 @@ module _ (flags : List Bool) where
   pub in-taken : (a : Adjacency) (e : ℕ) → In e (taken flags a) → In e (raw a)
   unfolding taken
   in-taken a e m =
-      in-either e (run-or-base flags (a .run) (a .base)) (keep (live-in flags) (a .ring)) m (λ k. in-first e (part a) (a .ring) (first (a .run) k))
+      in-either e (run-or-base flags (a .run) (a .base)) (keep (live-in flags) (a .ring)) m (λ k. in-front e (part a) (a .ring) (first (a .run) k))
       (λ k. in-second e (part a) (a .ring) (in-keep (live-in flags) e (a .ring) k))
     where
       first : (run : Option (List ℕ)) → In e (run-or-base flags run (a .base)) → In e (hiding run (a .base))
@@ -71,11 +67,7 @@ module _ (flags : List Bool) where
 
 -- ---- entries stay edges of the store
 
--- nothing is in the empty list, and one entry in a list of one
-pub in-nil : (e : ℕ) → In e [] → ⊥
-unfolding member
-in-nil e m = false≢true m
-
+-- an entry of a list of one
 pub in-one : (k e : ℕ) → In k (e ∷ []) → k ≡ e
 unfolding member
 in-one k e m = eqb-true k e (sym (or-false (eqb k e)) ∙ m)
@@ -94,7 +86,7 @@ Low n a = (e : ℕ) → In e (raw a) → e < n
 
 -- entries of a run that was edited
 run-low : (n : ℕ) (run : List ℕ) (a : Adjacency) → ((e : ℕ) → In e run → e < n) → Low n (with-run run a)
-run-low n run a h e m = in-either e run [] m (h e) (λ k. absurd (in-nil e k))
+run-low n run a h e m = in-either e run [] m (h e) (λ k. in-none e k)
 
 module _ {caps : Capacities} {s : Shape} (h : Proper caps s) where
   bound : ℕ
@@ -127,7 +119,7 @@ module _ {caps : Capacities} {s : Shape} (h : Proper caps s) where
       let b = adjacency-of d s new in
       let moving = live-entries flags (taken flags a) in
       set-each (Low bound) no-adjacency (set (axis-in d s .nodes) old (with-run [] a)) new (with-run (swept flags (taken flags b) ++ moving) b)
-      (set-each (Low bound) no-adjacency (axis-in d s .nodes) old (with-run [] a) (low d) (run-low bound [] a (λ k m. absurd (in-nil k m))))
+      (set-each (Low bound) no-adjacency (axis-in d s .nodes) old (with-run [] a) (low d) (run-low bound [] a (λ k m. in-none k m)))
       (run-low bound (swept flags (taken flags b) ++ moving) b
       (λ k m. in-either k (swept flags (taken flags b)) moving m (λ q. low d new k (in-edited flags b k q))
       (λ q. low d old k (in-taken flags a k (in-keep (live-in flags) k (taken flags a) q)))))
@@ -139,7 +131,7 @@ module _ {caps : Capacities} {s : Shape} (h : Proper caps s) where
       let a = adjacency-of d s x in
       set-each (Low (bound + 1)) no-adjacency (axis-in d s .nodes) x (record { base = a .base; run = a .run; ring = a .ring ++ (bound ∷ []) })
       (λ y e m. let l = low d y e m in omega arith)
-      (λ e m. in-either e (part a) (a .ring ++ (bound ∷ [])) m (λ k. let l = low d x e (in-first e (part a) (a .ring) k) in omega arith)
+      (λ e m. in-either e (part a) (a .ring ++ (bound ∷ [])) m (λ k. let l = low d x e (in-front e (part a) (a .ring) k) in omega arith)
       (λ k. in-either e (a .ring) (bound ∷ []) k (λ q. let l = low d x e (in-second e (part a) (a .ring) q) in omega arith)
       (λ q. let same = in-one e bound q in omega arith)))
 
@@ -147,7 +139,7 @@ module _ {caps : Capacities} {s : Shape} (h : Proper caps s) where
   opened-low d x = rw (getD-added (axis-in d s .nodes) no-adjacency x) (low d x)
 
 -- removals keep the number of edge slots
-retired-length : (es : List ℕ) (edges : List EdgeSlot) → length (retired es edges) ≡ length edges
+pub retired-length : (es : List ℕ) (edges : List EdgeSlot) → length (retired es edges) ≡ length edges
 unfolding retired
 retired-length [] edges = refl
 retired-length (e ∷ es) edges = retired-length es (set edges e (killed-edge (getD edges e no-edge))) ∙ length-set edges e (killed-edge (getD edges e no-edge))

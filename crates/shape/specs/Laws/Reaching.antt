@@ -1,7 +1,7 @@
 -- Stores that a fresh one or an image led to: every operation keeps their rings ascending and behind their runs and base parts.
-use Prim.Native.Nat.{ℕ, zero, suc, _≤_, _<_}
+use Prim.Native.Nat.{ℕ, _≤_, _<_}
 use mathlib.Core.Path.{_≡_, refl, sym, ap, _∙_}
-use mathlib.Core.Bool.{Bool, true, false, cond, _&&_}
+use mathlib.Core.Bool.{true}
 use mathlib.Core.List.{List, [], _∷_, _++_}
 use native.Mathlib.Omega.{arith}
 use lib.ListN.{length, getD, set}
@@ -15,11 +15,12 @@ use Rattle.plain.specs.Lists.{member, without}
 use Rattle.plain.specs.Step.{Capacities, step}
 use Rattle.plain.specs.Laws.Booleans.{by-test, and-left, and-right}
 use Rattle.shape.specs.Chains.{In}
-use Rattle.shape.specs.Shape.{Adjacency, Axis, Shape, part, raw, no-adjacency, axis-in, adjacency-of, edge-flags-of, ascends, plain-of}
+use Rattle.shape.specs.Shape.{Adjacency, Shape, part, no-adjacency, axis-in, adjacency-of, edge-flags-of, ascends, plain-of}
 use Rattle.shape.specs.Checked.{Reached}
 use Rattle.shape.specs.Steps.{live-entries, taken, swept, with-run, opened, appended, redirected-axis, moved-axis, acted, acts, shape-step}
+use Rattle.shape.specs.Laws.Chains.{in-front, in-none}
 use Rattle.shape.specs.Laws.Refining.{Proper, getD-added}
-use Rattle.shape.specs.Laws.Keeping.{in-first, in-second, in-either, in-nil, in-one, set-each}
+use Rattle.shape.specs.Laws.Keeping.{in-second, in-either, in-one, set-each}
 
 -- an adjacency whose ring ascends, behind its run or base part
 pub record Behind (a : Adjacency) : Type 0 where
@@ -29,7 +30,7 @@ pub record Behind (a : Adjacency) : Type 0 where
 -- with no ring there is nothing to say
 no-ring : (a : Adjacency) → a .ring ≡ [] → Behind a
 unfolding ascends
-no-ring a e = record { ring = rw e; order = λ x y l m. absurd (in-nil y (ap (member y) (sym e) ∙ m)) }
+no-ring a e = record { ring = rw e; order = λ x y l m. in-none y (ap (member y) (sym e) ∙ m) }
 
 -- an entry at least as large as all others goes to the end
 pub ascends-snoc : (l : List ℕ) (e : ℕ) → ascends l ≡ true → ((x : ℕ) → In x l → x ≤ e) → ascends (l ++ (e ∷ [])) ≡ true
@@ -54,7 +55,7 @@ module _ {caps : Capacities} {s : Shape} (h : Proper caps s) (r : Reached s) whe
       (record {
         ring = ascends-snoc (a .ring) n (r .rings d x) (λ e m. let l = h .entries-below d x e (in-second e (part a) (a .ring) m) in omega arith);
         order = λ e f m k. in-either f (a .ring) (n ∷ []) k (λ q. r .order d x e f m q)
-            (λ q. let l = h .entries-below d x e (in-first e (part a) (a .ring) m) in let same = in-one f n q in omega arith);
+            (λ q. let l = h .entries-below d x e (in-front e (part a) (a .ring) m) in let same = in-one f n q in omega arith);
       })
 
   opened-behind : (d : TraversalDirection) (x : ℕ) → Behind (getD (opened (axis-in d s) .nodes) x no-adjacency)
