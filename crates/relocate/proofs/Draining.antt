@@ -15,19 +15,19 @@ use Rattle.plain.specs.Laws.Booleans.{true-false, both-true, refuted}
 use Rattle.plain.specs.Laws.ListLaws.{member-first, member-later, member-keep, distinct-apart}
 use Rattle.shape.specs.Columns.{cell, next-at, last-at, mark-at}
 use Rattle.shape.specs.Chains.{In, Line, until}
-use Rattle.shape.specs.Shape.{raw, hiding, live-in, run-list, run-of, ring-of, base-of}
+use Rattle.shape.specs.Shape.{adjacency-in, raw, hiding, live-in, run-list, run-of, ring-of, base-of}
 use Rattle.shape.specs.Steps.{live-entries}
-use Rattle.shape.specs.Laws.Chains.{line-stop, line-step, line-first, line-short, ring-once, until-is}
+use Rattle.shape.specs.Laws.Chains.{in-front, line-stop, line-step, line-first, line-short, ring-once, until-is}
 use Rattle.shape.specs.Laws.Frames.{base-kept, index-kept, run-kept, runs-kept, ring-of-none}
 use Rattle.shape.specs.Checked.{Rings, Index}
 use Rattle.shape.specs.Laws.Taking.{keep-append}
-use Rattle.shape.specs.Laws.Keeping.{in-keep, in-either, in-first, in-second}
+use Rattle.shape.specs.Laws.Keeping.{in-keep, in-either, in-second}
 use Rattle.adjacency.specs.declared.rings.RingEnds.{RingEnds}
 use Rattle.adjacency.specs.Rings.{EndsReadable, ring-ends, Detachable, Detached}
 use Rattle.adjacency.specs.Rings.Laws.{ends-readable, ends-ring}
 use Rattle.relocate.specs.Runs.{Editable, Edited, Grown, Keepable}
 use Rattle.relocate.specs.Runs.Laws.{run-of-marked, edited-none, edited-again, edited-list, edited-mark, edited-new, edited-ring, edited-rings}
-use Rattle.relocate.specs.Overlay.{node-of, flags-of, Ready, Remade, Drainable, Drained}
+use Rattle.relocate.specs.Overlay.{flags-of, Ready, Remade, Drainable, Drained}
 use Rattle.relocate.specs.Overlay.Laws.{node-same, edited-base, edited-index, edited-node, remade-run}
 
 -- a line is what the function reads of it
@@ -131,7 +131,7 @@ module _ {ws : List ℕ} {ce cn : ℕ} {counts : Counts} {live : List ℕ} {node
   run = run-list ws ce cn node
 
   -- the node's adjacency is its run and its ring
-  all-raw : raw (node-of ws ce cn counts node) ≡ run ++ ring
+  all-raw : raw (adjacency-in ws ce cn counts node) ≡ run ++ ring
   all-raw = ap (λ r. hiding r (base-of ws ce cn (counts .nodes .base) node) ++ ring) (run-of-marked ws ce cn node (pre .marked))
 
   -- the ends of the ring can be read

@@ -19,7 +19,7 @@ use Rattle.shape.specs.Chains.{In, Seg, Line, Run}
 use Rattle.shape.specs.Shape.{run-list}
 use Rattle.shape.specs.Laws.Chains.{in-front, in-none, seg-append, seg-agree, line-last, line-agree, run-empty, run-line, run-short, run-below}
 use Rattle.shape.specs.Laws.Frames.{run-list-below}
-use Rattle.shape.specs.Laws.Keeping.{in-either, in-first, in-second}
+use Rattle.shape.specs.Laws.Keeping.{in-either, in-second}
 use Rattle.relocate.specs.Runs.{Editable, Edited}
 use Rattle.relocate.specs.Runs.Laws.{edited, edited-none, edited-list, edited-other}
 use Rattle.relocate.specs.Moves.{HandableOver, HandedOver}

@@ -15,18 +15,19 @@ use Rattle.plain.specs.Laws.Booleans.{by-test, and-right}
 use Rattle.plain.specs.Laws.ListLaws.{member-first, member-keep}
 use Rattle.shape.specs.Columns.{cell, end-at, link-at, first-at, count-at, mark-at}
 use Rattle.shape.specs.Chains.{In, Run, chain}
-use Rattle.shape.specs.Shape.{Adjacency, Axis, raw, live-in, run-list, ring-of, axis-of, no-adjacency}
+use Rattle.shape.specs.Shape.{adjacency-in, Adjacency, Axis, raw, live-in, run-list, ring-of, axis-of, no-adjacency}
 use Rattle.shape.specs.Steps.{live-entries, taken, swept, with-run, moved-axis}
-use Rattle.shape.specs.Laws.Chains.{in-none, in-last, in-snoc, chain-none, chain-some, chain-agree, run-is}
+use Rattle.shape.specs.Laws.Chains.{in-front, in-none, in-last, in-snoc, chain-none, chain-some, chain-agree, run-is}
 use Rattle.shape.specs.Laws.Frames.{run-list-below}
 use Rattle.shape.specs.Laws.Taking.{keep-passing}
-use Rattle.shape.specs.Laws.Keeping.{in-keep, in-taken, in-either, in-first, in-second}
+use Rattle.shape.specs.Laws.Keeping.{in-keep, in-taken, in-either, in-second}
+use Rattle.shape.specs.Laws.Reading.{axis-adjacency}
 use Rattle.relocate.specs.Runs.{Editable, Edited, Cuttable, Retainable, Retained}
 use Rattle.relocate.specs.Runs.Laws.{list-of-run, mark-of-run}
-use Rattle.relocate.specs.Overlay.{node-of, flags-of, Remade, TakenOver, Preparable, Prepared}
+use Rattle.relocate.specs.Overlay.{flags-of, Remade, TakenOver, Preparable, Prepared}
 use Rattle.relocate.specs.Overlay.Laws.{remade-edited, remade-run, remade-list, remade-mark, remade-other}
 use Rattle.relocate.specs.Redirects.{Linked, Relocatable, Placed, Relabelled, Relocated}
-use Rattle.relocate.specs.Redirects.Laws.{placed-ready, remade-linked, remade-axis, remade-placed, relocated-axis, relocated-checked, axis-node, relabelled-node, relabelled-linked}
+use Rattle.relocate.specs.Redirects.Laws.{placed-ready, remade-linked, remade-axis, remade-placed, relocated-axis, relocated-checked, relabelled-node, relabelled-linked}
 use Rattle.relocate.specs.Moves.{Gathered, RunRelabelled, HandableOver, HandedOver, Movable, Met, Moved}
 use Rattle.relocate.proofs.Pushing.{run-before}
 
@@ -53,7 +54,7 @@ module _
     pub gather-all : tombstoned ≡ false → Gathered ws us ce cn counts live node
     gather-all off =
         subst (λ (l : List ℕ). Remade ws us ce cn counts node l)
-        (sym (keep-passing (live-in (flags-of live counts)) (taken (flags-of live counts) (node-of ws ce cn counts node))
+        (sym (keep-passing (live-in (flags-of live counts)) (taken (flags-of live counts) (adjacency-in ws ce cn counts node))
         (λ e m. pre .all-live off e (run-list-below (over .editable .runs) node e (over .editable .node-below) (rw (remade-list over) m))))) over
 
 -- ---- relabelling
@@ -96,7 +97,7 @@ module _ {ws : List ℕ} {ce cn : ℕ} {counts : Counts} {node : ℕ} (pre : Cut
     relabel-link =
         let low = relabel-below in
         getD-set-other vs p (3 * ce + p) new 0 (omega arith)
-        ∙ s .now .kept (3 * ce + p) (λ m. let bad = small (3 * ce + p) (rw split (in-first (3 * ce + p) (s .done) (p ∷ rest) m)) in omega arith)
+        ∙ s .now .kept (3 * ce + p) (λ m. let bad = small (3 * ce + p) (rw split (in-front (3 * ce + p) (s .done) (p ∷ rest) m)) in omega arith)
 
     -- the end of p is stored
     pub relabel-more : Relabelling ws (set vs p new) ce cn node new (left - 1) (getD (set vs p new) (3 * ce + p) 0)
@@ -109,7 +110,7 @@ module _ {ws : List ℕ} {ce cn : ℕ} {counts : Counts} {node : ℕ} (pre : Cut
               record {
                 ends = λ e m. by-test (eqb e p) (λ t. rw (eqb-true e p t) (getD-set-same vs p new 0 room))
                     (λ t. getD-set-other vs p e new 0 (eqb-false e p t) ∙ s .now .ends e (earlier e (eqb-false e p t) m));
-                kept = λ i out. getD-set-other vs p i new 0 (λ q. out (rw q (in-last p (s .done)))) ∙ s .now .kept i (λ m. out (in-first i (s .done) (p ∷ []) m));
+                kept = λ i out. getD-set-other vs p i new 0 (λ q. out (rw q (in-last p (s .done)))) ∙ s .now .kept i (λ m. out (in-front i (s .done) (p ∷ []) m));
                 long = length-set vs p new ∙ s .now .long;
               };
         })
@@ -144,7 +145,7 @@ module _ {ws : List ℕ} {ce cn : ℕ} {counts : Counts} {live : List ℕ} {tomb
 
   -- the edges that move
   abbrev moving : List ℕ
-  moving = live-entries flags (taken flags (node-of ws ce cn counts old))
+  moving = live-entries flags (taken flags (adjacency-in ws ce cn counts old))
 
   -- the node's edges can be gathered
   pub move-gather : Preparable ws ce cn counts live tombstoned old
@@ -152,12 +153,12 @@ module _ {ws : List ℕ} {ce cn : ℕ} {counts : Counts} {live : List ℕ} {tomb
 
   -- a gathered edge is live and ended at the node
   alive : (e : ℕ) → In e moving → live-in flags e ≡ true
-  alive e m = and-right (member e (taken flags (node-of ws ce cn counts old))) (live-in flags e) (sym (member-keep (live-in flags) e (taken flags (node-of ws ce cn counts old))) ∙ m)
+  alive e m = and-right (member e (taken flags (adjacency-in ws ce cn counts old))) (live-in flags e) (sym (member-keep (live-in flags) e (taken flags (adjacency-in ws ce cn counts old))) ∙ m)
 
   ended : (e : ℕ) → In e moving → end-at ws e ≡ old
   ended e m =
       pre .old-placed .own e (alive e m)
-      (in-taken flags (node-of ws ce cn counts old) e (in-keep (live-in flags) e (taken flags (node-of ws ce cn counts old)) m))
+      (in-taken flags (adjacency-in ws ce cn counts old) e (in-keep (live-in flags) e (taken flags (adjacency-in ws ce cn counts old)) m))
 
   -- then the other run can be prepared
   pub move-prepare : {us : List ℕ} → Gathered ws us ce cn counts live old → Preparable us ce cn counts live tombstoned new
@@ -174,10 +175,10 @@ module _ {ws : List ℕ} {ce cn : ℕ} {counts : Counts} {live : List ℕ} {tomb
     linked = remade-linked (remade-linked (pre .axis .linked) (met .gathered)) (met .prepared)
 
     -- both nodes now
-    old-now : node-of us ce cn counts old ≡ with-run moving (node-of ws ce cn counts old)
+    old-now : adjacency-in us ce cn counts old ≡ with-run moving (adjacency-in ws ce cn counts old)
     old-now = met .prepared .others old (pre .old-placed .below) (pre .apart) ∙ met .gathered .here
 
-    new-now : node-of us ce cn counts new ≡ with-run (swept flags (taken flags (node-of ws ce cn counts new))) (node-of ws ce cn counts new)
+    new-now : adjacency-in us ce cn counts new ≡ with-run (swept flags (taken flags (adjacency-in ws ce cn counts new))) (adjacency-in ws ce cn counts new)
     new-now =
         met .prepared .here
         ∙ ap (λ (a : Adjacency). with-run (swept flags (taken flags a)) a) (met .gathered .others new (pre .new-placed .below) (λ q. pre .apart (sym q)))
@@ -203,25 +204,25 @@ module _ {ws : List ℕ} {ce cn : ℕ} {counts : Counts} {live : List ℕ} {tomb
 
       unringed : (x e : ℕ) → x < counts .nodes .bound → In e (run-list us ce cn old) → In e (ring-of us ce (counts .edges .base) (counts .edges .bound) x) → ⊥
       unringed x e h m k =
-          by-test (eqb x new) (λ t. in-none e (moved-to (ap (node-of us ce cn counts) (eqb-true x new t) ∙ new-now)))
-          (λ t. by-test (eqb x old) (λ u. in-none e (moved-to (ap (node-of us ce cn counts) (eqb-true x old u) ∙ old-now)))
+          by-test (eqb x new) (λ t. in-none e (moved-to (ap (adjacency-in us ce cn counts) (eqb-true x new t) ∙ new-now)))
+          (λ t. by-test (eqb x old) (λ u. in-none e (moved-to (ap (adjacency-in us ce cn counts) (eqb-true x old u) ∙ old-now)))
           (λ u. let ne = eqb-false x old u in
           ne (sym (pre .axis .linked .rings .own x e h (moved-to (met .prepared .others x h (eqb-false x new t) ∙ met .gathered .others x h ne)))
           ∙ ended e (rw gathered-list at m))))
         where
-          moved-to : {a : Adjacency} → node-of us ce cn counts x ≡ a → In e (a .ring)
+          moved-to : {a : Adjacency} → adjacency-in us ce cn counts x ≡ a → In e (a .ring)
           moved-to q = subst (λ (b : Adjacency). In e (b .ring)) q k
 
       named-linked : Linked vs ce cn counts
       named-linked = relabelled-linked linked edges (named .relabelled) unringed
 
-      node-named : (x : ℕ) → node-of vs ce cn counts x ≡ node-of us ce cn counts x
+      node-named : (x : ℕ) → adjacency-in vs ce cn counts x ≡ adjacency-in us ce cn counts x
       node-named = relabelled-node linked edges (named .relabelled)
 
-      old-named : node-of vs ce cn counts old ≡ with-run moving (node-of ws ce cn counts old)
+      old-named : adjacency-in vs ce cn counts old ≡ with-run moving (adjacency-in ws ce cn counts old)
       old-named = node-named old ∙ old-now
 
-      new-named : node-of vs ce cn counts new ≡ with-run (swept flags (taken flags (node-of ws ce cn counts new))) (node-of ws ce cn counts new)
+      new-named : adjacency-in vs ce cn counts new ≡ with-run (swept flags (taken flags (adjacency-in ws ce cn counts new))) (adjacency-in ws ce cn counts new)
       new-named = node-named new ∙ new-now
 
       -- the run can be handed over
@@ -249,12 +250,12 @@ module _ {ws : List ℕ} {ce cn : ℕ} {counts : Counts} {live : List ℕ} {tomb
             (ap (λ (a : Adjacency). a .ring) (emptied .others new (pre .new-placed .below) (λ q. pre .apart (sym q)) ∙ new-named)) (handed .joined)
 
         -- what the second run has now
-        lists : run-list vs ce cn new ++ run-list vs ce cn old ≡ swept flags (taken flags (node-of ws ce cn counts new)) ++ moving
+        lists : run-list vs ce cn new ++ run-list vs ce cn old ≡ swept flags (taken flags (adjacency-in ws ce cn counts new)) ++ moving
         lists =
             ap₂ (λ (a b : List ℕ). a ++ b) (list-of-run vs ce cn new (ap (λ (a : Adjacency). a .run) new-named))
             (list-of-run vs ce cn old (ap (λ (a : Adjacency). a .run) old-named))
 
-        relocated : Relocated ws zs ce cn counts old new [] (swept flags (taken flags (node-of ws ce cn counts new)) ++ moving) moving
+        relocated : Relocated ws zs ce cn counts old new [] (swept flags (taken flags (adjacency-in ws ce cn counts new)) ++ moving) moving
         relocated =
             record {
               first =
@@ -284,7 +285,7 @@ module _ {ws : List ℕ} {ce cn : ℕ} {counts : Counts} {live : List ℕ} {tomb
               counted = named .counted ∙ ap length gathered-list;
               axis =
                   relocated-axis (pre .old-placed .below) (pre .new-placed .below) (pre .apart) below relocated
-                  ∙ sym (moved-is flags old new (axis-of ws ce cn counts) (node-of ws ce cn counts old) (node-of ws ce cn counts new)
-                  (axis-node ws ce cn counts old (pre .old-placed .below)) (axis-node ws ce cn counts new (pre .new-placed .below)));
+                  ∙ sym (moved-is flags old new (axis-of ws ce cn counts) (adjacency-in ws ce cn counts old) (adjacency-in ws ce cn counts new)
+                  (axis-adjacency ws ce cn counts old (pre .old-placed .below)) (axis-adjacency ws ce cn counts new (pre .new-placed .below)));
               checked = λ nodes. relocated-checked (pre .old-placed .below) (pre .new-placed .below) (pre .apart) below relocated nodes flags;
             }

@@ -16,16 +16,17 @@ use Rattle.plain.specs.Laws.ListLaws.{member-first}
 use Rattle.plain.specs.Laws.Deleting.{member-gone}
 use Rattle.shape.specs.Columns.{end-at}
 use Rattle.shape.specs.Chains.{In}
-use Rattle.shape.specs.Shape.{Adjacency, Axis, raw, live-in, run-list, ring-of, axis-of, no-adjacency}
+use Rattle.shape.specs.Shape.{adjacency-in, Adjacency, Axis, raw, live-in, run-list, ring-of, axis-of, no-adjacency}
 use Rattle.shape.specs.Steps.{live-entries, taken, swept, with-run, redirected-axis}
 use Rattle.shape.specs.Checked.{Rings, AxisChecked}
 use Rattle.shape.specs.Laws.Chains.{in-none}
 use Rattle.shape.specs.Laws.Keeping.{in-either, in-edited, in-one, in-without}
+use Rattle.shape.specs.Laws.Reading.{axis-end, axis-adjacency}
 use Rattle.relocate.specs.Runs.{Cuttable, TakenOut, Pushable, Grown}
-use Rattle.relocate.specs.Overlay.{node-of, flags-of, Ready, Remade, Preparable, Prepared}
+use Rattle.relocate.specs.Overlay.{flags-of, Ready, Remade, Preparable, Prepared}
 use Rattle.relocate.specs.Overlay.Laws.{node-same, remade-edited, remade-list, remade-mark, remade-new}
 use Rattle.relocate.specs.Redirects.{Relocatable, Placed, Relabelled, Relocated, Left, Arrivable, Arrived, Redirectable, Redirected}
-use Rattle.relocate.specs.Redirects.Laws.{alive-below, placed-ready, remade-axis, remade-placed, relocated-axis, relocated-checked, axis-node, axis-end, remade-linked, relabelled-node, relabelled-linked}
+use Rattle.relocate.specs.Redirects.Laws.{alive-below, placed-ready, remade-axis, remade-placed, relocated-axis, relocated-checked, remade-linked, relabelled-node, relabelled-linked}
 
 -- ---- leaving
 
@@ -63,7 +64,7 @@ module _
           editable = made .editable;
           marked = remade-mark made;
           edge-below = pre .edge-below;
-          new = remade-new made e (λ m. pre .away (in-edited (flags-of live counts) (node-of ws ce cn counts node) e m)) (pre .elsewhere);
+          new = remade-new made e (λ m. pre .away (in-edited (flags-of live counts) (adjacency-in ws ce cn counts node) e m)) (pre .elsewhere);
         }
 
     pub arrive-end : {vs : List ℕ} → Grown us vs ce cn counts node (e ∷ []) → Arrived ws vs ce cn counts live node e
@@ -91,7 +92,7 @@ module _ {ws : List ℕ} {ce cn : ℕ} {counts : Counts} {live : List ℕ} {tomb
 
   -- the runs afterwards
   abbrev left-run : List ℕ
-  left-run = without e (swept flags (taken flags (node-of ws ce cn counts old)))
+  left-run = without e (swept flags (taken flags (adjacency-in ws ce cn counts old)))
 
   -- the present end again
   pub redirect-same : old ≡ new → Redirected ws ws ce cn counts live e new old
@@ -107,7 +108,7 @@ module _ {ws : List ℕ} {ce cn : ℕ} {counts : Counts} {live : List ℕ} {tomb
     own : (f : ℕ) → live-in flags f ≡ true → In f left-run → end-at ws f ≡ old
     own f alive m =
         pre .old-placed .own f alive
-        (in-edited flags (node-of ws ce cn counts old) f (in-without e f (swept flags (taken flags (node-of ws ce cn counts old))) m))
+        (in-edited flags (adjacency-in ws ce cn counts old) f (in-without e f (swept flags (taken flags (adjacency-in ws ce cn counts old))) m))
 
     -- the axis after that
     axis-left : Relocatable us ce cn counts live
@@ -127,7 +128,7 @@ module _ {ws : List ℕ} {ce cn : ℕ} {counts : Counts} {live : List ℕ} {tomb
           preparable = record { ready = placed-ready axis-left new-left; all-live = pre .all-live };
           edge-below = pre .edge-below;
           away = λ m. apart (sym end-left ∙ new-left .own e (pre .edge-live) m);
-          elsewhere = λ x h ne. remade-new gone e (λ m. true-false m (member-gone e (swept flags (taken flags (node-of ws ce cn counts old)))))
+          elsewhere = λ x h ne. remade-new gone e (λ m. true-false m (member-gone e (swept flags (taken flags (adjacency-in ws ce cn counts old)))))
               (λ y k ny m. ny (sym (pre .axis .run-ends y e k (pre .edge-live) m))) x h;
         }
 
@@ -138,7 +139,7 @@ module _ {ws : List ℕ} {ce cn : ℕ} {counts : Counts} {live : List ℕ} {tomb
 
       -- the other run afterwards
       abbrev grown-run : List ℕ
-      grown-run = swept flags (taken flags (node-of us ce cn counts new)) ++ (e ∷ [])
+      grown-run = swept flags (taken flags (adjacency-in us ce cn counts new)) ++ (e ∷ [])
 
       room : e < length vs
       room = omega (arith, pre .edge-below, pre .axis .linked .edges-within, come .editable .sized .room)
@@ -155,11 +156,11 @@ module _ {ws : List ℕ} {ce cn : ℕ} {counts : Counts} {live : List ℕ} {tomb
       -- the rings of both nodes are empty, and no other has e
       unringed : (x f : ℕ) → x < counts .nodes .bound → In f (e ∷ []) → In f (ring-of vs ce (counts .edges .base) (counts .edges .bound) x) → ⊥
       unringed x f h m k =
-          by-test (eqb x new) (λ t. in-none f (subst (λ (l : List ℕ). In f l) (ring (ap (node-of vs ce cn counts) (eqb-true x new t) ∙ come .here)) k))
+          by-test (eqb x new) (λ t. in-none f (subst (λ (l : List ℕ). In f l) (ring (ap (adjacency-in vs ce cn counts) (eqb-true x new t) ∙ come .here)) k))
           (λ t.
           let later = ring (come .others x h (eqb-false x new t)) in
           by-test (eqb x old)
-          (λ u. in-none f (subst (λ (l : List ℕ). In f l) (later ∙ ring (ap (node-of us ce cn counts) (eqb-true x old u) ∙ gone .here)) k))
+          (λ u. in-none f (subst (λ (l : List ℕ). In f l) (later ∙ ring (ap (adjacency-in us ce cn counts) (eqb-true x old u) ∙ gone .here)) k))
           (λ u. let ne = eqb-false x old u in
           ne (sym (pre .axis .linked .rings .own x e h
           (subst (λ (z : ℕ). In z (ring-of ws ce (counts .edges .base) (counts .edges .bound) x)) (in-one f e m)
@@ -169,7 +170,7 @@ module _ {ws : List ℕ} {ce cn : ℕ} {counts : Counts} {live : List ℕ} {tomb
           ring q = ap (λ (c : Adjacency). c .ring) q
 
       -- both nodes and the end
-      relocated : Relocated ws zs ce cn counts old new left-run (swept flags (taken flags (node-of ws ce cn counts new)) ++ (e ∷ [])) (e ∷ [])
+      relocated : Relocated ws zs ce cn counts old new left-run (swept flags (taken flags (adjacency-in ws ce cn counts new)) ++ (e ∷ [])) (e ∷ [])
       relocated =
           let l = remade-linked (remade-linked (pre .axis .linked) gone) come in
           let edges : (f : ℕ) → In f (e ∷ []) → f < counts .edges .bound = λ f m. rw (in-one f e m) (pre .edge-below) in
@@ -197,8 +198,8 @@ module _ {ws : List ℕ} {ce cn : ℕ} {counts : Counts} {live : List ℕ} {tomb
             unchanged = λ q. absurd (apart q);
             changed = λ ne.
                 relocated-axis (pre .old-placed .below) (pre .new-placed .below) apart edges relocated
-                ∙ sym (redirected-is flags e new (axis-of ws ce cn counts) old (node-of ws ce cn counts old) (node-of ws ce cn counts new)
-                (axis-end ws ce cn counts e (pre .edge-below)) (axis-node ws ce cn counts old (pre .old-placed .below))
-                (axis-node ws ce cn counts new (pre .new-placed .below)));
+                ∙ sym (redirected-is flags e new (axis-of ws ce cn counts) old (adjacency-in ws ce cn counts old) (adjacency-in ws ce cn counts new)
+                (axis-end ws ce cn counts e (pre .edge-below)) (axis-adjacency ws ce cn counts old (pre .old-placed .below))
+                (axis-adjacency ws ce cn counts new (pre .new-placed .below)));
             checked = λ nodes. relocated-checked (pre .old-placed .below) (pre .new-placed .below) apart edges relocated nodes flags;
           }

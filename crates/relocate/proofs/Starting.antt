@@ -18,31 +18,18 @@ use Rattle.plain.specs.Laws.Booleans.{true-false, both-true}
 use Rattle.plain.specs.Laws.ListLaws.{member-first, member-later, member-keep, distinct-left, distinct-apart}
 use Rattle.shape.specs.Columns.{cell, adjacency-at, offset-at, mark-at}
 use Rattle.shape.specs.Chains.{In}
-use Rattle.shape.specs.Shape.{raw, hiding, live-in, between, base-of, run-list, run-of, ring-of}
+use Rattle.shape.specs.Shape.{adjacency-in, raw, hiding, live-in, between, base-of, run-list, run-of, ring-of}
 use Rattle.shape.specs.Steps.{live-entries, run-or-base, taken}
 use Rattle.shape.specs.Checked.{Indexed, Index}
-use Rattle.shape.specs.Laws.Chains.{in-none}
+use Rattle.shape.specs.Laws.Chains.{in-front, in-none}
 use Rattle.shape.specs.Laws.Frames.{run-list-below, run-list-unmarked, run-of-unmarked, offset-within}
+use Rattle.shape.specs.Laws.Walking.{between-none, between-some}
 use Rattle.shape.specs.Laws.Taking.{keep-append, keep-again}
-use Rattle.shape.specs.Laws.Keeping.{in-keep, in-either, in-first, in-second}
+use Rattle.shape.specs.Laws.Keeping.{in-keep, in-either, in-second}
 use Rattle.relocate.specs.Runs.{Editable, Edited, Grown, Keepable}
 use Rattle.relocate.specs.Runs.Laws.{run-of-marked, edited, edited-none, edited-again, edited-list, edited-mark, edited-new, edited-other, edited-ring, edited-rings}
-use Rattle.relocate.specs.Overlay.{node-of, flags-of, Ready, Remade, Copyable, Copied, Started, Drainable, Drained, TakenOver}
+use Rattle.relocate.specs.Overlay.{flags-of, Ready, Remade, Copyable, Copied, Started, Drainable, Drained, TakenOver}
 use Rattle.relocate.specs.Overlay.Laws.{node-same, edited-base, edited-index, edited-node, edited-remade}
-
--- ---- a column from one place to another
-
--- no entries
-between-none : (f : ℕ → ℕ) (a b : ℕ) → b ≤ a → between f a b ≡ []
-unfolding from
-between-none f a b h = let none : b - a ≡ 0 = omega arith in rw none
-
--- the first entry, and the others
-between-more : (f : ℕ → ℕ) (a b : ℕ) → a < b → between f a b ≡ f a ∷ between f (a + 1) b
-unfolding from
-between-more f a b h =
-    let some-left : b - a ≡ suc (b - (a + 1)) = omega arith in
-    rw (some-left, add-one a)
 
 -- ---- copying
 
@@ -101,7 +88,7 @@ module _ {ws : List ℕ} {ce cn : ℕ} {counts : Counts} {live : List ℕ} {node
 
     -- the base part, split before the entry
     split : base ≡ s .done ++ (entry ∷ rest)
-    split = s .whole ∙ ap (λ (l : List ℕ). s .done ++ l) (between-more (cell ws ce) at end some-left ∙ ap (λ (z : ℕ). z ∷ rest) (sym read))
+    split = s .whole ∙ ap (λ (l : List ℕ). s .done ++ l) (between-some (cell ws ce) at end some-left ∙ ap (λ (z : ℕ). z ∷ rest) (sym read))
 
     pub copy-below : entry < counts .edges .bound
     copy-below = rw read (let few = indexed low .entries at (omega (arith, s .within)) in omega (arith, pre .edges-based))
@@ -157,7 +144,7 @@ module _ (flags : List Bool) where
   -- and its entries were there
   started-in : (run : Option (List ℕ)) (base ring : List ℕ) (e : ℕ) → In e (run-or-base flags run base ++ ring) → In e (hiding run base ++ ring)
   started-in none base ring e m =
-      in-either e (live-entries flags base) ring m (λ k. in-first e base ring (in-keep (live-in flags) e base k)) (in-second e base ring)
+      in-either e (live-entries flags base) ring m (λ k. in-front e base ring (in-keep (live-in flags) e base k)) (in-second e base ring)
   started-in (some run) base ring e m = m
 
 module _ {ws : List ℕ} {ce cn : ℕ} {counts : Counts} {live : List ℕ} {node : ℕ} (pre : Ready ws ce cn counts live node) where
@@ -217,7 +204,7 @@ module _ {ws : List ℕ} {ce cn : ℕ} {counts : Counts} {live : List ℕ} {node
     same-base = edited-base opened (pre .nodes-based) (pre .edges-based) (pre .index) node
 
     -- what the node reads is its base part and its ring
-    based : raw (node-of ws ce cn counts node) ≡ base-before ++ ring-before
+    based : raw (adjacency-in ws ce cn counts node) ≡ base-before ++ ring-before
     based = ap (λ r. hiding r base-before ++ ring-before) (run-of-unmarked ws ce cn node unmarked)
 
     pub start-copy : Copyable us ce cn counts live node
@@ -235,7 +222,7 @@ module _ {ws : List ℕ} {ce cn : ℕ} {counts : Counts} {live : List ℕ} {node
               (distinct-left (live-entries signs base-before) (live-entries signs ring-before)
               (rw (based, keep-append (live-in signs) base-before ring-before) at (pre .once)));
           alone = λ x e h ne alive m k.
-              pre .alone x e h ne alive (rw based (in-first e base-before ring-before (rw same-base at m))) (rw (edited-other opened x h ne) at k);
+              pre .alone x e h ne alive (rw based (in-front e base-before ring-before (rw same-base at m))) (rw (edited-other opened x h ne) at k);
         }
 
     pub start-end : {vs : List ℕ} → Copied us vs ce cn counts live node → Started ws vs ce cn counts live node
@@ -254,7 +241,7 @@ module _ {ws : List ℕ} {ce cn : ℕ} {counts : Counts} {live : List ℕ} {node
     same-ring = edited-ring started (counts .edges .base) (pre .rings) node (pre .editable .node-below)
 
     -- what the node reads now
-    now-raw : raw (node-of us ce cn counts node) ≡ first ++ ring-before
+    now-raw : raw (adjacency-in us ce cn counts node) ≡ first ++ ring-before
     now-raw =
         ap (λ r. hiding r (base-of us ce cn (counts .nodes .base) node) ++ ring-of us ce (counts .edges .base) (counts .edges .bound) node) (started .here)
         ∙ ap (λ (l : List ℕ). first ++ l) same-ring

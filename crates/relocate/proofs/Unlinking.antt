@@ -20,7 +20,7 @@ use Rattle.shape.specs.Chains.{In, Seg, Line, Run, chain}
 use Rattle.shape.specs.Shape.{run-list}
 use Rattle.shape.specs.Laws.Chains.{in-front, in-last, in-none, seg-append, seg-agree, line-last, line-first, line-stop, line-step, run-is, run-once, run-empty, run-line, chain-some, line-agree}
 use Rattle.shape.specs.Laws.Frames.{run-list-below}
-use Rattle.shape.specs.Laws.Keeping.{in-first, in-second, in-without}
+use Rattle.shape.specs.Laws.Keeping.{in-second, in-without}
 use Rattle.relocate.specs.Runs.{Editable, Edited, before-in, Searchable, Cuttable, Unlinkable, TakenOut}
 use Rattle.relocate.specs.Runs.Laws.{edited, edited-none}
 use Rattle.relocate.proofs.Pushing.{run-before}
@@ -105,7 +105,7 @@ module _
     visits =
         let parts = seg-split nx f front b (e ∷ rest) (nx t) (subst (λ (l : List ℕ). Seg nx f l (nx t)) whole (line-whole w)) in
         let later : Seg nx (nx e) rest (nx t) = parts .1 .1 in
-        seg-append mx f front b (b ∷ rest) (nx t) (seg-agree nx mx f front b (λ x m. other x (kept x (in-first x front (b ∷ rest) m)) (not-front x m)) (parts .0))
+        seg-append mx f front b (b ∷ rest) (nx t) (seg-agree nx mx f front b (λ x m. other x (kept x (in-front x front (b ∷ rest) m)) (not-front x m)) (parts .0))
         (refl, subst (λ (z : ℕ). Seg mx z rest (nx t)) (sym cut) (seg-agree nx mx (nx e) rest (nx t) (λ x m. other x (kept x (in-second x front (b ∷ rest) (member-later x b rest m))) (not-rest x m)) later))
 
     -- what is left is a line to its last entry

@@ -7,17 +7,17 @@ use mathlib.Core.List.{List, [], _∷_, _++_}
 use lib.ListN.{length, getD}
 use Rattle.plain.specs.declared.Counts.{Counts}
 use Rattle.shape.specs.Columns.{mark-at}
-use Rattle.shape.specs.Shape.{live-in, run-list, axis-of}
+use Rattle.shape.specs.Shape.{adjacency-in, live-in, run-list, axis-of}
 use Rattle.shape.specs.Steps.{live-entries, taken, moved-axis}
 use Rattle.shape.specs.Checked.{AxisChecked}
 use Rattle.relocate.specs.Runs.{Editable, Edited}
-use Rattle.relocate.specs.Overlay.{node-of, flags-of, Remade, Prepared}
+use Rattle.relocate.specs.Overlay.{flags-of, Remade, Prepared}
 use Rattle.relocate.specs.Redirects.{Relocatable, Placed, Relabelled}
 
 -- The node's run holds its live edges.
 abbrev pub Gathered : (ws vs : List ℕ) (ce cn : ℕ) (counts : Counts) (live : List ℕ) (node : ℕ) → Type 0
 Gathered ws vs ce cn counts live node =
-    Remade ws vs ce cn counts node (live-entries (flags-of live counts) (taken (flags-of live counts) (node-of ws ce cn counts node)))
+    Remade ws vs ce cn counts node (live-entries (flags-of live counts) (taken (flags-of live counts) (adjacency-in ws ce cn counts node)))
 
 -- The edges of the node's run end at `new`; r is how many they are.
 pub record RunRelabelled (ws vs : List ℕ) (ce cn node new r : ℕ) : Type 0 where
@@ -54,7 +54,7 @@ pub record Met (ws vs : List ℕ) (ce cn : ℕ) (counts : Counts) (live : List �
 
 -- The edges are moved; r is how many they are.
 pub record Moved (ws vs : List ℕ) (ce cn : ℕ) (counts : Counts) (live : List ℕ) (old new r : ℕ) : Type 0 where
-  pub counted : r ≡ length (live-entries (flags-of live counts) (taken (flags-of live counts) (node-of ws ce cn counts old)))
+  pub counted : r ≡ length (live-entries (flags-of live counts) (taken (flags-of live counts) (adjacency-in ws ce cn counts old)))
   -- the axis is the shape's
   pub axis : axis-of vs ce cn counts ≡ moved-axis (flags-of live counts) old new (axis-of ws ce cn counts)
   -- rules 3 to 6 are kept

@@ -12,18 +12,10 @@ use Rattle.plain.specs.Lists.{distinct}
 use Rattle.liveness.specs.Flags.{live-flags}
 use Rattle.shape.specs.Columns.{mark-at}
 use Rattle.shape.specs.Chains.{In}
-use Rattle.shape.specs.Shape.{Adjacency, raw, live-in, base-of, run-list, run-of, ring-of}
+use Rattle.shape.specs.Shape.{adjacency-in, Adjacency, raw, live-in, base-of, run-list, run-of, ring-of}
 use Rattle.shape.specs.Steps.{live-entries, run-or-base, taken, swept, with-run}
 use Rattle.shape.specs.Checked.{Index, Rings}
 use Rattle.relocate.specs.Runs.{Editable, Edited}
-
--- a node's adjacency, as `axis-of` reads it
-abbrev pub node-of : List ℕ → ℕ → ℕ → Counts → ℕ → Adjacency
-node-of ws ce cn counts x = record {
-  base = base-of ws ce cn (counts .nodes .base) x;
-  run = run-of ws ce cn x;
-  ring = ring-of ws ce (counts .edges .base) (counts .edges .bound) x;
-}
 
 -- the flags of the edges
 abbrev pub flags-of : List ℕ → Counts → List Bool
@@ -37,14 +29,14 @@ pub record Ready (ws : List ℕ) (ce cn : ℕ) (counts : Counts) (live : List �
   pub nodes-based : counts .nodes .base ≤ counts .nodes .bound
   pub edges-based : counts .edges .base ≤ counts .edges .bound
   pub live-long : counts .edges .bound ≤ 64 * length live
-  pub once : distinct (live-entries (flags-of live counts) (raw (node-of ws ce cn counts node))) ≡ true
-  pub alone : (x e : ℕ) → x < counts .nodes .bound → x ≢ node → live-in (flags-of live counts) e ≡ true → In e (raw (node-of ws ce cn counts node))
+  pub once : distinct (live-entries (flags-of live counts) (raw (adjacency-in ws ce cn counts node))) ≡ true
+  pub alone : (x e : ℕ) → x < counts .nodes .bound → x ≢ node → live-in (flags-of live counts) e ≡ true → In e (raw (adjacency-in ws ce cn counts node))
       → In e (run-list ws ce cn x) → ⊥
 
 -- The node has the run ys, and an empty ring.
 pub record Remade (ws vs : List ℕ) (ce cn : ℕ) (counts : Counts) (node : ℕ) (ys : List ℕ) : Type 0 where
-  pub here : node-of vs ce cn counts node ≡ with-run ys (node-of ws ce cn counts node)
-  pub others : (x : ℕ) → x < counts .nodes .bound → x ≢ node → node-of vs ce cn counts x ≡ node-of ws ce cn counts x
+  pub here : adjacency-in vs ce cn counts node ≡ with-run ys (adjacency-in ws ce cn counts node)
+  pub others : (x : ℕ) → x < counts .nodes .bound → x ≢ node → adjacency-in vs ce cn counts x ≡ adjacency-in ws ce cn counts x
   pub editable : Editable vs ce cn counts node
   pub rings : Rings vs ce (counts .nodes .bound) (counts .edges .base) (counts .edges .bound)
   pub index : Index vs ce cn (counts .nodes .base) (counts .edges .base)
@@ -87,7 +79,7 @@ Drained ws vs ce cn counts live node =
 
 -- The run has taken over base part and ring.
 abbrev pub TakenOver : (ws vs : List ℕ) (ce cn : ℕ) (counts : Counts) (live : List ℕ) (node : ℕ) → Type 0
-TakenOver ws vs ce cn counts live node = Remade ws vs ce cn counts node (taken (flags-of live counts) (node-of ws ce cn counts node))
+TakenOver ws vs ce cn counts live node = Remade ws vs ce cn counts node (taken (flags-of live counts) (adjacency-in ws ce cn counts node))
 
 -- What it takes to prepare a node's run for an edit: `tombstoned` says whether some edge may be removed.
 pub record Preparable (ws : List ℕ) (ce cn : ℕ) (counts : Counts) (live : List ℕ) (tombstoned : Bool) (node : ℕ) : Type 0 where
@@ -97,4 +89,4 @@ pub record Preparable (ws : List ℕ) (ce cn : ℕ) (counts : Counts) (live : Li
 -- The run has taken over base part and ring, and is swept.
 abbrev pub Prepared : (ws vs : List ℕ) (ce cn : ℕ) (counts : Counts) (live : List ℕ) (node : ℕ) → Type 0
 Prepared ws vs ce cn counts live node =
-    Remade ws vs ce cn counts node (swept (flags-of live counts) (taken (flags-of live counts) (node-of ws ce cn counts node)))
+    Remade ws vs ce cn counts node (swept (flags-of live counts) (taken (flags-of live counts) (adjacency-in ws ce cn counts node)))

@@ -10,10 +10,10 @@ use Rattle.plain.specs.declared.Counts.{Counts}
 use Rattle.plain.specs.Lists.{distinct, without}
 use Rattle.shape.specs.Columns.{Sized, end-at}
 use Rattle.shape.specs.Chains.{In}
-use Rattle.shape.specs.Shape.{raw, live-in, run-list, axis-of}
+use Rattle.shape.specs.Shape.{adjacency-in, raw, live-in, run-list, axis-of}
 use Rattle.shape.specs.Steps.{live-entries, taken, swept, with-run, redirected-axis}
 use Rattle.shape.specs.Checked.{Index, Rings, Runs, AxisChecked}
-use Rattle.relocate.specs.Overlay.{node-of, flags-of, Remade, Preparable}
+use Rattle.relocate.specs.Overlay.{flags-of, Remade, Preparable}
 
 -- Rules 4 to 6 of an axis, and its counts in order.
 pub record Linked (ws : List ℕ) (ce cn : ℕ) (counts : Counts) : Type 0 where
@@ -35,8 +35,8 @@ pub record Relocatable (ws : List ℕ) (ce cn : ℕ) (counts : Counts) (live : L
 -- Rule 7 for one node that is live: its live entries end at it, and none stands twice.
 pub record Placed (ws : List ℕ) (ce cn : ℕ) (counts : Counts) (live : List ℕ) (node : ℕ) : Type 0 where
   pub below : node < counts .nodes .bound
-  pub own : (e : ℕ) → live-in (flags-of live counts) e ≡ true → In e (raw (node-of ws ce cn counts node)) → end-at ws e ≡ node
-  pub once : distinct (live-entries (flags-of live counts) (raw (node-of ws ce cn counts node))) ≡ true
+  pub own : (e : ℕ) → live-in (flags-of live counts) e ≡ true → In e (raw (adjacency-in ws ce cn counts node)) → end-at ws e ≡ node
+  pub once : distinct (live-entries (flags-of live counts) (raw (adjacency-in ws ce cn counts node))) ≡ true
 
 -- The ends of the edges es are the node `new`; no other word differs.
 pub record Relabelled (ws vs : List ℕ) (es : List ℕ) (new : ℕ) : Type 0 where
@@ -46,9 +46,9 @@ pub record Relabelled (ws vs : List ℕ) (es : List ℕ) (new : ℕ) : Type 0 wh
 
 -- Two nodes have runs of their own, ys and zs, and empty rings, and the edges es end at the second; all else is as before.
 pub record Relocated (ws vs : List ℕ) (ce cn : ℕ) (counts : Counts) (old new : ℕ) (ys zs es : List ℕ) : Type 0 where
-  pub first : node-of vs ce cn counts old ≡ with-run ys (node-of ws ce cn counts old)
-  pub second : node-of vs ce cn counts new ≡ with-run zs (node-of ws ce cn counts new)
-  pub others : (x : ℕ) → x < counts .nodes .bound → x ≢ old → x ≢ new → node-of vs ce cn counts x ≡ node-of ws ce cn counts x
+  pub first : adjacency-in vs ce cn counts old ≡ with-run ys (adjacency-in ws ce cn counts old)
+  pub second : adjacency-in vs ce cn counts new ≡ with-run zs (adjacency-in ws ce cn counts new)
+  pub others : (x : ℕ) → x < counts .nodes .bound → x ≢ old → x ≢ new → adjacency-in vs ce cn counts x ≡ adjacency-in ws ce cn counts x
   pub ends : (e : ℕ) → In e es → end-at vs e ≡ new
   pub kept : (e : ℕ) → e < counts .edges .bound → (In e es → ⊥) → end-at vs e ≡ end-at ws e
   pub linked : Linked vs ce cn counts
@@ -56,19 +56,19 @@ pub record Relocated (ws vs : List ℕ) (ce cn : ℕ) (counts : Counts) (old new
 -- The node's run is prepared and without the edge.
 abbrev pub Left : (ws vs : List ℕ) (ce cn : ℕ) (counts : Counts) (live : List ℕ) (node e : ℕ) → Type 0
 Left ws vs ce cn counts live node e =
-    Remade ws vs ce cn counts node (without e (swept (flags-of live counts) (taken (flags-of live counts) (node-of ws ce cn counts node))))
+    Remade ws vs ce cn counts node (without e (swept (flags-of live counts) (taken (flags-of live counts) (adjacency-in ws ce cn counts node))))
 
 -- What it takes to append an edge to a node's run once it is prepared: the edge is in no run and not at the node.
 pub record Arrivable (ws : List ℕ) (ce cn : ℕ) (counts : Counts) (live : List ℕ) (tombstoned : Bool) (node e : ℕ) : Type 0 where
   pub preparable : Preparable ws ce cn counts live tombstoned node
   pub edge-below : e < counts .edges .bound
-  pub away : In e (raw (node-of ws ce cn counts node)) → ⊥
+  pub away : In e (raw (adjacency-in ws ce cn counts node)) → ⊥
   pub elsewhere : (x : ℕ) → x < counts .nodes .bound → x ≢ node → In e (run-list ws ce cn x) → ⊥
 
 -- The node's run is prepared and has the edge at its end.
 abbrev pub Arrived : (ws vs : List ℕ) (ce cn : ℕ) (counts : Counts) (live : List ℕ) (node e : ℕ) → Type 0
 Arrived ws vs ce cn counts live node e =
-    Remade ws vs ce cn counts node (swept (flags-of live counts) (taken (flags-of live counts) (node-of ws ce cn counts node)) ++ (e ∷ []))
+    Remade ws vs ce cn counts node (swept (flags-of live counts) (taken (flags-of live counts) (adjacency-in ws ce cn counts node)) ++ (e ∷ []))
 
 -- What it takes to redirect the live edge e to a live node: its end is such a node too.
 pub record Redirectable (ws : List ℕ) (ce cn : ℕ) (counts : Counts) (live : List ℕ) (tombstoned : Bool) (e new : ℕ) : Type 0 where

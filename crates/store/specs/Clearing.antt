@@ -83,8 +83,8 @@ module _ {w : Words} (checked : Checked w) (node : ℕ) (live : getD (node-live 
             rings = old .rings;
             runs = old .runs;
             removed-runs = λ x e l dead m. by-test (eqb x node)
-            (λ t. node-dead w node node-below live gone d e (rw (eqb-true x node t) at m))
-            (λ t. gone .flags e ∙ rw (old .removed-runs x e l (was-dead x t dead) m));
+                (λ t. node-dead w node node-below live gone d e (rw (eqb-true x node t) at m))
+                (λ t. gone .flags e ∙ rw (old .removed-runs x e l (was-dead x t dead) m));
           }
 
       clear-shape : shape-of without-node ≡ acted (RemoveNode node) (shape-of w)

@@ -15,13 +15,13 @@ use Rattle.plain.specs.declared.Counts.{Counts}
 use Rattle.plain.specs.Laws.Booleans.{by-test}
 use Rattle.shape.specs.Columns.{mark-at}
 use Rattle.shape.specs.Chains.{In}
-use Rattle.shape.specs.Shape.{Adjacency, raw, live-in, base-of, run-list, run-of, ring-of}
+use Rattle.shape.specs.Shape.{adjacency-in, Adjacency, raw, live-in, base-of, run-list, run-of, ring-of}
 use Rattle.shape.specs.Steps.{live-entries, run-or-base, taken, with-run}
 use Rattle.shape.specs.Checked.{Index, Rings}
 use Rattle.shape.specs.Laws.Frames.{base-kept, index-kept}
 use Rattle.relocate.specs.Runs.{Editable, Edited}
 use Rattle.relocate.specs.Runs.Laws.{same-entries, list-of-run, mark-of-run, edited-ring, edited-rings}
-use Rattle.relocate.specs.Overlay.{node-of, flags-of, Ready, Remade}
+use Rattle.relocate.specs.Overlay.{flags-of, Ready, Remade}
 
 -- equal parts make equal adjacencies
 pub node-same : {a b : Adjacency} → a .base ≡ b .base → a .run ≡ b .run → a .ring ≡ b .ring → a ≡ b
@@ -54,7 +54,7 @@ module _ {ws vs : List ℕ} {ce cn : ℕ} {counts : Counts} {node : ℕ} {ys : L
 
     -- another node
     pub edited-node : Rings ws ce (counts .nodes .bound) (counts .edges .base) (counts .edges .bound) → (x : ℕ) → x < counts .nodes .bound → x ≢ node
-        → node-of vs ce cn counts x ≡ node-of ws ce cn counts x
+        → adjacency-in vs ce cn counts x ≡ adjacency-in ws ce cn counts x
     edited-node rings x h ne = node-same (edited-base x) (done .others x h ne) (edited-ring done (counts .edges .base) rings x h)
 
 -- ---- a node that is remade

@@ -1,6 +1,6 @@
 -- Laws of axes whose edges are relocated, node after node: what an edit of one node leaves, and the axis as `axis-of` reads it after it.
 use Prim.Native.Nat.{ℕ, zero, suc, _+_, _*_, _≤_, _<_}
-use native.Mathlib.Nat.{zero-add, le-refl, le-trans}
+use native.Mathlib.Nat.{le-refl, le-trans}
 use native.Mathlib.Omega.{arith}
 use mathlib.Core.Path.{_≡_, refl, sym, ap, _∙_, subst}
 use mathlib.Core.Bool.{Bool, true, false, cond}
@@ -13,29 +13,26 @@ use borrow.Author.Tests.{eq-eqb, ne-eqb, eqb-true, eqb-false}
 use Rattle.plain.specs.declared.Counts.{Counts}
 use Rattle.plain.specs.Lists.{member, distinct, from, set-all}
 use Rattle.plain.specs.Laws.Booleans.{by-test, true-false}
-use Rattle.plain.specs.Laws.ListLaws.{getD-map, getD-from, length-from}
+use Rattle.plain.specs.Laws.ListLaws.{length-from}
 use Rattle.plain.specs.Laws.Deleting.{getD-set, length-set-all, getD-set-all}
 use Rattle.plain.specs.Laws.Rank.{live-below}
 use Rattle.liveness.specs.FlagLaws.{length-flags}
 use Rattle.shape.specs.Columns.{Sized, end-at, cell}
 use Rattle.shape.specs.Chains.{In}
-use Rattle.shape.specs.Shape.{Adjacency, Axis, raw, live-in, run-list, run-of, axis-of, no-adjacency, base-of, ring-of}
+use Rattle.shape.specs.Shape.{adjacency-in, Adjacency, Axis, raw, live-in, run-list, run-of, axis-of, no-adjacency, base-of, ring-of}
 use Rattle.shape.specs.Steps.{live-entries, with-run}
 use Rattle.shape.specs.Checked.{Index, Rings, Runs, AxisChecked}
 use Rattle.shape.specs.Laws.Frames.{run-list-below, SameRun, run-of-agree, base-of-agree, ring-of-agree, index-kept, runs-kept, rings-agree}
+use Rattle.shape.specs.Laws.Reading.{made-at}
 use Rattle.relocate.specs.Runs.{Editable}
 use Rattle.relocate.specs.Runs.Laws.{same-entries}
-use Rattle.relocate.specs.Overlay.{node-of, flags-of, Ready, Remade}
+use Rattle.relocate.specs.Overlay.{flags-of, Ready, Remade}
 use Rattle.relocate.specs.Overlay.Laws.{node-same, remade-list, remade-other}
 use Rattle.relocate.specs.Redirects.{Linked, Relocatable, Placed, Relabelled, Relocated}
 
 -- a live edge is below the bound
 pub alive-below : (live : List ℕ) (counts : Counts) (e : ℕ) → live-in (flags-of live counts) e ≡ true → e < counts .edges .bound
 alive-below live counts e alive = rw length-flags at (live-below (flags-of live counts) e alive)
-
--- an element of what a function gives of the numbers below a bound
-pub at-from : {A : Type 0} (f : ℕ → A) (n x : ℕ) (d : A) → x < n → getD (map f (from 0 n)) x d ≡ f x
-at-from f n x d h = getD-map f (from 0 n) x 0 d (rw (length-from 0 n) h) ∙ ap f (getD-from 0 n x 0 h ∙ zero-add x)
 
 -- a node of such an axis can be edited
 pub placed-ready : {ws : List ℕ} {ce cn : ℕ} {counts : Counts} {live : List ℕ} {node : ℕ} → Relocatable ws ce cn counts live → Placed ws ce cn counts live node
@@ -106,7 +103,7 @@ module _
     -- another node is placed as before
     pub remade-placed : (x : ℕ) → x ≢ node → Placed ws ce cn counts live x → Placed vs ce cn counts live x
     remade-placed x ne placed =
-        let same : raw (node-of vs ce cn counts x) ≡ raw (node-of ws ce cn counts x) = ap raw (made .others x (placed .below) ne) in
+        let same : raw (adjacency-in vs ce cn counts x) ≡ raw (adjacency-in ws ce cn counts x) = ap raw (made .others x (placed .below) ne) in
         record {
           below = placed .below;
           own = λ e alive m. remade-end e (alive-below live counts e alive) ∙ placed .own e alive (subst (λ (l : List ℕ). In e l) same m);
@@ -124,9 +121,9 @@ set-from f g n i v d low here other =
     each x h =
         let small : x < n = simp (length-map, length-from) at h in
         let room : i < length (map f (from 0 n)) = simp (length-map, length-from) low in
-        at-from g n x d small
+        made-at g n x d small
         ∙ by-test (eqb x i) (λ t. ap g (eqb-true x i t) ∙ here ∙ sym (getD-set (map f (from 0 n)) i x v d room ∙ rw t))
-        (λ t. other x small (eqb-false x i t) ∙ sym (getD-set (map f (from 0 n)) i x v d room ∙ rw t (at-from f n x d small)))
+        (λ t. other x small (eqb-false x i t) ∙ sym (getD-set (map f (from 0 n)) i x v d room ∙ rw t (made-at f n x d small)))
 
 -- two axes are equal where their parts are
 pub axis-same : {a b : Axis} → a .ends ≡ b .ends → a .nodes ≡ b .nodes → a ≡ b
@@ -148,10 +145,10 @@ module _
   where
     -- the nodes before, the nodes after, and those between, of which one is edited
     abbrev before : ℕ → Adjacency
-    before = node-of ws ce cn counts
+    before = adjacency-in ws ce cn counts
 
     abbrev after : ℕ → Adjacency
-    after = node-of vs ce cn counts
+    after = adjacency-in vs ce cn counts
 
     between-them : ℕ → Adjacency
     between-them x = cond (eqb x old) (with-run ys (before old)) (before x)
@@ -182,9 +179,9 @@ module _
         each x h =
             let small : x < counts .edges .bound = simp (length-map, length-from) at h in
             let stored = getD-set-all es new (map (end-at ws) (from 0 (counts .edges .bound))) x 0 (λ i m. simp (length-map, length-from) (edges i m)) in
-            at-from (end-at vs) (counts .edges .bound) x 0 small
+            made-at (end-at vs) (counts .edges .bound) x 0 small
             ∙ by-test (member x es) (λ t. done .ends x t ∙ sym (stored ∙ rw t))
-            (λ t. done .kept x small (λ m. true-false m t) ∙ sym (stored ∙ rw t (at-from (end-at ws) (counts .edges .bound) x 0 small)))
+            (λ t. done .kept x small (λ m. true-false m t) ∙ sym (stored ∙ rw t (made-at (end-at ws) (counts .edges .bound) x 0 small)))
 
     -- so the axis is read as the old one with both nodes and the ends put in
     pub relocated-axis : axis-of vs ce cn counts ≡ record {
@@ -212,17 +209,6 @@ module _
               (rw (same-entries ws vs ce cn x (ap (λ (a : Adjacency). a .run) (done .others x h ne-old ne-new))) at m);
         }
 
--- a node of an axis that is read
-pub axis-node : (ws : List ℕ) (ce cn : ℕ) (counts : Counts) (x : ℕ) → x < counts .nodes .bound
-    → getD (axis-of ws ce cn counts .nodes) x no-adjacency ≡ node-of ws ce cn counts x
-unfolding axis-of
-axis-node ws ce cn counts x h = at-from (node-of ws ce cn counts) (counts .nodes .bound) x no-adjacency h
-
--- an end of an axis that is read
-pub axis-end : (ws : List ℕ) (ce cn : ℕ) (counts : Counts) (e : ℕ) → e < counts .edges .bound → getD (axis-of ws ce cn counts .ends) e 0 ≡ end-at ws e
-unfolding axis-of
-axis-end ws ce cn counts e h = at-from (end-at ws) (counts .edges .bound) e 0 h
-
 -- ---- other ends
 
 -- the ends of edges that are in no ring change
@@ -241,7 +227,7 @@ module _
     columns i h = done .kept i (λ m. let low = edges i m in omega (arith, axis .edges-within))
 
     -- so every node is
-    pub relabelled-node : (x : ℕ) → node-of vs ce cn counts x ≡ node-of ws ce cn counts x
+    pub relabelled-node : (x : ℕ) → adjacency-in vs ce cn counts x ≡ adjacency-in ws ce cn counts x
     relabelled-node x =
         node-same
         (base-of-agree ws vs ce cn (counts .nodes .base) x (λ h. columns (4 * ce + 5 * cn + x) (omega arith)) (λ h. columns (4 * ce + 5 * cn + suc x) (omega arith))
