@@ -16,7 +16,7 @@ use crate::rings;
 use plain::Counts;
 
 // Whether some edge is removed.
-fn tombstoned(counts: Counts) -> bool
+pub fn tombstoned(counts: Counts) -> bool
     ensures { λ r. ⌜ r ≡ tombstoned-in counts ⌝ }
 {
     counts.edges.live != counts.edges.bound

@@ -5,4 +5,5 @@ pub mod Acting
 pub mod Adding
 pub mod Editing
 pub mod Clearing
+pub mod Relocating
 pub mod Reads

@@ -4,15 +4,18 @@
 use Prim.Native.Nat.{ℕ, _+_, _-_, _≤_, _<_}
 use mathlib.Core.Path.{_≡_}
 use mathlib.Core.Bool.{Bool, true, false}
-use mathlib.Core.List.{List}
+use mathlib.Core.List.{List, []}
+use mathlib.Core.Logic.{_≢_}
 use lib.ListN.{length, getD}
 use Rattle.plain.specs.declared.Operation.{Operation}
-use Rattle.plain.specs.declared.Operation.the-variants.{RemoveEdge, RemoveNode}
+use Rattle.plain.specs.declared.Operation.the-variants.{RemoveEdge, RemoveNode, Redirect, Move}
+use Rattle.plain.specs.declared.TraversalDirection.{TraversalDirection}
 use Rattle.plain.specs.declared.Slots.{Slots}
 use Rattle.plain.specs.declared.Counts.{Counts}
-use Rattle.plain.specs.Plain.{Plain}
+use Rattle.plain.specs.Plain.{Plain, list-of}
 use Rattle.plain.specs.Numbers.{LIMIT}
-use Rattle.shape.specs.Shape.{Words, node-live, edge-live, shape-of, plain-of}
+use Rattle.shape.specs.Columns.{end-at}
+use Rattle.shape.specs.Shape.{Words, node-live, edge-live, axis-words, shape-of, plain-of}
 use Rattle.shape.specs.Checked.{Checked}
 use Rattle.shape.specs.Steps.{acted}
 
@@ -61,6 +64,17 @@ RemovedEdge edge w answer v = Removing (RemoveEdge edge) (getD (edge-live w) edg
 abbrev pub RemovedNode : ℕ → Words → Bool → Words → Type 0
 RemovedNode node w answer v = Removing (RemoveNode node) (getD (node-live w) node false) w answer v
 
+-- An edge was redirected; the answer is its end before. A redirect to the same end changes nothing.
+pub record RedirectedEdge (d : TraversalDirection) (edge new : ℕ) (w : Words) (answer : ℕ) (v : Words) : Type 0 where
+  pub previous : answer ≡ end-at (axis-words d w) edge
+  pub acts : answer ≢ new → Acted (Redirect d edge new) w v
+  pub keeps : answer ≡ new → v ≡ w
+
+-- A node's edges were moved to another node; the answer is how many.
+pub record MovedEdges (d : TraversalDirection) (old new : ℕ) (w : Words) (answer : ℕ) (v : Words) : Type 0 where
+  pub counted : answer ≡ length (list-of d (lists w) old)
+  pub acts : Acted (Move d old new) w v
+
 -- ---- the counts
 
 -- a live slot more
@@ -100,3 +114,17 @@ pub record EdgeAddable (w : Words) (source target : ℕ) : Type 0 where
 pub record PayloadSettable (w : Words) (edge : ℕ) : Type 0 where
   pub checked : Checked w
   pub below : edge < w .counts .edges .bound
+
+-- What it takes to redirect an edge: it is live, and so is the node.
+pub record EdgeRedirectable (w : Words) (edge new : ℕ) : Type 0 where
+  pub checked : Checked w
+  pub alive : getD (edge-live w) edge false ≡ true
+  pub new-live : getD (node-live w) new false ≡ true
+
+-- What it takes to move a node's edges: there are some, the other node is live and another.
+pub record EdgesMovable (d : TraversalDirection) (w : Words) (old new : ℕ) : Type 0 where
+  pub checked : Checked w
+  pub apart : old ≢ new
+  pub old-live : getD (node-live w) old false ≡ true
+  pub some : list-of d (lists w) old ≢ []
+  pub new-live : getD (node-live w) new false ≡ true

@@ -5,14 +5,18 @@ pub mod reads;
 
 use adjacency::clear;
 use adjacency::rings;
+use adjacency::walk;
 use liveness;
 use plain::Counts;
 use plain::Slots;
+use plain::TraversalDirection;
+use relocate::moves;
+use relocate::redirects;
 ghost use Prim.Native.Nat.{_≤_};
 ghost use mathlib.Core.Path.{_≡_};
 ghost use Rattle.plain.specs.declared.Operation.the-variants.{AddNode, AddEdge, SetPayload};
 ghost use Rattle.shape.specs.Checked.{Checked};
-ghost use Rattle.store.specs.Operations.{store, Acted, RemovedEdge, RemovedNode, Raisable, one-more as raised, fewer as lowered, NodeAddable, EdgeAddable, PayloadSettable};
+ghost use Rattle.store.specs.Operations.{store, Acted, RemovedEdge, RemovedNode, RedirectedEdge, MovedEdges, Raisable, one-more as raised, fewer as lowered, NodeAddable, EdgeAddable, EdgeRedirectable, EdgesMovable, PayloadSettable};
 
 // What removing answers: the counts, and whether something live was there.
 pub struct Removal {
@@ -217,6 +221,102 @@ pub fn remove_node(
     Removal {
         counts: counts,
         removed: false,
+    }
+}
+
+// Redirects a live edge to a live node on one axis, and answers its end before. The same end changes nothing.
+pub fn redirect(
+    counts: Counts,
+    nodes: &[u32],
+    edges: &[u32],
+    live_nodes: &[u64],
+    live_edges: &[u64],
+    outgoing: &mut [u32],
+    incoming: &mut [u32],
+    direction: TraversalDirection,
+    edge: u32,
+    node: u32,
+) -> u32
+    requires { ⌜ EdgeRedirectable (store counts (now nodes) (now edges) (now «live_nodes») (now «live_edges») (now outgoing) (now incoming)) edge node ⌝ }
+    ensures { λ r. ⌜ RedirectedEdge direction edge node
+        (store counts (now (nodes .entry)) (now (edges .entry)) (now («live_nodes» .entry)) (now («live_edges» .entry)) (now (outgoing .entry)) (now (incoming .entry)))
+        r
+        (store counts (now (nodes .exit)) (now (edges .exit)) (now («live_nodes» .exit)) (now («live_edges» .exit)) (now (outgoing .exit)) (now (incoming .exit))) ⌝ }
+{
+    let some_removed = walk::tombstoned(counts);
+    match direction {
+        TraversalDirection::Outgoing => {
+            redirects::redirect(
+                outgoing,
+                edges.len(),
+                nodes.len(),
+                counts,
+                live_edges,
+                some_removed,
+                edge,
+                node,
+            )
+        }
+        TraversalDirection::Incoming => {
+            redirects::redirect(
+                incoming,
+                edges.len(),
+                nodes.len(),
+                counts,
+                live_edges,
+                some_removed,
+                edge,
+                node,
+            )
+        }
+    }
+}
+
+// Moves the edges of a node's walk, of which there are some, to another live node on one axis, and answers how many.
+pub fn move_adjacency(
+    counts: Counts,
+    nodes: &[u32],
+    edges: &[u32],
+    live_nodes: &[u64],
+    live_edges: &[u64],
+    outgoing: &mut [u32],
+    incoming: &mut [u32],
+    direction: TraversalDirection,
+    old: u32,
+    new: u32,
+) -> u32
+    requires { ⌜ EdgesMovable direction (store counts (now nodes) (now edges) (now «live_nodes») (now «live_edges») (now outgoing) (now incoming)) old new ⌝ }
+    ensures { λ r. ⌜ MovedEdges direction old new
+        (store counts (now (nodes .entry)) (now (edges .entry)) (now («live_nodes» .entry)) (now («live_edges» .entry)) (now (outgoing .entry)) (now (incoming .entry)))
+        r
+        (store counts (now (nodes .exit)) (now (edges .exit)) (now («live_nodes» .exit)) (now («live_edges» .exit)) (now (outgoing .exit)) (now (incoming .exit))) ⌝ }
+{
+    let some_removed = walk::tombstoned(counts);
+    match direction {
+        TraversalDirection::Outgoing => {
+            moves::move_adjacency(
+                outgoing,
+                edges.len(),
+                nodes.len(),
+                counts,
+                live_edges,
+                some_removed,
+                old,
+                new,
+            )
+        }
+        TraversalDirection::Incoming => {
+            moves::move_adjacency(
+                incoming,
+                edges.len(),
+                nodes.len(),
+                counts,
+                live_edges,
+                some_removed,
+                old,
+                new,
+            )
+        }
     }
 }
 
