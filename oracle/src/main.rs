@@ -12,6 +12,8 @@ mod maps;
 mod model;
 mod pairs;
 mod panics;
+#[cfg(ported)]
+mod ported;
 mod record;
 mod rng;
 mod rust_store;
@@ -31,6 +33,7 @@ use std::path::PathBuf;
 use std::process::ExitCode;
 use std::{env, fs};
 
+use compare::Trio;
 use tally::{Difference, Tally};
 
 const USAGE: &str = "usage: oracle/run [--operations N] [--seed S] [--depth D] [--record DIR]";
@@ -104,8 +107,8 @@ fn compare(options: &Options) -> bool {
     } = options;
     println!("seed {seed}");
     let mut tally = Tally::new();
-    sequences::compare_random(operations, seed, &mut tally);
-    sequences::compare_exhaustive(depth, &mut tally);
+    sequences::compare_random::<Trio>(operations, seed, &mut tally);
+    sequences::compare_exhaustive::<Trio>(depth, &mut tally);
 
     type Part = fn(u64, &mut Tally) -> Result<(), Difference>;
     let parts: [Part; 7] = [
@@ -117,6 +120,9 @@ fn compare(options: &Options) -> bool {
         |seed, tally| compare_checked(1_000, seed, tally),
         |_, tally| record::compare(tally),
     ];
+    if let Err(difference) = compare_ported(operations / 4, seed, &mut tally) {
+        tally.report(&difference);
+    }
     for part in parts {
         if let Err(difference) = part(seed, &mut tally) {
             tally.report(&difference);
@@ -137,5 +143,14 @@ use checked::compare as compare_checked;
 #[cfg(not(feature = "serde"))]
 fn compare_checked(_: usize, _: u64, _: &mut Tally) -> Result<(), Difference> {
     println!("validate.rs is not compiled: built without Debian's packages of serde");
+    Ok(())
+}
+
+#[cfg(ported)]
+use ported::compare as compare_ported;
+
+#[cfg(not(ported))]
+fn compare_ported(_: u64, _: u64, _: &mut Tally) -> Result<(), Difference> {
+    println!("the port is not compared: built without the static library of crate layers");
     Ok(())
 }
