@@ -110,21 +110,19 @@ fn compare(options: &Options) -> bool {
     sequences::compare_random::<Trio>(operations, seed, &mut tally);
     sequences::compare_exhaustive::<Trio>(depth, &mut tally);
 
-    type Part = fn(u64, &mut Tally) -> Result<(), Difference>;
-    let parts: [Part; 7] = [
+    type Part = fn(&Options, &mut Tally) -> Result<(), Difference>;
+    let parts: [Part; 8] = [
+        compare_ported,
         |_, tally| examples::compare(tally),
-        |seed, tally| texts::compare(200, seed, tally),
-        |seed, tally| maps::compare(20_000, seed, tally),
-        |seed, tally| pairs::compare(2_000, seed, tally),
-        |seed, tally| panics::compare(1_000, seed, tally),
-        |seed, tally| compare_checked(1_000, seed, tally),
+        |options, tally| texts::compare(200, options.seed, tally),
+        |options, tally| maps::compare(20_000, options.seed, tally),
+        |options, tally| pairs::compare(2_000, options.seed, tally),
+        |options, tally| panics::compare(1_000, options.seed, tally),
+        |options, tally| compare_checked(1_000, options.seed, tally),
         |_, tally| record::compare(tally),
     ];
-    if let Err(difference) = compare_ported(operations / 4, seed, &mut tally) {
-        tally.report(&difference);
-    }
     for part in parts {
-        if let Err(difference) = part(seed, &mut tally) {
+        if let Err(difference) = part(options, &mut tally) {
             tally.report(&difference);
         }
     }
@@ -146,11 +144,16 @@ fn compare_checked(_: usize, _: u64, _: &mut Tally) -> Result<(), Difference> {
     Ok(())
 }
 
+/// The proved code takes part in a quarter of the random operations, and in all
+/// sequences of one step less.
 #[cfg(ported)]
-use ported::compare as compare_ported;
+fn compare_ported(options: &Options, tally: &mut Tally) -> Result<(), Difference> {
+    let depth = options.depth.saturating_sub(1);
+    ported::compare(options.operations / 4, depth, options.seed, tally)
+}
 
 #[cfg(not(ported))]
-fn compare_ported(_: u64, _: u64, _: &mut Tally) -> Result<(), Difference> {
+fn compare_ported(_: &Options, _: &mut Tally) -> Result<(), Difference> {
     println!("the port is not compared: built without the static library of crate layers");
     Ok(())
 }

@@ -67,40 +67,28 @@ impl Sides for Ported {
     }
 
     fn compare_step(&mut self, step: &Step, everything: bool, tally: &mut Tally) -> Same {
-        let mut touched = None;
+        let everything = everything || !matches!(step, Step::Operation(_));
+        let mut touched = Vec::new();
         match step {
             Step::Operation(words) => {
                 let operation = Operation::decode(*words);
-                if !everything && let Some(operation) = operation {
-                    touched = Some(Touched::by(operation, &self.model.plain).nodes);
+                if let Some(operation) = operation {
+                    touched = Touched::by(operation, &self.model.plain).nodes;
                 }
                 self.operation(*words, operation, tally)?;
             }
             Step::Compact => self.compact(tally)?,
-            Step::Read(bytes) => {
-                let Capacities { nodes, edges } = self.model.capacities;
-                let read = calls::read_image(nodes.into(), edges.into(), bytes);
-                self.model = read.expect("a written image can be read");
-                self.rust.put(&self.model.plain);
-                self.renumbering = None;
-                self.rebuild(tally)?;
-            }
+            Step::Read(bytes) => self.read(bytes, tally)?,
         }
         let reader = self.memory.reader();
-        let all = 0..self.rust.graph.node_bound() as u32;
-        let nodes: Vec<u32> = match touched {
-            Some(nodes) => nodes
-                .into_iter()
-                .filter(|node| all.contains(node))
-                .collect(),
-            None => all.collect(),
-        };
+        let bound = self.rust.graph.node_bound() as u32;
         self.compare_counts(tally)?;
         if everything {
             self.compare_live(tally)?;
             self.compare_parts(&reader, tally)?;
+            touched = (0..bound).collect();
         }
-        for node in nodes {
+        for node in touched.into_iter().filter(|&node| node < bound) {
             self.compare_node(&reader, node, tally)?;
         }
         Ok(())
@@ -174,6 +162,15 @@ impl Ported {
             maps::compare_composed(earlier, &renumbering, tally)?;
         }
         self.renumbering = Some(renumbering);
+        self.rebuild(tally)
+    }
+
+    fn read(&mut self, bytes: &[u8], tally: &mut Tally) -> Same {
+        let Capacities { nodes, edges } = self.model.capacities;
+        let read = calls::read_image(nodes.into(), edges.into(), bytes);
+        self.model = read.expect("a written image can be read");
+        self.rust.put(&self.model.plain);
+        self.renumbering = None;
         self.rebuild(tally)
     }
 
@@ -294,10 +291,10 @@ fn compare_slots(live: &Live, rust: impl Fn(u32) -> bool, tally: &mut Tally) -> 
     Ok(())
 }
 
-/// Random sequences of so many operations, all short ones from four stores, and
-/// any two maps.
-pub fn compare(operations: u64, seed: u64, tally: &mut Tally) -> Same {
+/// Random sequences of so many operations, all sequences of up to `depth` steps
+/// from four stores, and any two maps.
+pub fn compare(operations: u64, depth: usize, seed: u64, tally: &mut Tally) -> Same {
     sequences::compare_random::<Ported>(operations, seed, tally);
-    sequences::compare_exhaustive::<Ported>(3, tally);
+    sequences::compare_exhaustive::<Ported>(depth, tally);
     maps::compare(20_000, seed, tally)
 }

@@ -76,11 +76,11 @@ impl Axis {
         places.map(|place| self.adjacency(place)).collect()
     }
 
-    /// The run's entries; nothing where the node has none, or where an entry is
-    /// no edge below the bound.
+    /// The run's entries; nothing where the node has none, or where they are more
+    /// than the edges below the bound or not among these.
     fn run(&self, node: usize, bound: usize) -> Option<Vec<u32>> {
         let [first, count, mark] = [1, 3, 4].map(|column| self.words[self.run_at(column, node)]);
-        if mark == 0 {
+        if mark == 0 || count as usize > bound {
             return None;
         }
         let mut entries = Vec::new();
@@ -142,15 +142,13 @@ impl Axis {
     fn runs_hold(&self, nodes: usize, bound: usize) -> bool {
         let mut seen = vec![false; bound];
         (0..nodes).all(|node| {
-            let [tail, count, mark] = [2, 3, 4].map(|column| self.words[self.run_at(column, node)]);
+            let [tail, mark] = [2, 4].map(|column| self.words[self.run_at(column, node)]);
             if mark == 0 {
                 return true;
             }
             self.run(node, bound).is_some_and(|entries| {
                 let once = |&edge: &u32| !std::mem::replace(&mut seen[edge as usize], true);
-                entries.len() == count as usize
-                    && entries.last().is_none_or(|&last| last == tail)
-                    && entries.iter().all(once)
+                entries.last().is_none_or(|&last| last == tail) && entries.iter().all(once)
             })
         })
     }
@@ -301,10 +299,10 @@ impl Axis {
         let [count_at, mark_at] = [3, 4].map(|column| self.run_at(column, node));
         self.words[count_at] = entries.len() as u32;
         self.words[mark_at] = mark;
-        if let [first, .., tail] | [first @ tail] = entries {
+        if let (Some(&first), Some(&tail)) = (entries.first(), entries.last()) {
             let [first_at, tail_at] = [1, 2].map(|column| self.run_at(column, node));
-            self.words[first_at] = *first;
-            self.words[tail_at] = *tail;
+            self.words[first_at] = first;
+            self.words[tail_at] = tail;
         }
         for pair in entries.windows(2) {
             self.words[3 * self.edges + pair[0] as usize] = pair[1];

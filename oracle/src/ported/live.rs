@@ -39,7 +39,7 @@ impl Live {
         let needed = bound.div_ceil(64);
         let ones = |words: &[u64]| words.iter().map(|word| word.count_ones()).sum::<u32>();
         needed <= self.words.len()
-            && (bound % 64 == 0 || self.words[needed - 1] >> (bound % 64) == 0)
+            && (bound.is_multiple_of(64) || self.words[needed - 1] >> (bound % 64) == 0)
             && ones(&self.words[..needed]) == slots.live
     }
 
