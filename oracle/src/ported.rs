@@ -3,7 +3,8 @@
 //! compared.
 //!
 //! The modules below own the memory and test what each contract requires before
-//! the call; a requirement that does not hold panics, and counts as a difference.
+//! the call. What does not hold after a step is a difference, and what does not
+//! hold in the middle of one panics, which is a difference too.
 
 mod axis;
 mod exports;
@@ -81,6 +82,9 @@ impl Sides for Ported {
             Step::Read(bytes) => self.read(bytes, tally)?,
         }
         let reader = self.memory.reader();
+        let place = || "the memory".to_string();
+        tally.same(Thing::PortRules, place, None, reader.as_ref().err())?;
+        let reader = reader.expect("no difference");
         let bound = self.rust.graph.node_bound() as u32;
         self.compare_counts(tally)?;
         if everything {

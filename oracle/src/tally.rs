@@ -84,6 +84,8 @@ things! {
         "a new slot is the bound, which rises by one; a bound or count itself";
     PortLive: "port: live bits, ranks and next live slots",
         "it is live until removed; Out of range is not live.";
+    PortRules: "port: rules 1, 2, 4, 5 and 6, which the contracts require",
+        "Rules 1 to 5 and 7 are those of `validate.rs` in its order";
     PortPart: "port: base parts, runs and rings",
         "Adding an edge appends it to its source's out-list and target's in-list.";
     PortRingEnds: "port: ends of rings",

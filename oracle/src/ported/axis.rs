@@ -166,21 +166,33 @@ impl Axis {
             && (0..base_edges).all(|place| (self.adjacency(place) as usize) < base_edges)
     }
 
-    /// Tests rules 1, 2, 4, 5 and 6 of this direction, which reading requires.
-    pub fn readable<'m>(&'m self, counts: Counts, live_edges: &'m Live) -> Readable<'m> {
+    /// Tests rules 1, 2, 4, 5 and 6 of this direction, which reading requires;
+    /// the name of the first that does not hold.
+    pub fn readable<'m>(
+        &'m self,
+        counts: Counts,
+        live_edges: &'m Live,
+    ) -> Result<Readable<'m>, &'static str> {
         let Counts { nodes, edges } = counts;
         let [nb, bn] = [nodes.bound, nodes.base].map(|count| count as usize);
         let [eb, be] = [edges.bound, edges.base].map(|count| count as usize);
-        assert!(nb <= self.nodes && bn <= nb, "required: nodes Bounded");
-        assert!(eb <= self.edges && be <= eb, "required: edges Bounded");
-        assert!(live_edges.is_right(edges), "required: edges LiveRight");
-        assert!(self.index_holds(bn, be), "required: Index");
-        assert!(self.rings_hold(nb, be, eb), "required: Rings");
-        assert!(self.runs_hold(nb, eb), "required: Runs");
-        Readable {
-            axis: self,
-            counts,
-            live_edges: live_edges.words(),
+        let bounded = nb <= self.nodes && bn <= nb && eb <= self.edges && be <= eb;
+        if !bounded {
+            Err("Bounded")
+        } else if !live_edges.is_right(edges) {
+            Err("LiveRight")
+        } else if !self.index_holds(bn, be) {
+            Err("Index")
+        } else if !self.rings_hold(nb, be, eb) {
+            Err("Rings")
+        } else if !self.runs_hold(nb, eb) {
+            Err("Runs")
+        } else {
+            Ok(Readable {
+                axis: self,
+                counts,
+                live_edges: live_edges.words(),
+            })
         }
     }
 

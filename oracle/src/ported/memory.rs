@@ -42,12 +42,18 @@ impl Memory {
         }
     }
 
-    pub fn reader(&self) -> Reader<'_> {
-        let axes = self.axes.each_ref();
-        Reader {
+    /// Reads of the store, if it passes the tests; else the name of the first
+    /// that fails.
+    pub fn reader(&self) -> Result<Reader<'_>, &'static str> {
+        let [outgoing, incoming] = &self.axes;
+        let counts = self.counts();
+        Ok(Reader {
             nodes: &self.nodes,
-            sides: axes.map(|axis| axis.readable(self.counts(), &self.edges)),
-        }
+            sides: [
+                outgoing.readable(counts, &self.edges)?,
+                incoming.readable(counts, &self.edges)?,
+            ],
+        })
     }
 
     pub fn add_node(&mut self) -> u32 {
@@ -78,7 +84,8 @@ impl Memory {
             return false;
         }
         for side in 0..DIRECTIONS.len() {
-            let walk = self.reader().sides[side].walk(node as usize, true);
+            let reader = self.reader().expect("required of a walk");
+            let walk = reader.sides[side].walk(node as usize, true);
             for edge in walk {
                 self.edges.clear(edge);
             }
