@@ -144,12 +144,12 @@ fn compare_checked(_: usize, _: u64, _: &mut Tally) -> Result<(), Difference> {
     Ok(())
 }
 
-/// The proved code takes part in a quarter of the random operations, and in all
-/// sequences of one step less.
+/// The proved code makes as many random operations, and all sequences of one step
+/// less.
 #[cfg(ported)]
 fn compare_ported(options: &Options, tally: &mut Tally) -> Result<(), Difference> {
     let depth = options.depth.saturating_sub(1);
-    ported::compare(options.operations / 4, depth, options.seed, tally)
+    ported::compare(options.operations, depth, options.seed, tally)
 }
 
 #[cfg(not(ported))]
