@@ -20,7 +20,7 @@ use crate::model::{Answer, Capacities, DIRECTIONS, Model, NONE, Operation};
 use crate::rust_store::{self, RustStore, edge, node, record};
 use crate::sequences::{self, Same, Sides};
 use crate::shape::side_of;
-use crate::tally::{Tally, Thing};
+use crate::tally::{Difference, Tally, Thing};
 use exports::{Counts, Slots};
 use live::Live;
 use memory::{Memory, Reader};
@@ -43,7 +43,7 @@ fn kept(mut words: Vec<u32>) -> Vec<u32> {
 }
 
 #[derive(Clone)]
-struct Ported {
+pub struct Ported {
     model: Model,
     rust: RustStore,
     memory: Memory,
@@ -81,17 +81,11 @@ impl Sides for Ported {
             Step::Compact => self.compact(tally)?,
             Step::Read(bytes) => self.read(bytes, tally)?,
         }
-        let reader = self.memory.reader();
-        let place = || "the memory".to_string();
-        tally.same(Thing::PortRules, place, None, reader.as_ref().err())?;
-        let reader = reader.expect("no difference");
-        let bound = self.rust.graph.node_bound() as u32;
-        self.compare_counts(tally)?;
         if everything {
-            self.compare_live(tally)?;
-            self.compare_parts(&reader, tally)?;
-            touched = (0..bound).collect();
+            return self.compare_everything(tally);
         }
+        let reader = self.compare_whole(tally)?;
+        let bound = self.rust.graph.node_bound() as u32;
         for node in touched.into_iter().filter(|&node| node < bound) {
             self.compare_node(&reader, node, tally)?;
         }
@@ -100,6 +94,17 @@ impl Sides for Ported {
 }
 
 impl Ported {
+    /// Beside a store that neither a fresh one nor an image led to.
+    #[cfg(feature = "serde")]
+    pub fn foreign(model: Model, rust: RustStore) -> Self {
+        Self {
+            memory: Memory::of(&rust),
+            model,
+            rust,
+            renumbering: None,
+        }
+    }
+
     /// Makes an operation on the Rust and, where it is done, on the memory:
     /// additions and removals by the proved functions, the rest from the Rust.
     fn operation(
@@ -207,8 +212,19 @@ impl Ported {
         Ok(())
     }
 
-    /// Bounds, base counts and counts of live slots, kept and counted.
-    fn compare_counts(&self, tally: &mut Tally) -> Same {
+    pub fn compare_everything(&self, tally: &mut Tally) -> Same {
+        let reader = self.compare_whole(tally)?;
+        self.compare_live(tally)?;
+        self.compare_parts(&reader, tally)?;
+        for node in 0..self.rust.graph.node_bound() as u32 {
+            self.compare_node(&reader, node, tally)?;
+        }
+        Ok(())
+    }
+
+    /// Bounds, base counts and counts of live slots, kept and counted, and the
+    /// rules that reading requires; then the memory can be read.
+    fn compare_whole(&self, tally: &mut Tally) -> Result<Reader<'_>, Difference> {
         let (graph, memory) = (&self.rust.graph, &self.memory);
         let place = || "the store".to_string();
         let [base_nodes, base_edges] = graph.base_counts();
@@ -224,7 +240,10 @@ impl Ported {
         tally.same(Thing::PortCount, place, expected, memory.counts())?;
         let expected = [graph.node_count(), graph.edge_count()].map(Some);
         let given = [memory.nodes.count(), memory.edges.count()];
-        tally.same(Thing::PortCount, place, expected, given)
+        tally.same(Thing::PortCount, place, expected, given)?;
+        let reader = memory.reader();
+        tally.same(Thing::PortRules, place, None, reader.as_ref().err())?;
+        Ok(reader.expect("no rule is broken"))
     }
 
     fn compare_live(&self, tally: &mut Tally) -> Same {

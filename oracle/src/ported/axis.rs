@@ -299,18 +299,36 @@ impl Axis {
 
     // ---- what no exported function writes yet
 
+    /// Offsets and joined lists of a base whose ends have changed since.
+    #[cfg(feature = "serde")]
+    pub fn put_base(&mut self, offsets: &[u32], joined: &[u32]) {
+        let at = 4 * self.edges + 5 * self.nodes;
+        self.words[at..at + offsets.len()].copy_from_slice(offsets);
+        self.words[self.edges..self.edges + joined.len()].copy_from_slice(joined);
+    }
+
+    /// A node's ring, in any order.
+    #[cfg(feature = "serde")]
+    pub fn put_ring(&mut self, node: u32, entries: &[u32]) {
+        self.words[4 * self.edges + node as usize] = entries.last().copied().unwrap_or(NONE);
+        let following = entries.iter().cycle().skip(1);
+        for (&edge, &next) in entries.iter().zip(following) {
+            self.words[2 * self.edges + edge as usize] = next;
+        }
+    }
+
     /// The end of an edge.
     pub fn put_end(&mut self, edge: u32, node: u32) {
         self.words[edge as usize] = node;
     }
 
-    /// A node's run. Words that say nothing stay: the link of the last entry,
-    /// and first and tail of an empty run.
-    pub fn put_run(&mut self, node: u32, entries: &[u32], mark: u32) {
+    /// A node's run, by any mark but 0. Words that say nothing stay: the link of
+    /// the last entry, and first and tail of an empty run.
+    pub fn put_run(&mut self, node: u32, entries: &[u32]) {
         let node = node as usize;
         let [count_at, mark_at] = [3, 4].map(|column| self.run_at(column, node));
         self.words[count_at] = entries.len() as u32;
-        self.words[mark_at] = mark;
+        self.words[mark_at] = 1 + node as u32;
         if let (Some(&first), Some(&tail)) = (entries.first(), entries.last()) {
             let [first_at, tail_at] = [1, 2].map(|column| self.run_at(column, node));
             self.words[first_at] = first;

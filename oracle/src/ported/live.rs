@@ -68,6 +68,19 @@ impl Live {
         slot as u32
     }
 
+    /// Puts slots in place, so many of them base, and makes those dead that are not
+    /// live.
+    #[cfg(feature = "serde")]
+    pub fn put(&mut self, base: usize, live: impl Iterator<Item = bool>) {
+        for live in live {
+            let slot = self.push();
+            if !live {
+                self.clear(slot);
+            }
+        }
+        self.slots.base = base as u32;
+    }
+
     /// Makes a slot dead; whether it was live.
     pub fn clear(&mut self, slot: u32) -> bool {
         let slots = self.within();

@@ -9,6 +9,8 @@ use super::live::Live;
 use crate::graph::traverse::TraversalDirection;
 use crate::model::{Capacities, DIRECTIONS};
 use crate::rng::Rng;
+#[cfg(feature = "serde")]
+use crate::rust_store::{RustStore, edge, node, record};
 use crate::shape::side_of;
 
 #[derive(Clone)]
@@ -33,6 +35,36 @@ impl Memory {
             edges: Live::new(edges, &mut rng),
             axes: [(); 2].map(|()| Axis::new(nodes, edges, &mut rng)),
         }
+    }
+
+    /// The words of a store that was made elsewhere: its slots by the proved
+    /// functions, its base parts, runs and rings put there from the Rust's.
+    #[cfg(feature = "serde")]
+    pub fn of(rust: &RustStore) -> Self {
+        let graph = &rust.graph;
+        let mut memory = Self::fresh(rust.capacities);
+        let (nodes, edges) = (graph.node_bound() as u32, graph.edge_bound() as u32);
+        let [base_nodes, base_edges] = graph.base_counts();
+        let live = (0..nodes).map(|slot| graph.contains_node(node(slot)));
+        memory.nodes.put(base_nodes, live);
+        let live = (0..edges).map(|slot| graph.contains_edge(edge(slot)));
+        memory.edges.put(base_edges, live);
+        let bases = graph.compressed_base();
+        for ((direction, axis), base) in DIRECTIONS.into_iter().zip(&mut memory.axes).zip(bases) {
+            let (offsets, joined) = base;
+            axis.put_base(offsets, joined);
+            for edge in 0..edges {
+                axis.put_end(edge, record(graph, edge)[side_of(direction)]);
+            }
+            for (node, part) in (0..).zip(graph.parts(direction)) {
+                axis.open_node(node);
+                axis.put_ring(node, &part.ring);
+                if let Some(run) = part.run {
+                    axis.put_run(node, &run);
+                }
+            }
+        }
+        memory
     }
 
     pub const fn counts(&self) -> Counts {
@@ -105,8 +137,7 @@ impl Memory {
         let [_, (new, _)] = runs;
         for (node, run) in runs {
             axis.detach(node);
-            // Any word but 0 marks a run.
-            axis.put_run(node, run, u32::MAX - node);
+            axis.put_run(node, run);
         }
         for &edge in moved {
             axis.put_end(edge, new);
