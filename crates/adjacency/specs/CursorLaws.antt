@@ -1,20 +1,19 @@
 -- Laws of the cursor: a step finds the head of what remains and leaves the tail, and nothing is found exactly where nothing remains; a search finds the first
 -- entry that passes.
-use Prim.Native.Nat.{ℕ, zero, suc, _+_, _-_, _*_, _≤_, _<_}
+use Prim.Native.Nat.{ℕ, _+_, _-_, _≤_, _<_}
 use native.Mathlib.Omega.{arith}
-use native.Mathlib.Numerals.{sub-one}
 use mathlib.Core.Path.{_≡_, refl, sym, ap, _∙_, subst}
-use mathlib.Core.Bool.{Bool, true, false, cond, _||_}
-use mathlib.Core.Logic.{_⊎_, inl, inr, ⊎-elim}
+use mathlib.Core.Bool.{Bool, true, false}
+use mathlib.Core.Logic.{inl, inr, ⊎-elim}
 use mathlib.Core.List.{List, [], _∷_, _++_}
-use lib.ListN.{length, length-append}
+use lib.ListN.{length}
 use lib.Dec.{eqb, ltb}
-use borrow.Author.Tests.{eqb-true, eqb-false, eq-eqb, ne-eqb, ltb-true, ltb-false}
-use Rattle.plain.specs.Numbers.{NONE, LIMIT}
-use Rattle.plain.specs.Lists.{member, keep}
+use borrow.Author.Tests.{eqb-true, eqb-false, ne-eqb, ltb-true, ltb-false}
+use Rattle.plain.specs.Numbers.{NONE}
+use Rattle.plain.specs.Lists.{member}
 use Rattle.plain.specs.Laws.Booleans.{by-test, or-true}
 use Rattle.plain.specs.Laws.ListLaws.{member-first, member-later, member-append}
-use Rattle.shape.specs.Chains.{chain, until, In}
+use Rattle.shape.specs.Chains.{until, In}
 use Rattle.shape.specs.Laws.Chains.{chain-none, chain-some, chain-length}
 use Rattle.shape.specs.Laws.Walking.{between-none, between-some, between-length, until-first, until-end, until-on}
 use Rattle.adjacency.specs.declared.cursor.AdjacencyCursor.{AdjacencyCursor}
@@ -104,6 +103,21 @@ step-stepped false {entries} {next} {c} r =
     (ap (λ (l : List ℕ). l ++ ring-left next (c .delta) (c .«delta_last»)) (between-some (word entries) (c .base) (c .«base_end») some))))
     (λ q. rw q (ring-stepped r (between-none (word entries) (c .base) (c .«base_end») (ltb-false (c .base) (c .«base_end») q))))
 
+-- where nothing remains nothing is found
+pub step-done : (linked : Bool) {entries next : List ℕ} {c : AdjacencyCursor} → Ready linked entries next c → remaining linked entries next c ≡ []
+    → step-of linked entries next c .found ≡ Done
+step-done linked {entries} {next} {c} r none = only (step-of linked entries next c .found) (sym none ∙ step-stepped linked r .left)
+  where
+    only : (f : Found) → [] ≡ found-then f (remaining linked entries next (step-of linked entries next c .cursor)) → f ≡ Done
+    only Done q = refl
+    only (Edge e) q = let z : _≡_ {A = ℕ} 0 1 = cc in absurd (omega arith)
+
+-- nothing remains of the exhausted cursor, over any columns
+pub exhausted-remaining : (linked : Bool) (entries next : List ℕ) → remaining linked entries next exhausted ≡ []
+unfolding remaining
+exhausted-remaining true entries next = rw (chain-none (word entries) 0 0 refl)
+exhausted-remaining false entries next = rw (between-none (word entries) 0 0 (omega arith))
+
 -- ---- what a step reads stands in the columns
 
 module _ {linked : Bool} {entries next : List ℕ} {c : AdjacencyCursor} (r : Ready linked entries next c) where
@@ -130,6 +144,22 @@ module _ {linked : Bool} {entries next : List ℕ} {c : AdjacencyCursor} (r : Re
       let low = r .below (c .base) (rw (q, chain-some (word entries) (c .«base_end») (c .base) (omega arith)) (member-first (c .base) _)) in
       omega arith
 
+-- ---- a loop that steps: what each turn finds
+
+module _ {linked : Bool} {entries next : List ℕ} {c : AdjacencyCursor} (ready : Ready linked entries next c) {s : Step}
+    (r : s ≡ step-of linked entries next c) where
+  -- what the step left
+  pub turn : Stepped linked entries next c s
+  turn = subst (λ (t : Step). Stepped linked entries next c t) (sym r) (step-stepped linked ready)
+
+  -- what was found stands before what is left
+  pub found-is : {f : Found} → s .found ≡ f → remaining linked entries next c ≡ found-then f (remaining linked entries next (s .cursor))
+  found-is q = turn .left ∙ ap (λ (f : Found). found-then f (remaining linked entries next (s .cursor))) q
+
+  -- less is left
+  pub turn-less : {e : ℕ} → s .found ≡ Edge e → length (remaining linked entries next (s .cursor)) < length (remaining linked entries next c)
+  turn-less {e} q = rw (found-is q) (omega arith)
+
 -- ---- the search for the next entry that passes
 
 -- What holds at each turn of a search from c₀ that has come to c: it finds from c on what it finds from c₀ on.
@@ -139,31 +169,20 @@ pub record Seeking (test : ℕ → Bool) (linked : Bool) (entries next : List �
 
 module _ {test : ℕ → Bool} {linked : Bool} {entries next : List ℕ} {c₀ c : AdjacencyCursor} (i : Seeking test linked entries next c₀ c)
     {s : Step} (r : s ≡ step-of linked entries next c) where
-  -- what the step left
-  turn : Stepped linked entries next c s
-  turn = subst (λ (t : Step). Stepped linked entries next c t) (sym r) (step-stepped linked (i .ready))
-
-  found-is : {f : Found} → s .found ≡ f → remaining linked entries next c ≡ found-then f (remaining linked entries next (s .cursor))
-  found-is q = turn .left ∙ ap (λ (f : Found). found-then f (remaining linked entries next (s .cursor))) q
-
   -- an entry that passes
   pub seek-listed : {e : ℕ} → s .found ≡ Edge e → test e ≡ true → Sought test linked entries next c₀ s
   unfolding from-first
-  seek-listed {e} q t = record { ready = turn .ready; left = i .same ∙ rw (found-is q, t, q) }
+  seek-listed {e} q t = record { ready = turn (i .ready) r .ready; left = i .same ∙ rw (found-is (i .ready) r q, t, q) }
 
   -- the end
   pub seek-done : s .found ≡ Done → Sought test linked entries next c₀ s
   unfolding from-first
-  seek-done q = record { ready = turn .ready; left = i .same ∙ rw (found-is q, q) }
+  seek-done q = record { ready = turn (i .ready) r .ready; left = i .same ∙ rw (found-is (i .ready) r q, q) }
 
   -- past an entry that does not pass
   pub seek-on : {e : ℕ} → s .found ≡ Edge e → test e ≡ false → Seeking test linked entries next c₀ (s .cursor)
   unfolding from-first
-  seek-on {e} q t = record { ready = turn .ready; same = i .same ∙ rw (found-is q, t) }
-
-  -- less is left
-  pub seek-less : {e : ℕ} → s .found ≡ Edge e → length (remaining linked entries next (s .cursor)) < length (remaining linked entries next c)
-  seek-less {e} q = rw (found-is q) (omega arith)
+  seek-on {e} q t = record { ready = turn (i .ready) r .ready; same = i .same ∙ rw (found-is (i .ready) r q, t) }
 
 -- the same walk without the run or base part, over columns of which the first is not read
 pub ring-ready : {linked : Bool} {entries next : List ℕ} {c : AdjacencyCursor} → Ready linked entries next c → Ready false next next (base-at c 0 0)

@@ -6,3 +6,7 @@ pub mod CursorLaws
 pub mod Reading
 pub mod Walk
 pub mod WalkLaws
+pub mod StoreWalks
+pub mod Clear
+pub mod ClearLaws
+pub mod StoreClears

@@ -82,15 +82,19 @@ abbrev pub axis-words : TraversalDirection → Words → List ℕ
 axis-words Outgoing w = w .outgoing
 axis-words Incoming w = w .incoming
 
--- one direction, of capacities ce and cn and these counts
+-- the adjacency of node x, in words of capacities ce and cn with these counts
+abbrev pub adjacency-in : List ℕ → ℕ → ℕ → Counts → ℕ → Adjacency
+adjacency-in ws ce cn counts x = record {
+  base = base-of ws ce cn (counts .nodes .base) x;
+  run = run-of ws ce cn x;
+  ring = ring-of ws ce (counts .edges .base) (counts .edges .bound) x;
+}
+
+-- one direction
 unfoldable pub axis-of : List ℕ → ℕ → ℕ → Counts → Axis
 axis-of ws ce cn counts = record {
   ends = map (λ e. getD ws e 0) (from 0 (counts .edges .bound));
-  nodes = map (λ x. record {
-    base = base-of ws ce cn (counts .nodes .base) x;
-    run = run-of ws ce cn x;
-    ring = ring-of ws ce (counts .edges .base) (counts .edges .bound) x;
-  }) (from 0 (counts .nodes .bound));
+  nodes = map (adjacency-in ws ce cn counts) (from 0 (counts .nodes .bound));
 }
 
 unfoldable pub shape-of : Words → Shape

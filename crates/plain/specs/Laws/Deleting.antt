@@ -31,7 +31,8 @@ module _ {A : Type 0} where
 
 -- ---- members
 
-keep-all : (l : List ℕ) → keep (λ e. true) l ≡ l
+-- every entry passes
+pub keep-all : (l : List ℕ) → keep (λ e. true) l ≡ l
 unfolding keep
 keep-all [] = refl
 keep-all (x ∷ l) = rw (keep-all l)

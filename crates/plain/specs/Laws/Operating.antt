@@ -16,7 +16,7 @@ use Rattle.plain.specs.Step.{Capacities}
 use Rattle.plain.specs.Laws.WellFormed.{Incident, WellFormed}
 use Rattle.plain.specs.Laws.Booleans.{by-test, true-false, and-left, and-right, and-false, and-true, or-true, or-other, refuted}
 use Rattle.plain.specs.Laws.Deleting.{getD-set, getD-snoc, map-set, without-all}
-use Rattle.plain.specs.Laws.ListLaws.{member-append, without-absent}
+use Rattle.plain.specs.Laws.ListLaws.{map-snoc, member-append, without-absent}
 use Rattle.plain.specs.Laws.Rank.{live-below}
 use Rattle.plain.specs.Laws.Directions.{widened-incident, attached-incident, attached-end, detached-incident, detached-list, elsewhere, list-at, end-at, redirected-incident, redirected-end, moved-incident, moved-end}
 
@@ -75,11 +75,6 @@ with-incident h Incoming i k l = record {
   edge-payloads = h .edge-payloads;
 }
 
--- a list of slots with one more: its flags and its length
-snoc-flags : {A : Type 0} (f : A → Bool) (l : List A) (a : A) → map f (l ++ (a ∷ [])) ≡ map f l ++ (f a ∷ [])
-snoc-flags f [] a = refl
-snoc-flags f (x ∷ l) a = rw (snoc-flags f l a)
-
 snoc-length : {A : Type 0} (l : List A) (a : A) → length (l ++ (a ∷ [])) ≡ length l + 1
 snoc-length l a = length-append l (a ∷ [])
 
@@ -116,7 +111,7 @@ unfolding node-added
 node-added-well-formed {caps} {p} v fits room h =
     let slot : NodeSlot = record { payload = v; live = true } in
     let live : (x : ℕ) → getD (node-flags p) x false ≡ true → getD (map (λ (s : NodeSlot). s .live) (p .nodes ++ (slot ∷ []))) x false ≡ true =
-    λ x l. rw (snoc-flags (λ (s : NodeSlot). s .live) (p .nodes) slot) (live-snoc (node-flags p) x l) in
+    λ x l. rw (map-snoc (λ (s : NodeSlot). s .live) (p .nodes) slot) (live-snoc (node-flags p) x l) in
     record {
       nodes-within = rw (snoc-length (p .nodes) slot) (omega arith);
       edges-within = h .edges-within;
@@ -153,7 +148,7 @@ pub edge-added-well-formed : {caps : Capacities} {p : Plain} (s t v : ℕ) → g
 unfolding edge-added
 edge-added-well-formed {caps} {p} s t v live-s live-t fits room h =
     let slot : EdgeSlot = record { payload = v; live = true } in
-    let flags = snoc-flags (λ (s : EdgeSlot). s .live) (p .edges) slot in
+    let flags = map-snoc (λ (s : EdgeSlot). s .live) (p .edges) slot in
     record {
       nodes-within = h .nodes-within;
       edges-within = rw (snoc-length (p .edges) slot) (omega arith);

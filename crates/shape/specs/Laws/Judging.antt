@@ -12,7 +12,7 @@ use Rattle.plain.specs.declared.TraversalDirection.the-variants.{Outgoing, Inco
 use Rattle.plain.specs.declared.Slots.{Slots}
 use Rattle.plain.specs.Numbers.{LIMIT}
 use Rattle.plain.specs.Lists.{member, keep, all, from}
-use Rattle.plain.specs.Plain.{NodeSlot, EdgeSlot, no-node, no-edge, incidence, end-of}
+use Rattle.plain.specs.Plain.{NodeSlot, EdgeSlot, no-node, no-edge, incidence}
 use Rattle.plain.specs.Reads.{live-count}
 use Rattle.plain.specs.Memory.{live-words}
 use Rattle.plain.specs.Laws.Booleans.{and-left, and-right, both-true, true-false}
@@ -20,12 +20,12 @@ use Rattle.plain.specs.Laws.ListLaws.{member-keep, getD-map-each}
 use Rattle.liveness.specs.Flags.{packed}
 use Rattle.shape.specs.Columns.{end-at}
 use Rattle.shape.specs.Chains.{In}
-use Rattle.shape.specs.Shape.{Words, Axis, node-live, edge-live, axis-words, raw, live-in, adjacency-of, node-flags-of, edge-flags-of, axis-of, shape-of, plain-of}
+use Rattle.shape.specs.Shape.{Words, Axis, node-live, edge-live, axis-words, raw, live-in, adjacency-of, node-flags-of, edge-flags-of, shape-of, plain-of}
 use Rattle.shape.specs.Checked.{Bounded, LiveRight, AxisChecked, Checked}
 use Rattle.shape.specs.Rules.{both-axes, slots-right, rule-1, live-agrees, rule-2, ends-right, rule-3, index-right, rule-4, ring-right, rule-5, runs-right, rule-6, walks-right, rule-7, broken}
-use Rattle.shape.specs.Laws.Refining.{lists-length, list-is-walk, ends-of}
+use Rattle.shape.specs.Laws.Refining.{lists-length, list-is-walk}
 use Rattle.shape.specs.Laws.Checking.{all-below, below-all, ring-sound, ring-own, ring-complete, index-sound, index-complete, runs-sound, dead-runs-sound, runs-complete, Framed, walks-live, walks-sound, walks-complete}
-use Rattle.shape.specs.Laws.Reading.{node-bound-is, edge-bound-is, axis-is, axis-ends, axis-end, axis-nodes}
+use Rattle.shape.specs.Laws.Reading.{plain-ends, plain-end, node-bound-is, edge-bound-is, axis-is, axis-ends, axis-nodes}
 
 -- the payload words are words of 32 bits, as a lent slice's are
 pub record Payloads (w : Words) : Type 0 where
@@ -92,9 +92,6 @@ walk-live flags true l e m = and-right (member e l) (live-in flags e) (sym (memb
 walk-live flags false l e m = true-false refl (sym m)
 
 module _ (w : Words) where
-  plain-ends : (d : TraversalDirection) → incidence d (plain-of (shape-of w)) .ends ≡ axis-of (axis-words d w) (length (w .edges)) (length (w .nodes)) (w .counts) .ends
-  plain-ends d = ends-of (shape-of w) d ∙ ap (λ (a : Axis). a .ends) (axis-is w d)
-
   plain-lists-length : (d : TraversalDirection) → length (incidence d (plain-of (shape-of w)) .lists) ≡ length (shape-of w .nodes)
   unfolding plain-of
   plain-lists-length Outgoing =
@@ -103,10 +100,6 @@ module _ (w : Words) where
   plain-lists-length Incoming =
       lists-length (edge-flags-of (shape-of w)) (node-flags-of (shape-of w)) (shape-of w .incoming) ∙ ap (λ (a : Axis). length (a .nodes)) (axis-is w Incoming)
       ∙ axis-nodes (w .incoming) (length (w .edges)) (length (w .nodes)) (w .counts) ∙ sym (node-bound-is w)
-
-  plain-end : (d : TraversalDirection) (e : ℕ) → e < w .counts .edges .bound → end-of d (plain-of (shape-of w)) e ≡ end-at (axis-words d w) e
-  plain-end d e l =
-      ap (λ (k : List ℕ). getD k e 0) (plain-ends d) ∙ axis-end (axis-words d w) (length (w .edges)) (length (w .nodes)) (w .counts) e l
 
 -- ---- from the tests to the store
 

@@ -9,11 +9,12 @@ use Rattle.plain.specs.declared.TraversalDirection.{TraversalDirection}
 use Rattle.plain.specs.declared.TraversalDirection.the-variants.{Outgoing, Incoming}
 use Rattle.plain.specs.declared.Counts.{Counts}
 use Rattle.plain.specs.Lists.{from}
-use Rattle.plain.specs.Plain.{NodeSlot, EdgeSlot}
+use Rattle.plain.specs.Plain.{NodeSlot, EdgeSlot, incidence, end-of}
 use Rattle.plain.specs.Laws.ListLaws.{getD-map, getD-from, length-from, map-getD}
 use Rattle.liveness.specs.FlagLaws.{length-flags}
 use Rattle.shape.specs.Columns.{end-at}
-use Rattle.shape.specs.Shape.{Words, node-live, edge-live, axis-words, base-of, run-of, ring-of, axis-of, shape-of, axis-in, no-adjacency, node-flags-of, edge-flags-of}
+use Rattle.shape.specs.Laws.Refining.{ends-of}
+use Rattle.shape.specs.Shape.{Axis, plain-of, adjacency-of, Words, node-live, edge-live, axis-words, adjacency-in, axis-of, shape-of, axis-in, no-adjacency, node-flags-of, edge-flags-of}
 
 -- a list made of the slots below n
 module _ {A : Type 0} (f : ℕ → A) (n : ℕ) where
@@ -66,20 +67,23 @@ module _ (ws : List ℕ) (ce cn : ℕ) (counts : Counts) where
 
   pub axis-nodes : length (axis-of ws ce cn counts .nodes) ≡ counts .nodes .bound
   unfolding axis-of
-  axis-nodes = made-length (λ x. record {
-    base = base-of ws ce cn (counts .nodes .base) x;
-    run = run-of ws ce cn x;
-    ring = ring-of ws ce (counts .edges .base) (counts .edges .bound) x;
-  }) (counts .nodes .bound)
+  axis-nodes = made-length (adjacency-in ws ce cn counts) (counts .nodes .bound)
 
-  pub axis-adjacency : (x : ℕ) → x < counts .nodes .bound → getD (axis-of ws ce cn counts .nodes) x no-adjacency ≡ record {
-    base = base-of ws ce cn (counts .nodes .base) x;
-    run = run-of ws ce cn x;
-    ring = ring-of ws ce (counts .edges .base) (counts .edges .bound) x;
-  }
+  pub axis-adjacency : (x : ℕ) → x < counts .nodes .bound → getD (axis-of ws ce cn counts .nodes) x no-adjacency ≡ adjacency-in ws ce cn counts x
   unfolding axis-of
-  axis-adjacency x l = made-at (λ x. record {
-    base = base-of ws ce cn (counts .nodes .base) x;
-    run = run-of ws ce cn x;
-    ring = ring-of ws ce (counts .edges .base) (counts .edges .bound) x;
-  }) (counts .nodes .bound) x no-adjacency l
+  axis-adjacency x l = made-at (adjacency-in ws ce cn counts) (counts .nodes .bound) x no-adjacency l
+
+module _ (w : Words) where
+  -- a node's adjacency in the shape is the one that the words of its axis have
+  pub shape-adjacency : (d : TraversalDirection) (x : ℕ) → x < w .counts .nodes .bound
+      → adjacency-of d (shape-of w) x ≡ adjacency-in (axis-words d w) (length (w .edges)) (length (w .nodes)) (w .counts) x
+  shape-adjacency d x l =
+      ap (λ (a : Axis). getD (a .nodes) x no-adjacency) (axis-is w d) ∙ axis-adjacency (axis-words d w) (length (w .edges)) (length (w .nodes)) (w .counts) x l
+
+  -- the ends in the plain lists are those that the words of the axis have
+  pub plain-ends : (d : TraversalDirection) → incidence d (plain-of (shape-of w)) .ends ≡ axis-of (axis-words d w) (length (w .edges)) (length (w .nodes)) (w .counts) .ends
+  plain-ends d = ends-of (shape-of w) d ∙ ap (λ (a : Axis). a .ends) (axis-is w d)
+
+  pub plain-end : (d : TraversalDirection) (e : ℕ) → e < w .counts .edges .bound → end-of d (plain-of (shape-of w)) e ≡ end-at (axis-words d w) e
+  plain-end d e l =
+      ap (λ (k : List ℕ). getD k e 0) (plain-ends d) ∙ axis-end (axis-words d w) (length (w .edges)) (length (w .nodes)) (w .counts) e l

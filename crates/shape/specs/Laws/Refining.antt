@@ -17,7 +17,7 @@ use Rattle.plain.specs.Lists.{member, without, keep, from, append-at, delete-at
 use Rattle.plain.specs.Plain.{Plain, NodeSlot, EdgeSlot, Incidence, incidence, with-incidence, no-node, no-edge, killed-node, list-of, end-of, widened, attached, node-added, edge-added, edge-removed, edges-removed, node-removed, redirected, moved, payload-set}
 use Rattle.plain.specs.Step.{Capacities}
 use Rattle.plain.specs.Laws.Booleans.{by-test, below-or-not, and-left, or-false, or-true, or-other, eqb-comm}
-use Rattle.plain.specs.Laws.ListLaws.{getD-map, getD-from, length-from, member-append}
+use Rattle.plain.specs.Laws.ListLaws.{map-snoc, getD-map, getD-from, length-from, member-append}
 use Rattle.plain.specs.Laws.Deleting.{getD-set, getD-snoc, map-set, getD-append-at, length-append-at, length-delete-at, without-all, without-all-keeps}
 use Rattle.plain.specs.Laws.Rank.{live-below}
 use Rattle.plain.specs.Laws.WellFormed.{Incident, WellFormed}
@@ -85,11 +85,6 @@ ends-of s Incoming = refl
 
 -- ---- the slots
 
--- flags of slots with one more
-snoc-flags : {A : Type 0} (f : A → Bool) (l : List A) (a : A) → map f (l ++ (a ∷ [])) ≡ map f l ++ (f a ∷ [])
-snoc-flags f [] a = refl
-snoc-flags f (x ∷ l) a = rw (snoc-flags f l a)
-
 -- an added default is read as before
 pub getD-added : {A : Type 0} (l : List A) (d : A) (x : ℕ) → getD (l ++ (d ∷ [])) x d ≡ getD l x d
 getD-added l d x =
@@ -132,7 +127,7 @@ pub add-node-refines : {caps : Capacities} {s : Shape} → Proper caps s → (v 
 unfolding acted plain-of node-added
 add-node-refines {s = s} h v =
     let slot : NodeSlot = record { payload = v; live = true } in
-    let flags : map (λ (n : NodeSlot). n .live) (s .nodes ++ (slot ∷ [])) ≡ node-flags-of s ++ (true ∷ []) = snoc-flags (λ (n : NodeSlot). n .live) (s .nodes) slot in
+    let flags : map (λ (n : NodeSlot). n .live) (s .nodes ++ (slot ∷ [])) ≡ node-flags-of s ++ (true ∷ []) = map-snoc (λ (n : NodeSlot). n .live) (s .nodes) slot in
     let even : (d : TraversalDirection) → length (axis-in d s .nodes) ≡ length (node-flags-of s) =
     λ d. axis-nodes h d ∙ sym (length-map (s .nodes) (λ (n : NodeSlot). n .live)) in
     plain-ext refl refl
@@ -214,7 +209,7 @@ module _ {caps : Capacities} {s : Shape} (h : Proper caps s) where
   unfolding acted plain-of edge-added
   add-edge-refines source target v ls lt =
       let slot : EdgeSlot = record { payload = v; live = true } in
-      let flags = snoc-flags (λ (e : EdgeSlot). e .live) (s .edges) slot in
+      let flags = map-snoc (λ (e : EdgeSlot). e .live) (s .edges) slot in
       plain-ext refl refl
       (ap (λ (f : List Bool). incidence-by (walk-of f) (node-flags-of s) (appended (length (s .edges)) source (s .outgoing))) flags ∙ added-lists Outgoing source ls)
       (ap (λ (f : List Bool). incidence-by (walk-of f) (node-flags-of s) (appended (length (s .edges)) target (s .incoming))) flags ∙ added-lists Incoming target lt)

@@ -1,7 +1,7 @@
 -- A whole strip on the shape: its plain lists and compact flag are those of the strip of document 01, and what holds of the shape at its start holds at its end.
 use mathlib.Core.Path.{_≡_, refl, ap, ap₂, _∙_}
 use mathlib.Core.Bool.{Bool}
-use mathlib.Core.List.{List}
+use mathlib.Core.List.{List, [], _∷_, _++_}
 use Rattle.plain.specs.declared.Operation.{Operation}
 use Rattle.plain.specs.Plain.{Plain}
 use Rattle.plain.specs.Step.{Capacities, State, stepped, run}
@@ -40,3 +40,10 @@ pub run-reached : {caps : Capacities} {s : Shape} {ops : List Operation} → Pro
 unfolding shape-run
 run-reached h r no-more = r
 run-reached h r (one-more {x} f fs) = run-reached (step-proper h x f) (step-reached h r x) fs
+
+-- one operation more
+pub shape-run-snoc : (caps : Capacities) (s : Shape) (ops : List Operation) (x : Operation)
+    → shape-run caps s (ops ++ (x ∷ [])) ≡ shape-step caps (shape-run caps s ops) x
+unfolding shape-run
+shape-run-snoc caps s [] x = refl
+shape-run-snoc caps s (y ∷ ops) x = shape-run-snoc caps (shape-step caps s y) ops x

@@ -4,16 +4,16 @@ use Prim.Native.Nat.{ℕ, zero, suc, _+_, _-_, _≤_, _<_, zero-le, suc-le-suc}
 use native.Mathlib.Nat.{not-suc-le-zero, le-of-suc-le-suc}
 use native.Mathlib.Numerals.{add-one}
 use native.Mathlib.Omega.{arith}
-use mathlib.Core.Path.{_≡_, refl, sym, ap, _∙_, subst}
-use mathlib.Core.Bool.{Bool, true, false, cond, _&&_, _||_}
-use mathlib.Core.List.{List, [], _∷_, _++_, map}
+use mathlib.Core.Path.{_≡_, sym, ap, _∙_, subst}
+use mathlib.Core.Bool.{true, false, cond, _&&_}
+use mathlib.Core.List.{List, [], _∷_}
 use lib.ListN.{length, length-map}
 use lib.Dec.{eqb, leb, ltb}
 use borrow.Author.Tests.{eq-eqb, ne-eqb, leb-true, ltb-true}
 use Rattle.plain.specs.Lists.{member, from}
-use Rattle.plain.specs.Laws.Booleans.{by-test, true-false, and-left, and-right, or-other, eqb-comm}
-use Rattle.plain.specs.Laws.ListLaws.{member-first, member-later, member-source, member-from, length-from}
-use Rattle.shape.specs.Chains.{chain, until, In}
+use Rattle.plain.specs.Laws.Booleans.{by-test, and-left, and-right, or-other, eqb-comm}
+use Rattle.plain.specs.Laws.ListLaws.{member-first, member-source, member-from, length-from}
+use Rattle.shape.specs.Chains.{until, In}
 use Rattle.shape.specs.Shape.{between}
 use Rattle.shape.specs.Laws.Chains.{in-none}
 

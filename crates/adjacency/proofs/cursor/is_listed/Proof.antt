@@ -1,5 +1,4 @@
 -- `adjacency::cursor::is_listed` meets its contract: each return is the case of the test that led there.
-use mathlib.Core.Path.{_∙_, sym}
 use borrow.Author.Needs.{needs}
 use Rattle.adjacency.proofs.cursor.is_listed.Statement.{statement}
 use Rattle.adjacency.proofs.cursor.is_listed.Tie as tie

@@ -1,0 +1,7 @@
+pub mod Made
+pub mod Operations
+pub mod Axes
+pub mod Acting
+pub mod Adding
+pub mod Editing
+pub mod Reads
