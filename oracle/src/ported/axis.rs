@@ -258,6 +258,29 @@ impl Axis {
         }
     }
 
+    /// Makes the edges of a live node's walk dead.
+    pub fn clear_adjacency(&self, counts: Counts, live_edges: &mut Live, node: u32) {
+        let node = node as usize;
+        let readable = self.readable(counts, live_edges);
+        let asked = readable.map(|readable| node < readable.counts.nodes.bound as usize);
+        assert_eq!(asked, Ok(true), "required of clear_adjacency");
+        // SAFETY: the axis is borrowed and the live words are borrowed mutably,
+        // both as long as stated; `Clearable` was tested.
+        live_edges.retire(|words| unsafe {
+            exports::lot_clear_adjacency(
+                self.words.as_ptr(),
+                self.words.len(),
+                self.edges,
+                self.nodes,
+                counts,
+                words.as_mut_ptr(),
+                words.len(),
+                node,
+                true,
+            )
+        });
+    }
+
     /// Puts ends and joined lists of a new base in place and counts its offsets.
     pub fn index(&mut self, base_nodes: usize, ends: &[u32], joined: &[u32]) {
         let edges = ends.len();

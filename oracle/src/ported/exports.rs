@@ -152,4 +152,15 @@ unsafe extern "C" {
         out: *mut u32,
         out_length: usize,
     );
+    pub fn lot_clear_adjacency(
+        axis: *const u32,
+        length: usize,
+        edges: usize,
+        nodes: usize,
+        counts: Counts,
+        live_edges: *mut u64,
+        live_edges_length: usize,
+        node: usize,
+        live: bool,
+    ) -> u32;
 }

@@ -98,6 +98,11 @@ impl Live {
         live
     }
 
+    /// Lends the words to a function that makes slots dead and answers how many.
+    pub fn retire(&mut self, clear: impl FnOnce(&mut [u64]) -> u32) {
+        self.slots.live -= clear(&mut self.words);
+    }
+
     /// So many slots, all of them base and live.
     pub fn reset(&mut self, slots: u32) {
         self.slots = Slots {

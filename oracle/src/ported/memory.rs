@@ -115,12 +115,9 @@ impl Memory {
         if !self.nodes.is_live(node) {
             return false;
         }
-        for side in 0..DIRECTIONS.len() {
-            let reader = self.reader().expect("required of a walk");
-            let walk = reader.sides[side].walk(node as usize, true);
-            for edge in walk {
-                self.edges.clear(edge);
-            }
+        for axis in &self.axes {
+            let counts = self.counts();
+            axis.clear_adjacency(counts, &mut self.edges, node);
         }
         self.nodes.clear(node)
     }
