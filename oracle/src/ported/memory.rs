@@ -7,7 +7,9 @@ use super::axis::{Axis, Readable};
 use super::exports::Counts;
 use super::live::Live;
 use crate::graph::traverse::TraversalDirection;
-use crate::model::{Capacities, DIRECTIONS};
+use crate::model::Capacities;
+#[cfg(feature = "serde")]
+use crate::model::DIRECTIONS;
 use crate::rng::Rng;
 #[cfg(feature = "serde")]
 use crate::rust_store::{RustStore, edge, node, record};
