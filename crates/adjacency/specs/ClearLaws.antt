@@ -129,6 +129,11 @@ retired-both {slots} {entry = entry} true a b first second =
     (retired-live (raw a ++ raw b) (retired-then (retired-raw true a first) (retired-raw true b second)))
 retired-both false a b first second = retired-then first second
 
+-- what was dead stays dead
+pub retired-stays : {slots n : ℕ} {es entry exit : List ℕ} → Retired slots es entry exit n → (k : ℕ) → getD (live-flags entry slots) k false ≡ false
+    → getD (live-flags exit slots) k false ≡ false
+retired-stays gone k dead = gone .flags k ∙ rw dead
+
 -- no more are counted than there are slots
 pub retired-few : {slots n : ℕ} {es entry exit : List ℕ} → Retired slots es entry exit n → n ≤ slots
 retired-few {slots} {entry = entry} a =

@@ -2,7 +2,7 @@
 -- edge slots.
 use Prim.Native.Nat.{ℕ, _+_, _-_, _≤_, _<_}
 use native.Mathlib.Omega.{arith}
-use mathlib.Core.Path.{_≡_, refl, sym, ap, ap₂, _∙_}
+use mathlib.Core.Path.{_≡_, refl, sym, ap₂, _∙_}
 use mathlib.Core.Bool.{Bool, true, false, _&&_, not}
 use mathlib.Core.List.{List, [], _∷_, _++_, map, map-map}
 use lib.ListN.{length, getD, set, length-map}
@@ -10,19 +10,23 @@ use lib.Seq.{ext-getD, map-set-same}
 use lib.Dec.{eqb}
 use Rattle.plain.specs.declared.TraversalDirection.{TraversalDirection}
 use Rattle.plain.specs.declared.TraversalDirection.the-variants.{Outgoing, Incoming}
+use Rattle.plain.specs.declared.Counts.{Counts}
 use Rattle.plain.specs.declared.Slots.{Slots}
 use Rattle.plain.specs.Lists.{member, from}
 use Rattle.plain.specs.Plain.{EdgeSlot, killed-edge, no-edge}
-use Rattle.plain.specs.Laws.Booleans.{by-test, and-true, and-false}
-use Rattle.plain.specs.Laws.ListLaws.{getD-map}
+use Rattle.plain.specs.Laws.Booleans.{by-test, and-true, and-false, or-true}
+use Rattle.plain.specs.Laws.ListLaws.{member-append, member-keep}
 use Rattle.plain.specs.Laws.Deleting.{map-set}
 use Rattle.liveness.specs.Flags.{live-flags}
 use Rattle.liveness.specs.FlagLaws.{length-flags}
-use Rattle.shape.specs.Shape.{Words, node-live, edge-live, axis-words, edge-flags-of, shape-of, adjacency-in}
+use Rattle.shape.specs.Columns.{mark-at}
+use Rattle.shape.specs.Chains.{In}
+use Rattle.shape.specs.Shape.{Words, node-live, edge-live, axis-words, shape-of, adjacency-in, run-list, run-of, part, raw, live-in}
 use Rattle.shape.specs.Checked.{LiveRight, Checked}
 use Rattle.shape.specs.Steps.{retired, walk-in as walk-of-shape}
+use Rattle.shape.specs.Laws.Chains.{in-none}
 use Rattle.shape.specs.Laws.Keeping.{retired-length}
-use Rattle.shape.specs.Laws.Reading.{edge-bound-is, edge-flags-are, made-length, made-at}
+use Rattle.shape.specs.Laws.Reading.{edge-bound-is, edge-flags-are}
 use Rattle.adjacency.specs.Walk.{walk-in}
 use Rattle.adjacency.specs.StoreWalks.{checked-readable, checked-walkable, shape-walk}
 use Rattle.adjacency.specs.Clear.{Retired, Clearable}
@@ -119,3 +123,36 @@ node-retired w x node first second =
     rw (shape-walk w Outgoing x node, shape-walk w Incoming x node)
     (retired-both (getD (node-live w) x false) (adjacency-in (w .outgoing) (length (w .edges)) (length (w .nodes)) (w .counts) x)
     (adjacency-in (w .incoming) (length (w .edges)) (length (w .nodes)) (w .counts) x) first second)
+
+-- an entry of a node's run is an entry of its adjacency
+run-raw : (ws : List ℕ) (ce cn : ℕ) (counts : Counts) (x e : ℕ) → In e (run-list ws ce cn x) → In e (raw (adjacency-in ws ce cn counts x))
+unfolding run-list run-of
+run-raw ws ce cn counts x e m =
+    by-test (eqb (mark-at ws ce cn x) 0) (λ q. in-none e (rw q at m))
+    (λ q. member-append e (part (adjacency-in ws ce cn counts x)) (adjacency-in ws ce cn counts x .ring) ∙ rw (q, rw q at m))
+
+-- then no live edge is in the node's run, in either direction
+pub node-dead : (w : Words) (x : ℕ) → x < w .counts .nodes .bound → getD (node-live w) x false ≡ true → {after : List ℕ} {n : ℕ}
+    → Retired (w .counts .edges .bound) (walk-of-shape Outgoing (shape-of w) x ++ walk-of-shape Incoming (shape-of w) x) (w .live-edges) after n
+    → (d : TraversalDirection) (e : ℕ) → In e (run-list (axis-words d w) (length (w .edges)) (length (w .nodes)) x)
+    → getD (live-flags after (w .counts .edges .bound)) e false ≡ false
+node-dead w x node live gone d e m =
+    gone .flags e ∙ by-test (getD (edge-live w) e false) (λ q. rw (q, either d (walked d m q))) (λ q. rw q)
+  where
+    out : List ℕ
+    out = walk-of-shape Outgoing (shape-of w) x
+
+    into : List ℕ
+    into = walk-of-shape Incoming (shape-of w) x
+
+    walked : (d : TraversalDirection) → In e (run-list (axis-words d w) (length (w .edges)) (length (w .nodes)) x) → getD (edge-live w) e false ≡ true
+        → In e (walk-of-shape d (shape-of w) x)
+    walked d m q =
+        let adjacency = adjacency-in (axis-words d w) (length (w .edges)) (length (w .nodes)) (w .counts) x in
+        rw (shape-walk w d x node, live)
+        (member-keep (live-in (edge-live w)) e (raw adjacency)
+        ∙ rw (run-raw (axis-words d w) (length (w .edges)) (length (w .nodes)) (w .counts) x e m, q))
+
+    either : (d : TraversalDirection) → In e (walk-of-shape d (shape-of w) x) → In e (out ++ into)
+    either Outgoing k = member-append e out into ∙ rw k
+    either Incoming k = member-append e out into ∙ rw (k, or-true (member e out))

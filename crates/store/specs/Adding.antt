@@ -3,7 +3,7 @@ use Prim.Native.Nat.{ℕ, _<_, _^_}
 use native.Mathlib.Omega.{arith}
 use mathlib.Core.Path.{_≡_, refl, sym, ap, _∙_}
 use mathlib.Core.Bool.{true, false}
-use mathlib.Core.List.{List, [], _∷_, _++_}
+use mathlib.Core.List.{List}
 use lib.ListN.{length, getD, set, length-set}
 use Rattle.plain.specs.declared.TraversalDirection.{TraversalDirection}
 use Rattle.plain.specs.declared.TraversalDirection.the-variants.{Outgoing, Incoming}
@@ -16,11 +16,11 @@ use Rattle.liveness.specs.Calls.{Pushed}
 use Rattle.liveness.specs.FlagLaws.{length-flags}
 use Rattle.shape.specs.Shape.{Words, capacities, node-live, edge-live, axis-words, axis-of, shape-of, plain-of}
 use Rattle.shape.specs.Checked.{AxisChecked}
-use Rattle.shape.specs.Steps.{opened, appended, acted}
+use Rattle.shape.specs.Steps.{appended, acted}
 use Rattle.shape.specs.Laws.Reading.{node-bound-is, edge-bound-is, node-flags-are}
 use Rattle.adjacency.specs.Rings.{Openable, Opened, Appendable, Appended}
 use Rattle.store.specs.Made.{slots-more}
-use Rattle.store.specs.Operations.{lists, SameLengths, Acted, one-more, with-nodes, with-edges, Raisable, NodeAddable, EdgeAddable}
+use Rattle.store.specs.Operations.{store, lists, SameLengths, Acted, one-more, with-nodes, with-edges, Raisable, NodeAddable, EdgeAddable}
 use Rattle.store.specs.Axes.{opened-axis, opened-checked, appended-axis, appended-checked}
 use Rattle.store.specs.Acting.{shape-ext, acted-walks, live-within, pushed-right}
 
@@ -29,34 +29,14 @@ use Rattle.store.specs.Acting.{shape-ext, acted-walks, live-within, push
 module _ {w : Words} (pre : NodeAddable w) where
   -- the counts stay words
   pub node-raisable : Raisable (w .counts .nodes)
-  node-raisable =
-      record {
-        bound-below = omega (arith, pre .room, pre .checked .axis Outgoing .sized .nodes-within);
-        live-within = live-within (pre .checked .nodes-live);
-      }
+  node-raisable = record {
+    bound-below = omega (arith, pre .room, pre .checked .axis Outgoing .sized .nodes-within);
+    live-within = live-within (pre .checked .nodes-live);
+  }
 
   -- both directions have the words of the slot
   pub node-openable : (d : TraversalDirection) → Openable (axis-words d w) (length (w .edges)) (length (w .nodes)) (w .counts .nodes .bound)
   node-openable d = record { sized = pre .checked .axis d .sized; room = pre .room }
-
-  -- one direction of the store
-  module _
-      (d : TraversalDirection)
-      (vs : List ℕ)
-      (long : length vs ≡ length (axis-words d w))
-      (o : Opened (axis-words d w) vs (length (w .edges)) (length (w .nodes)) (w .counts .nodes .bound))
-    where
-      node-axis : axis-of vs (length (w .edges)) (length (w .nodes)) (with-nodes (one-more (w .counts .nodes)) (w .counts))
-          ≡ opened (axis-of (axis-words d w) (length (w .edges)) (length (w .nodes)) (w .counts))
-      node-axis =
-          opened-axis vs (pre .checked .nodes) (pre .checked .edges) (length-flags (w .live-nodes) (w .counts .nodes .bound))
-          (length-flags (w .live-edges) (w .counts .edges .bound)) (pre .checked .axis d) long o (pre .room)
-
-      node-direction : AxisChecked vs (length (w .edges)) (length (w .nodes)) (with-nodes (one-more (w .counts .nodes)) (w .counts))
-          (node-live w ++ (true ∷ [])) (edge-live w)
-      node-direction =
-          opened-checked vs (pre .checked .nodes) (pre .checked .edges) (length-flags (w .live-nodes) (w .counts .nodes .bound))
-          (length-flags (w .live-edges) (w .counts .edges .bound)) (pre .checked .axis d) long o (pre .room)
 
   -- the step of document 01 adds a node; its value is the slot
   pub node-comes : (payload : ℕ) → step (capacities w) (lists w) (AddNode payload) ≡ changed (w .counts .nodes .bound) (node-added payload (lists w))
@@ -76,17 +56,12 @@ module _ {w : Words} (pre : NodeAddable w) where
       (out-long : length outgoing ≡ length (w .outgoing))
       (inc-long : length incoming ≡ length (w .incoming))
     where
+      -- the store afterwards
       abbrev with-node : Words
-      with-node = record {
-        counts = with-nodes (one-more (w .counts .nodes)) (w .counts);
-        nodes = set (w .nodes) (w .counts .nodes .bound) payload;
-        edges = w .edges;
-        live-nodes = live;
-        live-edges = w .live-edges;
-        outgoing = outgoing;
-        incoming = incoming;
-      }
+      with-node =
+          store (with-nodes (one-more (w .counts .nodes)) (w .counts)) (set (w .nodes) (w .counts .nodes .bound) payload) (w .edges) live (w .live-edges) outgoing incoming
 
+      -- no slice grows or shrinks
       node-lengths : SameLengths w with-node
       node-lengths = record {
         nodes = length-set (w .nodes) (w .counts .nodes .bound) payload;
@@ -97,6 +72,7 @@ module _ {w : Words} (pre : NodeAddable w) where
         incoming = inc-long;
       }
 
+      -- its shape is what the operation makes of the shape
       node-shape : shape-of with-node ≡ acted (AddNode payload) (shape-of w)
       unfolding shape-of acted
       node-shape =
@@ -104,7 +80,8 @@ module _ {w : Words} (pre : NodeAddable w) where
           (shape-ext
           (slots-more (λ v b. record { payload = v; live = b }) (w .nodes) (node-live w) (w .counts .nodes .bound)
           (length-flags (w .live-nodes) (w .counts .nodes .bound)) (pre .checked .nodes .bound-within) payload (pre .room))
-          refl refl refl (node-axis Outgoing outgoing out-long out) (node-axis Incoming incoming inc-long inc))
+          refl refl refl (opened-axis (pre .checked) Outgoing outgoing out-long out (pre .room))
+          (opened-axis (pre .checked) Incoming incoming inc-long inc (pre .room)))
 
       -- the node was added
       pub node-acted : Acted (AddNode payload) w with-node
@@ -125,8 +102,8 @@ module _ {w : Words} (pre : NodeAddable w) where
         where
           directions : (d : TraversalDirection)
               → AxisChecked (axis-words d with-node) (length (w .edges)) (length (with-node .nodes)) (with-node .counts) (node-live with-node) (edge-live w)
-          directions Outgoing = rw (node-lengths .nodes, pushed .flags) (node-direction Outgoing outgoing out-long out)
-          directions Incoming = rw (node-lengths .nodes, pushed .flags) (node-direction Incoming incoming inc-long inc)
+          directions Outgoing = rw (node-lengths .nodes, pushed .flags) (opened-checked (pre .checked) Outgoing outgoing out-long out (pre .room))
+          directions Incoming = rw (node-lengths .nodes, pushed .flags) (opened-checked (pre .checked) Incoming incoming inc-long inc (pre .room))
 
 -- ---- an edge
 
@@ -142,35 +119,17 @@ module _ {w : Words} {source target : ℕ} (pre : EdgeAddable w source target) w
   end-below : (x : ℕ) → getD (node-live w) x false ≡ true → x < w .counts .nodes .bound
   end-below x live = rw (← length-flags (w .live-nodes) (w .counts .nodes .bound)) (live-below (node-live w) x live)
 
-  -- one direction of the store, in which the edge ends at node x
-  module _ (d : TraversalDirection) (x : ℕ) (live : getD (node-live w) x false ≡ true) where
-    -- the edge can be appended
-    pub edge-appendable : Appendable (axis-words d w) (length (w .edges)) (length (w .nodes)) (w .counts .nodes .bound) (w .counts .edges .base) x (w .counts .edges .bound)
-    edge-appendable = record {
-      sized = pre .checked .axis d .sized;
-      rings = pre .checked .axis d .rings;
-      node-below = end-below x live;
-      nodes-within = pre .checked .nodes .bound-within;
-      base-within = pre .checked .edges .base-within;
-      room = pre .room;
-    }
-
-    module _
-        (vs : List ℕ)
-        (long : length vs ≡ length (axis-words d w))
-        (o : Appended (axis-words d w) vs (length (w .edges)) (w .counts .nodes .bound) (w .counts .edges .base) x (w .counts .edges .bound))
-      where
-        edge-axis : axis-of vs (length (w .edges)) (length (w .nodes)) (with-edges (one-more (w .counts .edges)) (w .counts))
-            ≡ appended (w .counts .edges .bound) x (axis-of (axis-words d w) (length (w .edges)) (length (w .nodes)) (w .counts))
-        edge-axis =
-            appended-axis vs (pre .checked .nodes) (pre .checked .edges) (length-flags (w .live-nodes) (w .counts .nodes .bound))
-            (length-flags (w .live-edges) (w .counts .edges .bound)) (pre .checked .axis d) long x o (pre .room) (end-below x live)
-
-        edge-direction : AxisChecked vs (length (w .edges)) (length (w .nodes)) (with-edges (one-more (w .counts .edges)) (w .counts)) (node-live w)
-            (edge-live w ++ (true ∷ []))
-        edge-direction =
-            appended-checked vs (pre .checked .nodes) (pre .checked .edges) (length-flags (w .live-nodes) (w .counts .nodes .bound))
-            (length-flags (w .live-edges) (w .counts .edges .bound)) (pre .checked .axis d) long x o (pre .room) (end-below x live)
+  -- in a direction the edge can be appended at a live node
+  pub edge-appendable : (d : TraversalDirection) (x : ℕ) → getD (node-live w) x false ≡ true
+      → Appendable (axis-words d w) (length (w .edges)) (length (w .nodes)) (w .counts .nodes .bound) (w .counts .edges .base) x (w .counts .edges .bound)
+  edge-appendable d x live = record {
+    sized = pre .checked .axis d .sized;
+    rings = pre .checked .axis d .rings;
+    node-below = end-below x live;
+    nodes-within = pre .checked .nodes .bound-within;
+    base-within = pre .checked .edges .base-within;
+    room = pre .room;
+  }
 
   -- the step of document 01 adds an edge; its value is the slot
   pub edge-comes : (payload : ℕ)
@@ -192,17 +151,12 @@ module _ {w : Words} {source target : ℕ} (pre : EdgeAddable w source target) w
       (out-long : length outgoing ≡ length (w .outgoing))
       (inc-long : length incoming ≡ length (w .incoming))
     where
+      -- the store afterwards
       abbrev with-edge : Words
-      with-edge = record {
-        counts = with-edges (one-more (w .counts .edges)) (w .counts);
-        nodes = w .nodes;
-        edges = set (w .edges) (w .counts .edges .bound) payload;
-        live-nodes = w .live-nodes;
-        live-edges = live;
-        outgoing = outgoing;
-        incoming = incoming;
-      }
+      with-edge =
+          store (with-edges (one-more (w .counts .edges)) (w .counts)) (w .nodes) (set (w .edges) (w .counts .edges .bound) payload) (w .live-nodes) live outgoing incoming
 
+      -- no slice grows or shrinks
       edge-lengths : SameLengths w with-edge
       edge-lengths = record {
         nodes = refl;
@@ -213,6 +167,7 @@ module _ {w : Words} {source target : ℕ} (pre : EdgeAddable w source target) w
         incoming = inc-long;
       }
 
+      -- its shape is what the operation makes of the shape
       edge-shape : shape-of with-edge ≡ acted (AddEdge source target payload) (shape-of w)
       unfolding shape-of acted
       edge-shape =
@@ -221,9 +176,9 @@ module _ {w : Words} {source target : ℕ} (pre : EdgeAddable w source target) w
           (slots-more (λ v b. record { payload = v; live = b }) (w .edges) (edge-live w) (w .counts .edges .bound)
           (length-flags (w .live-edges) (w .counts .edges .bound)) (pre .checked .edges .bound-within) payload (pre .room))
           refl refl
-          (edge-axis Outgoing source (pre .source-live) outgoing out-long out
+          (appended-axis (pre .checked) Outgoing outgoing out-long source out (pre .room) (end-below source (pre .source-live))
           ∙ ap (λ (e : ℕ). appended e source (axis-of (w .outgoing) (length (w .edges)) (length (w .nodes)) (w .counts))) (sym (edge-bound-is w)))
-          (edge-axis Incoming target (pre .target-live) incoming inc-long inc
+          (appended-axis (pre .checked) Incoming incoming inc-long target inc (pre .room) (end-below target (pre .target-live))
           ∙ ap (λ (e : ℕ). appended e target (axis-of (w .incoming) (length (w .edges)) (length (w .nodes)) (w .counts))) (sym (edge-bound-is w))))
 
       -- the edge was added
@@ -245,5 +200,9 @@ module _ {w : Words} {source target : ℕ} (pre : EdgeAddable w source target) w
         where
           directions : (d : TraversalDirection)
               → AxisChecked (axis-words d with-edge) (length (with-edge .edges)) (length (w .nodes)) (with-edge .counts) (node-live w) (edge-live with-edge)
-          directions Outgoing = rw (edge-lengths .edges, pushed .flags) (edge-direction Outgoing source (pre .source-live) outgoing out-long out)
-          directions Incoming = rw (edge-lengths .edges, pushed .flags) (edge-direction Incoming target (pre .target-live) incoming inc-long inc)
+          directions Outgoing =
+              rw (edge-lengths .edges, pushed .flags)
+              (appended-checked (pre .checked) Outgoing outgoing out-long source out (pre .room) (end-below source (pre .source-live)))
+          directions Incoming =
+              rw (edge-lengths .edges, pushed .flags)
+              (appended-checked (pre .checked) Incoming incoming inc-long target inc (pre .room) (end-below target (pre .target-live)))

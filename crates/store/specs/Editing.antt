@@ -2,7 +2,7 @@
 use Prim.Native.Nat.{ℕ, _<_, _^_}
 use mathlib.Core.Path.{_≡_, refl, sym, ap, _∙_}
 use mathlib.Core.Bool.{Bool, true, false, cond}
-use mathlib.Core.List.{List, [], _∷_, map}
+use mathlib.Core.List.{List, map}
 use lib.ListN.{length, getD, set, length-set, List·getD-eq-default}
 use lib.Seq.{set-getD}
 use lib.Dec.{eqb}
@@ -23,7 +23,7 @@ use Rattle.shape.specs.Checked.{AxisChecked, Checked}
 use Rattle.shape.specs.Steps.{retired, acted}
 use Rattle.shape.specs.Laws.Reading.{made-at, edge-bound-is, edge-flags-are}
 use Rattle.store.specs.Made.{slots-set}
-use Rattle.store.specs.Operations.{store, lists, SameLengths, Acted, RemovedEdge, one-less, with-edges, PayloadSettable}
+use Rattle.store.specs.Operations.{store, lists, SameLengths, Acted, RemovedEdge, fewer, with-edges, PayloadSettable}
 use Rattle.store.specs.Acting.{shape-ext, acted-walks, some-live, cleared-right}
 
 -- an edge slot by its payload and its flag
@@ -57,7 +57,7 @@ module _ {w : Words} (checked : Checked w) (edge : ℕ) (live : getD (edge-live 
 
   -- a direction passes the check without it
   remove-direction : (d : TraversalDirection) → AxisChecked (axis-words d w) (length (w .edges)) (length (w .nodes))
-      (with-edges (one-less (w .counts .edges)) (w .counts)) (node-live w) (set (edge-live w) edge false)
+      (with-edges (fewer 1 (w .counts .edges)) (w .counts)) (node-live w) (set (edge-live w) edge false)
   remove-direction d =
       let old = checked .axis d in
       record {
@@ -76,20 +76,15 @@ module _ {w : Words} (checked : Checked w) (edge : ℕ) (live : getD (edge-live 
       (cleared : Cleared (w .live-edges) (w .counts .edges .bound) edge answer after)
       (long : length after ≡ length (w .live-edges))
     where
+      -- the store afterwards
       abbrev without-edge : Words
-      without-edge = record {
-        counts = with-edges (one-less (w .counts .edges)) (w .counts);
-        nodes = w .nodes;
-        edges = w .edges;
-        live-nodes = w .live-nodes;
-        live-edges = after;
-        outgoing = w .outgoing;
-        incoming = w .incoming;
-      }
+      without-edge = store (with-edges (fewer 1 (w .counts .edges)) (w .counts)) (w .nodes) (w .edges) (w .live-nodes) after (w .outgoing) (w .incoming)
 
+      -- no slice grows or shrinks
       remove-lengths : SameLengths w without-edge
       remove-lengths = record { nodes = refl; edges = refl; live-nodes = refl; live-edges = long; outgoing = refl; incoming = refl }
 
+      -- its shape is what the operation makes of the shape
       remove-shape : shape-of without-edge ≡ acted (RemoveEdge edge) (shape-of w)
       unfolding shape-of acted retired axis-of
       remove-shape =
@@ -126,32 +121,41 @@ module _ {w : Words} (checked : Checked w) (edge : ℕ) (live : getD (edge-live 
           directions Outgoing = rw (cleared .flags) (remove-direction Outgoing)
           directions Incoming = rw (cleared .flags) (remove-direction Incoming)
 
-module _ {w : Words} (checked : Checked w) (edge : ℕ) {after : List ℕ} {answer : Bool} (cleared : Cleared (w .live-edges) (w .counts .edges .bound) edge answer after) where
-  -- something live was there, so a live edge can be counted off
-  pub edge-counted : answer ≡ true → 0 < w .counts .edges .live
-  edge-counted found = some-live edge (checked .edges-live) (sym (cleared .answers) ∙ found)
+-- clearing the edge's bit, by what it answers
+module _
+    {w : Words}
+    (checked : Checked w)
+    (edge : ℕ)
+    {after : List ℕ}
+    {answer : Bool}
+    (cleared : Cleared (w .live-edges) (w .counts .edges .bound) edge answer after)
+  where
+    -- something live was there, so a live edge can be counted off
+    pub edge-counted : answer ≡ true → 0 < w .counts .edges .live
+    edge-counted found = some-live edge (checked .edges-live) (sym (cleared .answers) ∙ found)
 
-  -- and it is removed
-  pub removing-live : (found : answer ≡ true) (long : length after ≡ length (w .live-edges))
-      → RemovedEdge edge w true (without-edge checked edge (sym (cleared .answers) ∙ found) cleared long)
-  removing-live found long = record {
-    answers = sym found ∙ cleared .answers;
-    acts = λ _. removed-acted checked edge (sym (cleared .answers) ∙ found) cleared long;
-    keeps = λ q. true-false refl q;
-  }
+    -- and it is removed
+    pub removing-live : (found : answer ≡ true) (long : length after ≡ length (w .live-edges))
+        → RemovedEdge edge w true (without-edge checked edge (sym (cleared .answers) ∙ found) cleared long)
+    removing-live found long = record {
+      answers = sym found ∙ cleared .answers;
+      acts = λ _. removed-acted checked edge (sym (cleared .answers) ∙ found) cleared long;
+      keeps = λ q. true-false refl q;
+    }
 
-  -- nothing live was there
-  pub removing-none : answer ≡ false
-      → RemovedEdge edge w false (store (w .counts) (w .nodes) (w .edges) (w .live-nodes) after (w .outgoing) (w .incoming))
-  removing-none none = record {
-    answers = sym none ∙ cleared .answers;
-    acts = λ q. true-false q refl;
-    keeps = λ _. ap (λ (l : List ℕ). store (w .counts) (w .nodes) (w .edges) (w .live-nodes) l (w .outgoing) (w .incoming)) (cleared .keeps none);
-  }
+    -- nothing live was there
+    pub removing-none : answer ≡ false
+        → RemovedEdge edge w false (store (w .counts) (w .nodes) (w .edges) (w .live-nodes) after (w .outgoing) (w .incoming))
+    removing-none none = record {
+      answers = sym none ∙ cleared .answers;
+      acts = λ q. true-false q refl;
+      keeps = λ _. ap (λ (l : List ℕ). store (w .counts) (w .nodes) (w .edges) (w .live-nodes) l (w .outgoing) (w .incoming)) (cleared .keeps none);
+    }
 
 -- ---- an edge's payload
 
 module _ {w : Words} {edge : ℕ} (pre : PayloadSettable w edge) (payload : ℕ) (fits : payload < 2 ^ 32) where
+  -- the store afterwards
   abbrev with-payload : Words
   with-payload = store (w .counts) (w .nodes) (set (w .edges) edge payload) (w .live-nodes) (w .live-edges) (w .outgoing) (w .incoming)
 
@@ -161,6 +165,7 @@ module _ {w : Words} {edge : ℕ} (pre : PayloadSettable w edge) (payload : ℕ)
   unfolding plain-of
   payload-comes = comes-to (set-payload (rw (edge-bound-is w) (pre .below)))
 
+  -- no slice grows or shrinks
   payload-lengths : SameLengths w with-payload
   payload-lengths = record {
     nodes = refl;
@@ -171,6 +176,7 @@ module _ {w : Words} {edge : ℕ} (pre : PayloadSettable w edge) (payload : ℕ)
     incoming = refl;
   }
 
+  -- its shape is what the operation makes of the shape
   payload-shape : shape-of with-payload ≡ acted (SetPayload edge payload) (shape-of w)
   unfolding shape-of acted
   payload-shape =

@@ -4,4 +4,5 @@ pub mod Axes
 pub mod Acting
 pub mod Adding
 pub mod Editing
+pub mod Clearing
 pub mod Reads

@@ -26,7 +26,9 @@ module _ {A : Type 0} (f g : ℕ → A) (n : ℕ) where
       ext-getD (g n) (map g (from 0 (n + 1))) (map f (from 0 n) ++ (g n ∷ []))
       (made-length g (n + 1) ∙ sym (length-append (map f (from 0 n)) (g n ∷ []) ∙ ap (λ (k : ℕ). k + 1) (made-length f n)))
       (λ x h. let l : x < n + 1 = omega (arith, made-length g (n + 1)) in
-      made-at g (n + 1) x (g n) l ∙ sym (getD-snoc (map f (from 0 n)) x (g n) (g n) ∙ ap (λ (k : ℕ). cond (eqb x k) (g n) (getD (map f (from 0 n)) x (g n))) (made-length f n) ∙ at x l))
+      made-at g (n + 1) x (g n) l
+      ∙ sym (getD-snoc (map f (from 0 n)) x (g n) (g n)
+      ∙ ap (λ (k : ℕ). cond (eqb x k) (g n) (getD (map f (from 0 n)) x (g n))) (made-length f n) ∙ at x l))
     where
       at : (x : ℕ) → x < n + 1 → cond (eqb x n) (g n) (getD (map f (from 0 n)) x (g n)) ≡ g x
       at x l =
@@ -47,27 +49,35 @@ module _ {A : Type 0} (f g : ℕ → A) (n : ℕ) where
           (λ t. rw t (made-at f n y a k ∙ sym (others y k (eqb-false y x t))))
 
 -- slots, each made of a payload and a live flag
-module _ {A : Type 0} (make : ℕ → Bool → A) (payloads : List ℕ) (flags : List Bool) (n : ℕ) (flagged : length flags ≡ n) (room : n ≤ length payloads) where
-  -- a slot by its payload and its flag
-  abbrev pub slot-at : List ℕ → List Bool → ℕ → A
-  slot-at ps fs x = make (getD ps x 0) (getD fs x false)
+module _
+    {A : Type 0}
+    (make : ℕ → Bool → A)
+    (payloads : List ℕ)
+    (flags : List Bool)
+    (n : ℕ)
+    (flagged : length flags ≡ n)
+    (room : n ≤ length payloads)
+  where
+    -- a slot by its payload and its flag
+    abbrev pub slot-at : List ℕ → List Bool → ℕ → A
+    slot-at ps fs x = make (getD ps x 0) (getD fs x false)
 
-  -- a live slot more
-  pub slots-more : (v : ℕ) → n < length payloads
-      → map (slot-at (set payloads n v) (flags ++ (true ∷ []))) (from 0 (n + 1)) ≡ map (slot-at payloads flags) (from 0 n) ++ (make v true ∷ [])
-  slots-more v more =
-      made-more (slot-at payloads flags) (slot-at (set payloads n v) (flags ++ (true ∷ []))) n
-      (λ x l. let ne : x ≢ n = omega arith in
-      rw (getD-set payloads n x v 0 more, getD-snoc flags x true false, flagged, ne-eqb x n ne))
-      ∙ ap (λ (a : A). map (slot-at payloads flags) (from 0 n) ++ (a ∷ []))
-      (rw (getD-set payloads n n v 0 more, getD-snoc flags n true false, flagged, eq-eqb n n (omega arith)))
+    -- a live slot more
+    pub slots-more : (v : ℕ) → n < length payloads
+        → map (slot-at (set payloads n v) (flags ++ (true ∷ []))) (from 0 (n + 1)) ≡ map (slot-at payloads flags) (from 0 n) ++ (make v true ∷ [])
+    slots-more v more =
+        made-more (slot-at payloads flags) (slot-at (set payloads n v) (flags ++ (true ∷ []))) n
+        (λ x l. let ne : x ≢ n = omega arith in
+        rw (getD-set payloads n x v 0 more, getD-snoc flags x true false, flagged, ne-eqb x n ne))
+        ∙ ap (λ (a : A). map (slot-at payloads flags) (from 0 n) ++ (a ∷ []))
+        (rw (getD-set payloads n n v 0 more, getD-snoc flags n true false, flagged, eq-eqb n n (omega arith)))
 
-  -- one slot with another payload and flag
-  pub slots-set : (e v : ℕ) (b : Bool) → e < n
-      → map (slot-at (set payloads e v) (set flags e b)) (from 0 n) ≡ set (map (slot-at payloads flags) (from 0 n)) e (make v b)
-  slots-set e v b l =
-      let more : e < length payloads = omega arith in
-      let low : e < length flags = omega arith in
-      made-set (slot-at payloads flags) (slot-at (set payloads e v) (set flags e b)) n e (make v b) l
-      (rw (getD-set payloads e e v 0 more, getD-set flags e e b false low, eq-eqb e e (omega arith)))
-      (λ y k ne. rw (getD-set payloads e y v 0 more, getD-set flags e y b false low, ne-eqb y e ne))
+    -- one slot with another payload and flag
+    pub slots-set : (e v : ℕ) (b : Bool) → e < n
+        → map (slot-at (set payloads e v) (set flags e b)) (from 0 n) ≡ set (map (slot-at payloads flags) (from 0 n)) e (make v b)
+    slots-set e v b l =
+        let more : e < length payloads = omega arith in
+        let low : e < length flags = omega arith in
+        made-set (slot-at payloads flags) (slot-at (set payloads e v) (set flags e b)) n e (make v b) l
+        (rw (getD-set payloads e e v 0 more, getD-set flags e e b false low, eq-eqb e e (omega arith)))
+        (λ y k ne. rw (getD-set payloads e y v 0 more, getD-set flags e y b false low, ne-eqb y e ne))

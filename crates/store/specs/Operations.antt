@@ -7,7 +7,7 @@ use mathlib.Core.Bool.{Bool, true, false}
 use mathlib.Core.List.{List}
 use lib.ListN.{length, getD}
 use Rattle.plain.specs.declared.Operation.{Operation}
-use Rattle.plain.specs.declared.Operation.the-variants.{RemoveEdge}
+use Rattle.plain.specs.declared.Operation.the-variants.{RemoveEdge, RemoveNode}
 use Rattle.plain.specs.declared.Slots.{Slots}
 use Rattle.plain.specs.declared.Counts.{Counts}
 use Rattle.plain.specs.Plain.{Plain}
@@ -57,6 +57,10 @@ pub record Removing (operation : Operation) (live : Bool) (w : Words) (answer : 
 abbrev pub RemovedEdge : ℕ → Words → Bool → Words → Type 0
 RemovedEdge edge w answer v = Removing (RemoveEdge edge) (getD (edge-live w) edge false) w answer v
 
+-- A node was removed, if it was live, and its edges with it.
+abbrev pub RemovedNode : ℕ → Words → Bool → Words → Type 0
+RemovedNode node w answer v = Removing (RemoveNode node) (getD (node-live w) node false) w answer v
+
 -- ---- the counts
 
 -- a live slot more
@@ -68,9 +72,9 @@ pub record Raisable (s : Slots) : Type 0 where
   pub bound-below : s .bound < LIMIT
   pub live-within : s .live ≤ s .bound
 
--- a live slot removed
-abbrev pub one-less : Slots → Slots
-one-less s = record { bound = s .bound; base = s .base; live = s .live - 1 }
+-- n live slots removed
+abbrev pub fewer : ℕ → Slots → Slots
+fewer n s = record { bound = s .bound; base = s .base; live = s .live - n }
 
 abbrev pub with-nodes : Slots → Counts → Counts
 with-nodes s counts = record { nodes = s; edges = counts .edges }

@@ -3,15 +3,16 @@
 
 pub mod reads;
 
+use adjacency::clear;
 use adjacency::rings;
 use liveness;
 use plain::Counts;
 use plain::Slots;
-ghost use Prim.Native.Nat.{_<_};
+ghost use Prim.Native.Nat.{_≤_};
 ghost use mathlib.Core.Path.{_≡_};
 ghost use Rattle.plain.specs.declared.Operation.the-variants.{AddNode, AddEdge, SetPayload};
 ghost use Rattle.shape.specs.Checked.{Checked};
-ghost use Rattle.store.specs.Operations.{store, Acted, RemovedEdge, Raisable, one-more as raised, one-less as lowered, NodeAddable, EdgeAddable, PayloadSettable};
+ghost use Rattle.store.specs.Operations.{store, Acted, RemovedEdge, RemovedNode, Raisable, one-more as raised, fewer as lowered, NodeAddable, EdgeAddable, PayloadSettable};
 
 // What removing answers: the counts, and whether something live was there.
 pub struct Removal {
@@ -31,15 +32,15 @@ fn one_more(slots: Slots) -> Slots
     }
 }
 
-// The counts of a kind of slot with a live one less.
-fn one_less(slots: Slots) -> Slots
-    requires { ⌜ 0 < slots .live ⌝ }
-    ensures { λ r. ⌜ r ≡ lowered slots ⌝ }
+// The counts of a kind of slot with n live ones less.
+fn fewer(slots: Slots, n: u32) -> Slots
+    requires { ⌜ n ≤ slots .live ⌝ }
+    ensures { λ r. ⌜ r ≡ lowered n slots ⌝ }
 {
     Slots {
         bound: slots.bound,
         base: slots.base,
-        live: slots.live - 1,
+        live: slots.live - n,
     }
 }
 
@@ -147,11 +148,68 @@ pub fn remove_edge(
     let slots = counts.edges;
     let bound = slots.bound as usize;
     if liveness::clear(live_edges, bound, edge as usize) {
-        let less = one_less(slots);
+        let less = fewer(slots, 1);
         return Removal {
             counts: Counts {
                 nodes: others,
                 edges: less,
+            },
+            removed: true,
+        };
+    }
+    Removal {
+        counts: counts,
+        removed: false,
+    }
+}
+
+// Removes a node, if it is live, and the edges of both its walks. A self-loop stands in both walks and is counted once, since the first clearing leaves it dead.
+// No list is edited.
+pub fn remove_node(
+    counts: Counts,
+    nodes: &[u32],
+    edges: &[u32],
+    live_nodes: &mut [u64],
+    live_edges: &mut [u64],
+    outgoing: &[u32],
+    incoming: &[u32],
+    node: u32,
+) -> Removal
+    requires { ⌜ Checked (store counts (now nodes) (now edges) (now «live_nodes») (now «live_edges») (now outgoing) (now incoming)) ⌝ }
+    ensures { λ r. ⌜ RemovedNode node
+        (store counts (now (nodes .entry)) (now (edges .entry)) (now («live_nodes» .entry)) (now («live_edges» .entry)) (now (outgoing .entry)) (now (incoming .entry)))
+        (r .removed)
+        (store (r .counts) (now (nodes .exit)) (now (edges .exit)) (now («live_nodes» .exit)) (now («live_edges» .exit)) (now (outgoing .exit)) (now (incoming .exit))) ⌝ }
+{
+    let slots = counts.nodes;
+    let others = counts.edges;
+    let bound = slots.bound as usize;
+    let at = node as usize;
+    if liveness::clear(live_nodes, bound, at) {
+        let out = clear::clear_adjacency(
+            outgoing,
+            edges.len(),
+            nodes.len(),
+            counts,
+            live_edges,
+            at,
+            true,
+        );
+        let back = clear::clear_adjacency(
+            incoming,
+            edges.len(),
+            nodes.len(),
+            counts,
+            live_edges,
+            at,
+            true,
+        );
+        let less = fewer(slots, 1);
+        let rest = fewer(others, out + back);
+        return Removal {
+            counts: Counts {
+                nodes: less,
+                edges: rest,
             },
             removed: true,
         };

@@ -1,18 +1,18 @@
--- The ways that additions, the removal of an edge and a new payload end, each by what the program has tested.
+-- The ways that additions, removals and a new payload end, each by what the program has tested.
 use Prim.Native.Nat.{ℕ, _≤_, _<_}
 use mathlib.Core.Path.{_≡_, refl, sym, subst, _∙_}
 use mathlib.Core.Bool.{Bool, true, false}
 use lib.ListN.{length, getD}
-use Rattle.plain.specs.declared.Operation.the-variants.{AddNode, AddEdge, RemoveEdge, SetPayload}
+use Rattle.plain.specs.declared.Operation.the-variants.{AddNode, AddEdge, RemoveEdge, RemoveNode, SetPayload}
 use Rattle.plain.specs.declared.Slots.{Slots}
 use Rattle.plain.specs.declared.Counts.{Counts}
 use Rattle.plain.specs.Numbers.{NONE}
-use Rattle.plain.specs.Laws.Cases.{add-node-full, add-node, add-edge-source-absent, add-edge-source-removed, add-edge-target-absent, add-edge-target-removed, add-edge-full, add-edge, remove-edge-absent, remove-edge-removed, remove-edge, set-payload-absent, set-payload}
+use Rattle.plain.specs.Laws.Cases.{add-node-full, add-node, add-edge-source-absent, add-edge-source-removed, add-edge-target-absent, add-edge-target-removed, add-edge-full, add-edge, remove-edge-absent, remove-edge-removed, remove-edge, remove-node-absent, remove-node-removed, remove-node, set-payload-absent, set-payload}
 use Rattle.plain.specs.Laws.Booleans.{by-test, below-or-not}
 use mathlib.Core.Logic.{⊎-elim}
 use Rattle.shape.specs.Shape.{Words, node-live, edge-live}
 use Rattle.shape.specs.Checked.{Checked}
-use Rattle.store.specs.Operations.{Acted, RemovedEdge}
+use Rattle.store.specs.Operations.{Acted, RemovedEdge, RemovedNode}
 use Rattle.strip.specs.Faults.{fault-of, by-fault}
 use Rattle.strip.specs.Step.{StepOf, absent-node, live-node, removed-node, absent-edge, live-edge, removed-edge, node-bound-of, edge-bound-of, stays, done}
 
@@ -61,7 +61,17 @@ module _ {w : Words} (c : Checked w) where
         subst (λ (n : ℕ). StepOf (AddEdge source target payload) w v 0 n) (edge-bound-of w)
         (done (add-edge (live-node w source s) (live-node w target t) (rw (edge-bound-of w) room)) refl refl a)
 
-  -- ---- remove edge: 1, or 0 where nothing live was there
+  -- ---- removals: 1, or 0 where nothing live was there
+
+  pub node-removed : {v : Words} {answer : Bool} (x : ℕ) → answer ≡ true → RemovedNode x w answer v → StepOf (RemoveNode x) w v 0 1
+  node-removed x was r = done (remove-node (live-node w x (sym (r .answers) ∙ was))) refl refl (r .acts was)
+
+  pub no-node-removed : {v : Words} {answer : Bool} (x : ℕ) → answer ≡ false → RemovedNode x w answer v → StepOf (RemoveNode x) w v 0 0
+  no-node-removed {v} x was-not r =
+      let dead = sym (r .answers) ∙ was-not in
+      subst (λ (u : Words). StepOf (RemoveNode x) w u 0 0) (sym (r .keeps was-not))
+      (⊎-elim (λ l. stays c (remove-node-removed (removed-node w x l dead)) refl) (λ l. stays c (remove-node-absent (absent-node w x l)) refl)
+      (below-or-not x (w .counts .nodes .bound)))
 
   pub edge-removed : {v : Words} {answer : Bool} (e : ℕ) → answer ≡ true → RemovedEdge e w answer v → StepOf (RemoveEdge e) w v 0 1
   edge-removed e was r = done (remove-edge (live-edge w e (sym (r .answers) ∙ was))) refl refl (r .acts was)

@@ -4,7 +4,7 @@ use plain::Counts;
 ghost use mathlib.Core.Path.{_≡_};
 ghost use Prim.Native.Nat.{_*_, _≤_};
 ghost use lib.ListN.{length};
-ghost use Rattle.plain.specs.declared.Operation.the-variants.{AddNode, AddEdge, RemoveEdge, SetPayload};
+ghost use Rattle.plain.specs.declared.Operation.the-variants.{AddNode, AddEdge, RemoveEdge, RemoveNode, SetPayload};
 ghost use Rattle.shape.specs.Checked.{Checked};
 ghost use Rattle.store.specs.Operations.{store};
 ghost use Rattle.liveness.specs.Flags.{live-flags};
@@ -165,6 +165,48 @@ pub fn remove_edge(
         outgoing,
         incoming,
         edge,
+    );
+    let after = removal.counts;
+    if removal.removed {
+        return Stepped {
+            number: 0,
+            value: 1,
+            counts: after,
+        };
+    }
+    Stepped {
+        number: 0,
+        value: 0,
+        counts: after,
+    }
+}
+
+// "Removals: 4." The edges of both walks go with the node.
+pub fn remove_node(
+    counts: Counts,
+    nodes: &[u32],
+    edges: &[u32],
+    live_nodes: &mut [u64],
+    live_edges: &mut [u64],
+    outgoing: &[u32],
+    incoming: &[u32],
+    node: u32,
+) -> Stepped
+    requires { ⌜ Checked (store counts (now nodes) (now edges) (now «live_nodes») (now «live_edges») (now outgoing) (now incoming)) ⌝ }
+    ensures { λ r. ⌜ StepOf (RemoveNode node)
+        (store counts (now (nodes .entry)) (now (edges .entry)) (now («live_nodes» .entry)) (now («live_edges» .entry)) (now (outgoing .entry)) (now (incoming .entry)))
+        (store (r .counts) (now (nodes .exit)) (now (edges .exit)) (now («live_nodes» .exit)) (now («live_edges» .exit)) (now (outgoing .exit)) (now (incoming .exit)))
+        (r .number) (r .value) ⌝ }
+{
+    let removal = store::remove_node(
+        counts,
+        nodes,
+        edges,
+        live_nodes,
+        live_edges,
+        outgoing,
+        incoming,
+        node,
     );
     let after = removal.counts;
     if removal.removed {

@@ -1,7 +1,7 @@
 -- Laws of the live entries, and of what a run takes over and sweeps: neither changes what is walked. Callers cite these and unfold neither.
 use Prim.Native.Nat.{ℕ}
 use mathlib.Core.Path.{_≡_, refl, _∙_}
-use mathlib.Core.Bool.{Bool, true, _&&_}
+use mathlib.Core.Bool.{Bool, true, false, _&&_}
 use mathlib.Core.Option.{Option, none, some}
 use mathlib.Core.List.{List, [], _∷_, _++_}
 use lib.ListN.{length}
@@ -94,3 +94,18 @@ module _ (flags : List Bool) where
   -- so a swept run that took over the ring walks as the node did
   pub live-edited : (a : Adjacency) → live-entries flags (swept flags (taken flags a)) ≡ live-entries flags (raw a)
   live-edited a = live-swept (taken flags a) ∙ live-taken a
+
+  -- a run whose length is a power of two keeps its live entries
+  pub swept-power : (run : List ℕ) → power-of-two (length run) ≡ true → swept flags run ≡ live-entries flags run
+  unfolding swept
+  swept-power run h = rw h
+
+  -- any other is left
+  pub swept-other : (run : List ℕ) → power-of-two (length run) ≡ false → swept flags run ≡ run
+  unfolding swept
+  swept-other run h = rw h
+
+  -- and so is one whose entries are all live
+  pub swept-all : (run : List ℕ) → ((e : ℕ) → In e run → live-in flags e ≡ true) → swept flags run ≡ run
+  unfolding swept
+  swept-all run alive = by-test (power-of-two (length run)) (λ h. rw (h, keep-passing (live-in flags) run alive)) (λ h. rw h)

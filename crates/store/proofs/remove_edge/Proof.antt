@@ -11,15 +11,15 @@ clearing c = c .before .before
 abbrev entry : tie.After-clear → tie.Start
 entry c = c .before .before .before .before .before .before .before .before .before .before .before
 
-one-less-requires : tie.Need-one-less-requires
-one-less-requires c κs =
+fewer-requires : tie.Need-fewer-requires
+fewer-requires c κs =
     let cleared = clearing (c .before) in
     edge-counted (entry cleared .pre) (entry cleared .args .edge) (cleared .clear .ensures) (c .if1 .taken)
 
 returns : tie.Need-returns
 returns c =
     let cleared = clearing (c .before .before) in
-    rw (c .one-less .ensures)
+    rw (c .fewer .ensures)
     (removing-live (entry cleared .pre) (entry cleared .args .edge) (cleared .clear .ensures) (c .before .if1 .taken) (cleared .clear .kept .0))
 
 returns-2 : tie.Need-returns-2
@@ -33,7 +33,7 @@ remove-edge-spec =
     (tie.spec
     (λ c. search needs)
     (λ c κs. search needs)
-    one-less-requires
+    fewer-requires
     (λ c. search needs)
     returns
     (λ c. search needs)

@@ -1,0 +1,11 @@
+mod Pushing
+mod Retaining
+mod Powers
+mod Draining
+mod Starting
+mod Searching
+mod Unlinking
+mod Preparing
+mod Redirecting
+mod Handing
+mod Moving

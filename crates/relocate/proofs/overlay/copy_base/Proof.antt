@@ -1,0 +1,63 @@
+-- `overlay::copy_base` meets its contract. The invariant is `Copying`; the measure is how many entries are to come.
+use Prim.Native.Nat.{_-_, _<_}
+use native.Mathlib.Omega.{arith}
+use borrow.Author.Needs.{needs}
+use Rattle.relocate.proofs.Starting.{Copying, copy-none, copy-start, copy-keep, copy-more, copy-end}
+use Rattle.relocate.proofs.overlay.copy_base.Statement.{statement}
+use Rattle.relocate.proofs.overlay.copy_base.Tie as tie
+use Rattle.relocate.proofs.overlay.copy_base.Reads as reads
+use Rattle.relocate.proofs.overlay.copy_base.Lts as lts
+
+abbrev Inv-loop : tie.InvT-loop
+Inv-loop axis₀ edges nodes counts node live base from to end at₀ axis at = Copying axis₀ axis edges nodes counts live node at end
+
+abbrev μ-loop : tie.MeasureT-loop
+μ-loop axis₀ edges nodes counts node live base from to end at₀ axis at = end - at
+
+-- the branch that was left, and the start
+abbrev left : tie.At-loop Inv-loop μ-loop → tie.Else1 Inv-loop μ-loop
+left c = c .before .before .before
+
+abbrev start : tie.At-loop Inv-loop μ-loop → tie.Start Inv-loop μ-loop
+start c = left c .before .before .before .before
+
+-- the place of the present entry is in the adjacency column
+place-in : (c : tie.In-loop Inv-loop μ-loop) → c .before .loop .at < start (c .before) .args .edges
+place-in c =
+    let pre = start (c .before) .pre in
+    omega (arith, c .before .loop .inv .within, pre .edges-based, pre .editable .edges-within)
+
+loop-again : tie.Need-loop-again Inv-loop μ-loop
+loop-again c =
+    let w = c .before .before in
+    let i = w .before .before .before in
+    copy-more (start (i .before) .pre) (i .loop-test .taken) (left (i .before) .if1 .left) (i .before .loop .inv) (w .keep-one .kept .0) (w .keep-one .ensures)
+
+pub copy-base-spec : {M : Type 1} → statement M
+copy-base-spec =
+    tie.close
+    (tie.spec
+    Inv-loop
+    μ-loop
+    (λ c. search needs)
+    (λ c. copy-none (c .before .before .before .before .pre) (c .if1 .taken))
+    (λ c. search needs)
+    (λ c. search needs)
+    (λ c. search needs)
+    (λ c. search needs)
+    (λ c. search needs)
+    (λ c. search needs)
+    (λ c. search needs)
+    (λ c. search needs)
+    (λ c. search needs)
+    (λ c. copy-start (c .before .before .before .before .before .before .pre) (c .before .before .if1 .left))
+    (λ c. omega (arith, place-in c))
+    (λ c. omega (arith, place-in c))
+    (λ c. omega (arith, place-in c))
+    (λ c. omega (arith, place-in (c .before), c .before .before .loop .inv .long))
+    (λ c κs. let i = c .before .before in copy-keep (start (i .before) .pre) (i .loop-test .taken) (left (i .before) .if1 .left) (i .before .loop .inv))
+    (λ c. let i = c .before .before .before .before .before in omega (arith, place-in i))
+    (λ c. omega arith)
+    loop-again
+    (λ c. c .before .loop .inv .long)
+    (λ c. copy-end (start (c .before) .pre) (c .loop-test .left) (c .before .loop .inv)))

@@ -1,0 +1,39 @@
+-- `overlay::start_run` meets its contract: its stores are those of `start-copy`, and `copy_base` does the rest.
+use native.Mathlib.Omega.{arith}
+use mathlib.Core.Path.{_∙_}
+use borrow.Author.Needs.{needs}
+use lib.ListN.{length-set}
+use Rattle.relocate.proofs.Starting.{start-marked, start-copy, start-end}
+use Rattle.relocate.proofs.overlay.start_run.Statement.{statement}
+use Rattle.relocate.proofs.overlay.start_run.Tie as tie
+use Rattle.relocate.proofs.overlay.start_run.Reads as reads
+use Rattle.relocate.proofs.overlay.start_run.Lts as lts
+
+returns-2 : tie.Need-returns-2
+returns-2 c =
+    let w = c .before .before in
+    let e = w .before .before in
+    start-end (e .before .before .before .before .pre) (e .if1 .left) (w .copy-base .ensures)
+
+pub start-run-spec : {M : Type 1} → statement M
+start-run-spec =
+    tie.close
+    (tie.spec
+    (λ c. search needs)
+    (λ c. search needs)
+    (λ c. search needs)
+    (λ c. search needs)
+    (λ c. search needs)
+    (λ c. search needs)
+    (λ c. search needs)
+    (λ c. search needs)
+    (λ c. search needs)
+    (λ c. search needs)
+    (λ c. start-marked (c .before .before .before .before .pre) (c .if1 .taken))
+    (λ c. search needs)
+    (λ c. search needs)
+    (λ c. search needs)
+    (λ c. simp length-set (omega arith))
+    (λ c κs. let e = c .before in start-copy (e .before .before .before .before .pre) (e .if1 .left))
+    (λ c. c .before .before .copy-base .kept .0 ∙ simp length-set)
+    returns-2)

@@ -1,0 +1,21 @@
+-- `overlay::take_over` meets its contract, from what `start_run` and `drain` ensure.
+use borrow.Author.Needs.{needs}
+use Rattle.relocate.proofs.Starting.{take-drain, take-end}
+use Rattle.relocate.proofs.overlay.take_over.Statement.{statement}
+use Rattle.relocate.proofs.overlay.take_over.Tie as tie
+use Rattle.relocate.proofs.overlay.take_over.Reads as reads
+use Rattle.relocate.proofs.overlay.take_over.Lts as lts
+
+drain-requires : tie.Need-drain-requires
+drain-requires c κs =
+    let w = c .before .before .before in
+    take-drain (w .before .before .before .before .pre) (w .start-run .ensures)
+
+returns : tie.Need-returns
+returns c =
+    let d = c .before .before in
+    let w = d .before .before .before .before in
+    take-end (w .before .before .before .before .pre) (w .start-run .ensures) (d .drain .ensures)
+
+pub take-over-spec : {M : Type 1} → statement M
+take-over-spec = tie.close (tie.spec (λ c κs. search needs) drain-requires (λ c. search needs) returns)

@@ -1,0 +1,43 @@
+-- `runs::unlink` meets its contract: the stores of its two ways are those of `unlink-last` and `unlink-inner`.
+use native.Mathlib.Omega.{arith}
+use borrow.Author.Needs.{needs}
+use lib.ListN.{length-set}
+use Rattle.relocate.proofs.Unlinking.{unlink-full, unlink-entry, unlink-before, unlink-last, unlink-inner}
+use Rattle.relocate.proofs.runs.unlink.Statement.{statement}
+use Rattle.relocate.proofs.runs.unlink.Tie as tie
+use Rattle.relocate.proofs.runs.unlink.Reads as reads
+use Rattle.relocate.proofs.runs.unlink.Lts as lts
+
+pub unlink-spec : {M : Type 1} → statement M
+unlink-spec =
+    tie.close
+    (tie.spec
+    (λ c. search needs)
+    (λ c. search needs)
+    (λ c. search needs)
+    (λ c. search needs)
+    (λ c. search needs)
+    (λ c. search needs)
+    (λ c. search needs)
+    (λ c. search needs)
+    (λ c. search needs)
+    (λ c. search needs)
+    (λ c. search needs)
+    (λ c. search needs)
+    (λ c. search needs)
+    (λ c. search needs)
+    (λ c. omega (arith, unlink-full (c .before .pre)))
+    (λ c. search needs)
+    (λ c. search needs)
+    (λ c. search needs)
+    (λ c. simp length-set (omega (arith, unlink-entry (c .before .before .pre))))
+    (λ c. search needs)
+    (λ c. simp length-set (omega (arith, unlink-before (c .before .before .pre))))
+    (λ c. search needs)
+    (λ c. simp length-set (omega arith))
+    (λ c. search needs)
+    (λ c. simp length-set (omega arith))
+    (λ c. search needs)
+    (λ c. unlink-last (c .before .before .before .before .pre) (c .if1 .taken))
+    (λ c. search needs)
+    (λ c. unlink-inner (c .before .before .before .before .pre) (c .if1 .left)))

@@ -1,0 +1,108 @@
+-- What the functions that edit one node's run ask and promise, of the words of an axis at entry, `ws`, and at exit, `vs`. All of them promise an `Edited`: which
+-- run the node has now, and that everything else is as before.
+pub mod Laws
+use Prim.Native.Nat.{ℕ, _+_, _*_, _≤_, _<_}
+use mathlib.Core.Path.{_≡_}
+use mathlib.Core.Bool.{Bool, true, false, cond}
+use mathlib.Core.Logic.{_≢_}
+use mathlib.Core.Option.{some}
+use mathlib.Core.List.{List, [], _∷_, _++_}
+use lib.ListN.{length, getD}
+use lib.Dec.{eqb}
+use Rattle.plain.specs.declared.Counts.{Counts}
+use Rattle.plain.specs.Numbers.{NONE, LIMIT}
+use Rattle.plain.specs.Lists.{without}
+use Rattle.liveness.specs.Flags.{live-flags}
+use Rattle.shape.specs.Columns.{Sized, cell, link-at, mark-at}
+use Rattle.shape.specs.Chains.{In, chain}
+use Rattle.shape.specs.Shape.{live-in, run-list, run-of}
+use Rattle.shape.specs.Steps.{live-entries, swept}
+use Rattle.shape.specs.Checked.{Runs}
+
+-- What it takes to edit the run of a node.
+pub record Editable (ws : List ℕ) (ce cn : ℕ) (counts : Counts) (node : ℕ) : Type 0 where
+  pub sized : Sized ws ce cn
+  pub runs : Runs ws ce cn (counts .nodes .bound) (counts .edges .bound)
+  pub node-below : node < counts .nodes .bound
+  pub nodes-within : counts .nodes .bound ≤ cn
+  pub edges-within : counts .edges .bound ≤ ce
+
+-- The node's run is now ys.
+pub record Edited (ws vs : List ℕ) (ce cn : ℕ) (counts : Counts) (node : ℕ) (ys : List ℕ) : Type 0 where
+  pub here : run-of vs ce cn node ≡ some ys
+  pub others : (x : ℕ) → x < counts .nodes .bound → x ≢ node → run-of vs ce cn x ≡ run-of ws ce cn x
+  pub editable : Editable vs ce cn counts node
+  -- ends, adjacency and ring links are as before
+  pub below : (i : ℕ) → i < 3 * ce → getD vs i 0 ≡ getD ws i 0
+  -- so is everything past the run links but first, tail, count and mark of the node
+  pub above : (i : ℕ) → 4 * ce ≤ i → i ≢ 4 * ce + cn + node → i ≢ 4 * ce + 2 * cn + node → i ≢ 4 * ce + 3 * cn + node → i ≢ 4 * ce + 4 * cn + node
+      → getD vs i 0 ≡ getD ws i 0
+
+-- More entries stand at the end of the node's run; only links of its entries are written.
+pub record Grown (ws vs : List ℕ) (ce cn : ℕ) (counts : Counts) (node : ℕ) (more : List ℕ) : Type 0 where
+  pub edited : Edited ws vs ce cn counts node (run-list ws ce cn node ++ more)
+  pub links : (e : ℕ) → e < ce → (In e (run-list ws ce cn node) → ⊥) → link-at vs ce e ≡ link-at ws ce e
+
+-- What it takes to append an entry to the run of a node: it has one, and the entry is an edge that is in no run.
+pub record Pushable (ws : List ℕ) (ce cn : ℕ) (counts : Counts) (node e : ℕ) : Type 0 where
+  pub editable : Editable ws ce cn counts node
+  pub marked : mark-at ws ce cn node ≢ 0
+  pub edge-below : e < counts .edges .bound
+  pub new : (x : ℕ) → x < counts .nodes .bound → In e (run-list ws ce cn x) → ⊥
+
+-- What it takes to append an entry where it is live: only then it has to be in no run.
+pub record Keepable (ws : List ℕ) (ce cn : ℕ) (counts : Counts) (node : ℕ) (live : List ℕ) (e : ℕ) : Type 0 where
+  pub editable : Editable ws ce cn counts node
+  pub marked : mark-at ws ce cn node ≢ 0
+  pub edge-below : e < counts .edges .bound
+  pub live-long : counts .edges .bound ≤ 64 * length live
+  pub new : live-in (live-flags live (counts .edges .bound)) e ≡ true → (x : ℕ) → x < counts .nodes .bound → In e (run-list ws ce cn x) → ⊥
+
+-- What it takes to take the dead entries out of the run of a node.
+pub record Retainable (ws : List ℕ) (ce cn : ℕ) (counts : Counts) (node : ℕ) (live : List ℕ) : Type 0 where
+  pub editable : Editable ws ce cn counts node
+  pub marked : mark-at ws ce cn node ≢ 0
+  pub live-long : counts .edges .bound ≤ 64 * length live
+
+-- The live entries of the run are left.
+abbrev pub Retained : (ws vs : List ℕ) (ce cn : ℕ) (counts : Counts) (node : ℕ) (live : List ℕ) → Type 0
+Retained ws vs ce cn counts node live =
+    Edited ws vs ce cn counts node (live-entries (live-flags live (counts .edges .bound)) (run-list ws ce cn node))
+
+-- What it takes to sweep the run of a node: `tombstoned` says whether some edge may be removed.
+pub record Sweepable (ws : List ℕ) (ce cn : ℕ) (counts : Counts) (node : ℕ) (live : List ℕ) (tombstoned : Bool) : Type 0 where
+  pub retainable : Retainable ws ce cn counts node live
+  pub all-live : tombstoned ≡ false → (e : ℕ) → e < counts .edges .bound → live-in (live-flags live (counts .edges .bound)) e ≡ true
+
+-- The run is swept.
+abbrev pub Swept : (ws vs : List ℕ) (ce cn : ℕ) (counts : Counts) (node : ℕ) (live : List ℕ) → Type 0
+Swept ws vs ce cn counts node live = Edited ws vs ce cn counts node (swept (live-flags live (counts .edges .bound)) (run-list ws ce cn node))
+
+-- the entry before e in a list, NONE where there is none
+unfoldable pub before-in : ℕ → List ℕ → ℕ
+before-in e [] = NONE
+before-in e (x ∷ []) = NONE
+before-in e (x ∷ y ∷ l) = cond (eqb e y) x (before-in e (y ∷ l))
+
+-- What it takes to go along a chain of links: it is not empty, and its entries are edges.
+pub record Searchable (ws : List ℕ) (ce first n : ℕ) : Type 0 where
+  pub edges-within : ce ≤ LIMIT
+  pub room : 4 * ce ≤ length ws
+  pub full : 0 < n
+  pub below : (e : ℕ) → In e (chain (cell ws (3 * ce)) n first) → e < ce
+
+-- What it takes to take an entry out of the run of a node: the node has one.
+pub record Cuttable (ws : List ℕ) (ce cn : ℕ) (counts : Counts) (node : ℕ) : Type 0 where
+  pub editable : Editable ws ce cn counts node
+  pub marked : mark-at ws ce cn node ≢ 0
+
+-- What it takes to unlink an entry that is known to stand after `before`.
+pub record Unlinkable (ws : List ℕ) (ce cn : ℕ) (counts : Counts) (node before e : ℕ) : Type 0 where
+  pub editable : Editable ws ce cn counts node
+  pub marked : mark-at ws ce cn node ≢ 0
+  pub follows : before ≡ before-in e (run-list ws ce cn node)
+  pub some-before : before ≢ NONE
+
+-- The run is without the entry.
+abbrev pub TakenOut : (ws vs : List ℕ) (ce cn : ℕ) (counts : Counts) (node e : ℕ) → Type 0
+TakenOut ws vs ce cn counts node e = Edited ws vs ce cn counts node (without e (run-list ws ce cn node))

@@ -1,0 +1,121 @@
+// The overlay: a node whose edges move gets a run, from the live entries of its base part, and the run takes over the ring. From then on the node is read from
+// its run in place of the base part. What a call asks and promises of the words is a record of specs/Overlay.antt.
+
+use crate::runs::keep_one;
+use crate::runs::sweep;
+use adjacency::rings::detach;
+use adjacency::rings::ring_ends;
+use plain::Counts;
+use plain::NONE;
+ghost use Rattle.relocate.specs.Overlay.{Ready, Copyable, Copied, Started, Drainable, Drained, TakenOver, Preparable, Prepared};
+
+// Appends the live edges of a node's base part to its run, which is empty.
+fn copy_base(
+    axis: &mut [u32],
+    edges: usize,
+    nodes: usize,
+    counts: Counts,
+    node: usize,
+    live: &[u64],
+)
+    requires { ⌜ Copyable (now axis) edges nodes counts (now live) node ⌝ }
+    ensures { λ _. ⌜ Copied (now (axis .entry)) (now (axis .exit)) edges nodes counts (now (live .entry)) node ⌝ }
+{
+    let base = counts.nodes.base as usize;
+    if base <= node {
+        return;
+    }
+    let from = 4 * edges + 5 * nodes + node;
+    let to = from + 1;
+    let end = axis[to];
+    let mut at = axis[from];
+    while at < end {
+        let place = edges + at as usize;
+        let entry = axis[place];
+        keep_one(axis, edges, nodes, counts, node, live, entry);
+        at += 1;
+    }
+}
+
+// Gives a node that has no run one, from the live edges of its base part.
+pub fn start_run(
+    axis: &mut [u32],
+    edges: usize,
+    nodes: usize,
+    counts: Counts,
+    node: usize,
+    live: &[u64],
+)
+    requires { ⌜ Ready (now axis) edges nodes counts (now live) node ⌝ }
+    ensures { λ _. ⌜ Started (now (axis .entry)) (now (axis .exit)) edges nodes counts (now (live .entry)) node ⌝ }
+{
+    let mark = 4 * edges + 4 * nodes + node;
+    let count = 4 * edges + 3 * nodes + node;
+    if axis[mark] != 0 {
+        return;
+    }
+    axis[mark] = 1;
+    axis[count] = 0;
+    copy_base(axis, edges, nodes, counts, node, live);
+}
+
+// Moves the live edges of a node's ring to the end of its run, and forgets the ring.
+pub fn drain(
+    axis: &mut [u32],
+    edges: usize,
+    nodes: usize,
+    counts: Counts,
+    node: usize,
+    live: &[u64],
+)
+    requires { ⌜ Drainable (now axis) edges nodes counts (now live) node ⌝ }
+    ensures { λ _. ⌜ Drained (now (axis .entry)) (now (axis .exit)) edges nodes counts (now (live .entry)) node ⌝ }
+{
+    let ends = ring_ends(axis, edges, node);
+    let last = ends.last;
+    let mut next = ends.first;
+    if last == NONE {
+        return;
+    }
+    while next != last {
+        let entry = next;
+        let at = 2 * edges + entry as usize;
+        next = axis[at];
+        keep_one(axis, edges, nodes, counts, node, live, entry);
+    }
+    keep_one(axis, edges, nodes, counts, node, live, next);
+    detach(axis, edges, node);
+}
+
+// Makes a node's run take over its base part, where it had no run, and its ring.
+pub fn take_over(
+    axis: &mut [u32],
+    edges: usize,
+    nodes: usize,
+    counts: Counts,
+    node: usize,
+    live: &[u64],
+)
+    requires { ⌜ Ready (now axis) edges nodes counts (now live) node ⌝ }
+    ensures { λ _. ⌜ TakenOver (now (axis .entry)) (now (axis .exit)) edges nodes counts (now (live .entry)) node ⌝ }
+{
+    start_run(axis, edges, nodes, counts, node, live);
+    drain(axis, edges, nodes, counts, node, live);
+}
+
+// Makes a node's run take over its base part and ring, and sweeps it: what comes before an edit of the run.
+pub fn prepare(
+    axis: &mut [u32],
+    edges: usize,
+    nodes: usize,
+    counts: Counts,
+    node: usize,
+    live: &[u64],
+    tombstoned: bool,
+)
+    requires { ⌜ Preparable (now axis) edges nodes counts (now live) tombstoned node ⌝ }
+    ensures { λ _. ⌜ Prepared (now (axis .entry)) (now (axis .exit)) edges nodes counts (now (live .entry)) node ⌝ }
+{
+    take_over(axis, edges, nodes, counts, node, live);
+    sweep(axis, edges, nodes, counts, node, live, tombstoned);
+}

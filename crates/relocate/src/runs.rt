@@ -1,0 +1,188 @@
+// The run of one node: a chain of edges with first, last and length, and a mark that the node has it. What a call asks and promises of the words is a record of
+// specs/Runs.antt; `edges` and `nodes` are the capacities of the axis.
+
+use liveness::is_live;
+use plain::Counts;
+use plain::NONE;
+ghost use mathlib.Core.Path.{_≡_};
+ghost use mathlib.Core.List.{[], _∷_};
+ghost use Prim.Native.Nat.{_*_, _≤_};
+ghost use Rattle.plain.specs.Numbers.{LIMIT};
+ghost use Rattle.liveness.specs.Flags.{live-flags};
+ghost use Rattle.shape.specs.Columns.{cell};
+ghost use Rattle.shape.specs.Chains.{chain};
+ghost use Rattle.shape.specs.Steps.{live-entries, power-of-two};
+ghost use Rattle.relocate.specs.Runs.{Grown, Pushable, Keepable, Retainable, Retained, Sweepable, Swept, before-in, Searchable, Unlinkable, Cuttable, TakenOut};
+
+// Appends an edge that is in no run to the run of a node.
+pub fn push(axis: &mut [u32], edges: usize, nodes: usize, counts: Counts, node: usize, entry: u32)
+    requires { ⌜ Pushable (now axis) edges nodes counts node entry ⌝ }
+    ensures { λ _. ⌜ Grown (now (axis .entry)) (now (axis .exit)) edges nodes counts node (entry ∷ []) ⌝ }
+{
+    let first = 4 * edges + nodes + node;
+    let tail = 4 * edges + 2 * nodes + node;
+    let count = 4 * edges + 3 * nodes + node;
+    let length = axis[count];
+    let last = axis[tail];
+    axis[count] = length + 1;
+    axis[tail] = entry;
+    if length == 0 {
+        axis[first] = entry;
+        return;
+    }
+    axis[3 * edges + last as usize] = entry;
+}
+
+// Appends an edge to the run of a node where it is live.
+pub fn keep_one(
+    axis: &mut [u32],
+    edges: usize,
+    nodes: usize,
+    counts: Counts,
+    node: usize,
+    live: &[u64],
+    entry: u32,
+)
+    requires { ⌜ Keepable (now axis) edges nodes counts node (now live) entry ⌝ }
+    ensures { λ _. ⌜ Grown (now (axis .entry)) (now (axis .exit)) edges nodes counts node (live-entries (live-flags (now (live .entry)) (counts .edges .bound)) (entry ∷ [])) ⌝ }
+{
+    let bound = counts.edges.bound as usize;
+    let slot = entry as usize;
+    if is_live(live, bound, slot) {
+        push(axis, edges, nodes, counts, node, entry);
+    }
+}
+
+// Takes the dead edges out of the run of a node.
+pub fn retain(
+    axis: &mut [u32],
+    edges: usize,
+    nodes: usize,
+    counts: Counts,
+    node: usize,
+    live: &[u64],
+)
+    requires { ⌜ Retainable (now axis) edges nodes counts node (now live) ⌝ }
+    ensures { λ _. ⌜ Retained (now (axis .entry)) (now (axis .exit)) edges nodes counts node (now (live .entry)) ⌝ }
+{
+    let count = 4 * edges + 3 * nodes + node;
+    let mut left = axis[count];
+    let mut next = axis[4 * edges + nodes + node];
+    axis[count] = 0;
+    while left > 0 {
+        let entry = next;
+        let at = 3 * edges + entry as usize;
+        next = axis[at];
+        left -= 1;
+        keep_one(axis, edges, nodes, counts, node, live, entry);
+    }
+}
+
+// Whether a length is 1, 2, 4, 8, ..
+fn is_power_of_two(length: u32) -> bool
+    requires { ⌜ length ≤ LIMIT ⌝ }
+    ensures { λ r. ⌜ r ≡ power-of-two length ⌝ }
+{
+    let mut power: u32 = 1;
+    while power < length {
+        power = 2 * power;
+    }
+    power == length
+}
+
+// Takes the dead edges out of the run of a node where some edge is removed and the run's length is a power of two, so that the work is a constant for each entry
+// that the run has taken.
+pub fn sweep(
+    axis: &mut [u32],
+    edges: usize,
+    nodes: usize,
+    counts: Counts,
+    node: usize,
+    live: &[u64],
+    tombstoned: bool,
+)
+    requires { ⌜ Sweepable (now axis) edges nodes counts node (now live) tombstoned ⌝ }
+    ensures { λ _. ⌜ Swept (now (axis .entry)) (now (axis .exit)) edges nodes counts node (now (live .entry)) ⌝ }
+{
+    if !tombstoned {
+        return;
+    }
+    let count = 4 * edges + 3 * nodes + node;
+    if is_power_of_two(axis[count]) {
+        retain(axis, edges, nodes, counts, node, live);
+    }
+}
+
+// The entry that stands before `entry` in the chain of `length` entries from `first` on, or NONE where there is none.
+fn find_before(axis: &[u32], edges: usize, first: u32, length: u32, entry: u32) -> u32
+    requires { ⌜ Searchable (now axis) edges first length ⌝ }
+    ensures { λ r. ⌜ r ≡ before-in entry (chain (cell (now (axis .entry)) (3 * edges)) length first) ⌝ }
+{
+    let mut before = first;
+    let mut left = length - 1;
+    while left > 0 {
+        let at = 3 * edges + before as usize;
+        let next = axis[at];
+        if next == entry {
+            return before;
+        }
+        before = next;
+        left -= 1;
+    }
+    NONE
+}
+
+// Takes the edge that stands after `before` in the run of a node out of it.
+fn unlink(
+    axis: &mut [u32],
+    edges: usize,
+    nodes: usize,
+    counts: Counts,
+    node: usize,
+    before: u32,
+    entry: u32,
+)
+    requires { ⌜ Unlinkable (now axis) edges nodes counts node before entry ⌝ }
+    ensures { λ _. ⌜ TakenOut (now (axis .entry)) (now (axis .exit)) edges nodes counts node entry ⌝ }
+{
+    let tail = 4 * edges + 2 * nodes + node;
+    let count = 4 * edges + 3 * nodes + node;
+    let at = 3 * edges + before as usize;
+    let after = 3 * edges + entry as usize;
+    axis[count] = axis[count] - 1;
+    axis[at] = axis[after];
+    if axis[tail] == entry {
+        axis[tail] = before;
+    }
+}
+
+// Takes an edge out of the run of a node, where it is there.
+pub fn take_out(
+    axis: &mut [u32],
+    edges: usize,
+    nodes: usize,
+    counts: Counts,
+    node: usize,
+    entry: u32,
+)
+    requires { ⌜ Cuttable (now axis) edges nodes counts node ⌝ }
+    ensures { λ _. ⌜ TakenOut (now (axis .entry)) (now (axis .exit)) edges nodes counts node entry ⌝ }
+{
+    let head = 4 * edges + nodes + node;
+    let count = 4 * edges + 3 * nodes + node;
+    let length = axis[count];
+    let first = axis[head];
+    if length == 0 {
+        return;
+    }
+    if first == entry {
+        let after = 3 * edges + first as usize;
+        axis[count] = length - 1;
+        axis[head] = axis[after];
+        return;
+    }
+    let before = find_before(axis, edges, first, length, entry);
+    if before != NONE {
+        unlink(axis, edges, nodes, counts, node, before, entry);
+    }
+}
