@@ -39,6 +39,7 @@ const BESIDE: [(&str, &str); 4] = [
 ];
 
 fn main() {
+    link_port();
     println!("cargo::rerun-if-env-changed=CFGLIB_SRC");
     let manifest = PathBuf::from(env::var_os("CARGO_MANIFEST_DIR").expect("set by cargo"));
     let oracle = manifest
@@ -72,6 +73,21 @@ fn main() {
         tree.join("mod.rs")
     );
     fs::write(out.join("graph.rs"), declaration).expect("OUT_DIR can be written");
+}
+
+/// The proved code: with `ORACLE_PORT`, the static library of crate `layers` is
+/// linked and `cfg(ported)` set.
+fn link_port() {
+    println!("cargo::rustc-check-cfg=cfg(ported)");
+    println!("cargo::rerun-if-env-changed=ORACLE_PORT");
+    let Some(library) = env::var_os("ORACLE_PORT").map(PathBuf::from) else {
+        return;
+    };
+    let directory = library.parent().expect("a file has a directory");
+    println!("cargo::rerun-if-changed={}", library.display());
+    println!("cargo::rustc-link-search=native={}", directory.display());
+    println!("cargo::rustc-link-lib=static=layers");
+    println!("cargo::rustc-cfg=ported");
 }
 
 fn link(file: &Path, place: &Path) {

@@ -11,8 +11,12 @@ use crate::generate::{Generator, MIXES, SHORT};
 use crate::graph::store::Graph;
 use crate::graph::traverse::TraversalDirection::Outgoing;
 use crate::model::{Capacities, DIRECTIONS};
+#[cfg(ported)]
+use crate::ported::Ported;
 use crate::rng::Rng;
 use crate::rust_store::{RustStore, edge, walk};
+#[cfg(ported)]
+use crate::sequences::Sides;
 use crate::tally::{Difference, Tally, Thing};
 
 type Store = Graph<u32, u32>;
@@ -222,6 +226,10 @@ fn compare_foreign(rust: &RustStore, rng: &mut Rng, tally: &mut Tally) -> Result
         graph,
         capacities: rust.capacities,
     });
+    #[cfg(ported)]
+    let mut ported = Ported::foreign(trio.model.clone(), trio.rust.clone());
+    #[cfg(ported)]
+    ported.compare_everything(tally)?;
     let mut generator = Generator {
         mix: rng.pick(&MIXES),
         rng,
@@ -231,6 +239,8 @@ fn compare_foreign(rust: &RustStore, rng: &mut Rng, tally: &mut Tally) -> Result
         trio.compare_everything(tally)?;
         let step = generator.step(&trio.model);
         trio.step(&step, tally)?;
+        #[cfg(ported)]
+        ported.compare_step(&step, true, tally)?;
     }
     trio.compare_everything(tally)?;
     let put_in_slot_order = trio.walks_differ_from_settled();

@@ -7,10 +7,9 @@ use crate::graph::store::Renumbering;
 use crate::image;
 use crate::model::{self, Capacities, Compaction, DIRECTIONS, Model, NONE, Operation, Plain};
 use crate::rust_store::{self, LOOKUPS, RustStore, edge, node};
+use crate::sequences::{Same, Sides};
 use crate::shape::Shape;
 use crate::tally::{Difference, Tally, Thing};
-
-type Same = Result<(), Difference>;
 
 #[derive(Clone)]
 pub struct Trio {
@@ -28,14 +27,14 @@ pub struct Trio {
 
 /// Slots that an operation names, and those whose lists or records it changes.
 #[derive(Clone, Default)]
-struct Touched {
-    nodes: Vec<u32>,
+pub struct Touched {
+    pub nodes: Vec<u32>,
     edges: Vec<u32>,
 }
 
 impl Touched {
     /// Found in the lists before the operation; a new slot will be the bound.
-    fn by(operation: Operation, plain: &Plain) -> Self {
+    pub fn by(operation: Operation, plain: &Plain) -> Self {
         let (mut nodes, mut edges) = (Vec::new(), Vec::new());
         match operation {
             Operation::AddNode { .. } => nodes.push(plain.nodes.len() as u32),
@@ -68,6 +67,26 @@ impl Touched {
         nodes.sort_unstable();
         nodes.dedup();
         Self { nodes, edges }
+    }
+}
+
+impl Sides for Trio {
+    const NAME: &str = "sequences";
+
+    fn fresh(capacities: Capacities) -> Self {
+        Self::fresh(capacities)
+    }
+
+    fn model(&self) -> &Model {
+        &self.model
+    }
+
+    fn compare_step(&mut self, step: &Step, everything: bool, tally: &mut Tally) -> Same {
+        self.step(step, tally)?;
+        match step {
+            Step::Operation(_) if !everything => self.compare_touched(tally),
+            _ => self.compare_everything(tally),
+        }
     }
 }
 

@@ -12,6 +12,8 @@ mod maps;
 mod model;
 mod pairs;
 mod panics;
+#[cfg(ported)]
+mod ported;
 mod record;
 mod rng;
 mod rust_store;
@@ -31,6 +33,7 @@ use std::path::PathBuf;
 use std::process::ExitCode;
 use std::{env, fs};
 
+use compare::Trio;
 use tally::{Difference, Tally};
 
 const USAGE: &str = "usage: oracle/run [--operations N] [--seed S] [--depth D] [--record DIR]";
@@ -104,21 +107,22 @@ fn compare(options: &Options) -> bool {
     } = options;
     println!("seed {seed}");
     let mut tally = Tally::new();
-    sequences::compare_random(operations, seed, &mut tally);
-    sequences::compare_exhaustive(depth, &mut tally);
+    sequences::compare_random::<Trio>(operations, seed, &mut tally);
+    sequences::compare_exhaustive::<Trio>(depth, &mut tally);
 
-    type Part = fn(u64, &mut Tally) -> Result<(), Difference>;
-    let parts: [Part; 7] = [
+    type Part = fn(&Options, &mut Tally) -> Result<(), Difference>;
+    let parts: [Part; 8] = [
+        compare_ported,
         |_, tally| examples::compare(tally),
-        |seed, tally| texts::compare(200, seed, tally),
-        |seed, tally| maps::compare(20_000, seed, tally),
-        |seed, tally| pairs::compare(2_000, seed, tally),
-        |seed, tally| panics::compare(1_000, seed, tally),
-        |seed, tally| compare_checked(1_000, seed, tally),
+        |options, tally| texts::compare(200, options.seed, tally),
+        |options, tally| maps::compare(20_000, options.seed, tally),
+        |options, tally| pairs::compare(2_000, options.seed, tally),
+        |options, tally| panics::compare(1_000, options.seed, tally),
+        |options, tally| compare_checked(1_000, options.seed, tally),
         |_, tally| record::compare(tally),
     ];
     for part in parts {
-        if let Err(difference) = part(seed, &mut tally) {
+        if let Err(difference) = part(options, &mut tally) {
             tally.report(&difference);
         }
     }
@@ -137,5 +141,19 @@ use checked::compare as compare_checked;
 #[cfg(not(feature = "serde"))]
 fn compare_checked(_: usize, _: u64, _: &mut Tally) -> Result<(), Difference> {
     println!("validate.rs is not compiled: built without Debian's packages of serde");
+    Ok(())
+}
+
+/// The proved code makes as many random operations, and all sequences of one step
+/// less.
+#[cfg(ported)]
+fn compare_ported(options: &Options, tally: &mut Tally) -> Result<(), Difference> {
+    let depth = options.depth.saturating_sub(1);
+    ported::compare(options.operations, depth, options.seed, tally)
+}
+
+#[cfg(not(ported))]
+fn compare_ported(_: &Options, _: &mut Tally) -> Result<(), Difference> {
+    println!("the port is not compared: built without the static library of crate layers");
     Ok(())
 }

@@ -9,7 +9,7 @@ use crate::rust_store;
 use crate::tally::{Difference, Tally, Thing};
 
 /// A map of up to seven slots; a third of the time the identity on them.
-fn map(rng: &mut Rng) -> Vec<u32> {
+pub fn map(rng: &mut Rng) -> Vec<u32> {
     let length = rng.below(8) as u32;
     if rng.one_in(3) {
         return (0..length).collect();

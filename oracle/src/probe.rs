@@ -7,6 +7,7 @@
 use crate::graph::traverse::TraversalDirection;
 use crate::shape::Part;
 
+use super::adjacency::compress;
 use super::{EdgeRecord, Graph, NodeId, Renumbering};
 
 impl Graph<u32, u32> {
@@ -40,6 +41,20 @@ impl Graph<u32, u32> {
     /// Both index arrays, out then in: what the port leaves in the work slice.
     pub(crate) fn index(&self) -> Vec<u32> {
         [&*self.out_edges, &*self.in_edges].concat()
+    }
+
+    /// Offsets and joined lists of the compressed base, out then in.
+    pub(crate) fn compressed_base(&self) -> [(&[u32], &[u32]); 2] {
+        [
+            (&self.out_offsets, &self.out_edges),
+            (&self.in_offsets, &self.in_edges),
+        ]
+    }
+
+    /// What `compress` makes of the base's edges: offsets and joined lists, each
+    /// list in slot order.
+    pub(crate) fn compress_again(&self, direction: TraversalDirection) -> (Vec<u32>, Vec<u32>) {
+        compress(&self.base_edges, self.base_nodes.len(), direction)
     }
 
     /// A store whose compressed base holds these nodes, edges (source, target,

@@ -4,14 +4,27 @@
 use std::fmt::{self, Write};
 
 use crate::calls::hexadecimal;
-use crate::compare::Trio;
 use crate::generate::{Generator, LONG, MEDIUM, MIXES, SHORT, Size, Step};
-use crate::model::Capacities;
+use crate::model::{Capacities, Model};
 use crate::panics::caught;
 use crate::rng::Rng;
 use crate::tally::{Difference, Tally, Thing};
 
-type Same = Result<(), Difference>;
+pub type Same = Result<(), Difference>;
+
+/// What is compared side by side: every step is made on all sides.
+pub trait Sides: Clone {
+    /// How the output calls the sequences.
+    const NAME: &str;
+
+    fn fresh(capacities: Capacities) -> Self;
+
+    /// What steps are chosen by.
+    fn model(&self) -> &Model;
+
+    /// Makes a step and compares everything, or what the step touched.
+    fn compare_step(&mut self, step: &Step, everything: bool, tally: &mut Tally) -> Same;
+}
 
 /// A sequence that shows a difference, none of whose steps can be dropped.
 pub struct Finding {
@@ -41,22 +54,19 @@ impl fmt::Display for Finding {
 
 /// Makes the steps; compares everything after every so many and what a step
 /// touched in between.
-fn replay(capacities: Capacities, steps: &[Step], every: usize, tally: &mut Tally) -> Same {
+fn replay<S: Sides>(
+    capacities: Capacities,
+    steps: &[Step],
+    every: usize,
+    tally: &mut Tally,
+) -> Same {
     guarded(|| {
-        let mut trio = Trio::fresh(capacities);
+        let mut sides = S::fresh(capacities);
         for (made, step) in (1..).zip(steps) {
-            compare_step(&mut trio, step, made % every == 0, tally)?;
+            sides.compare_step(step, made % every == 0, tally)?;
         }
         Ok(())
     })
-}
-
-fn compare_step(trio: &mut Trio, step: &Step, everything: bool, tally: &mut Tally) -> Same {
-    trio.step(step, tally)?;
-    match step {
-        Step::Operation(_) if !everything => trio.compare_touched(tally),
-        _ => trio.compare_everything(tally),
-    }
 }
 
 /// A panic of the Rust where none is awaited is a difference too.
@@ -69,7 +79,7 @@ fn guarded(action: impl FnOnce() -> Same) -> Same {
 
 /// Drops steps, from front to back, while a difference stays: half of them at a
 /// time, then a quarter and so on, then single ones until none can be dropped.
-fn shrink(capacities: Capacities, mut steps: Vec<Step>, first: Difference) -> Finding {
+fn shrink<S: Sides>(capacities: Capacities, mut steps: Vec<Step>, first: Difference) -> Finding {
     let mut difference = first;
     let mut together = steps.len().div_ceil(2);
     loop {
@@ -81,7 +91,7 @@ fn shrink(capacities: Capacities, mut steps: Vec<Step>, first: Difference) -> Fi
             // Comparing everything after each step of a long sequence takes
             // too long, and finds a difference only a little sooner.
             let every = if fewer.len() > 500 { LONG.every } else { 1 };
-            match replay(capacities, &fewer, every, &mut Tally::new()) {
+            match replay::<S>(capacities, &fewer, every, &mut Tally::new()) {
                 Err(still) => (steps, difference) = (fewer, still),
                 Ok(()) => at = end,
             }
@@ -99,7 +109,7 @@ fn shrink(capacities: Capacities, mut steps: Vec<Step>, first: Difference) -> Fi
 }
 
 /// Random sequences of one size until they have made so many operations.
-fn random(size: Size, operations: u64, rng: &mut Rng, tally: &mut Tally) {
+fn random<S: Sides>(size: Size, operations: u64, rng: &mut Rng, tally: &mut Tally) {
     let before = tally.operations();
     let mut sequences = 0;
     while tally.operations() - before < operations {
@@ -113,22 +123,23 @@ fn random(size: Size, operations: u64, rng: &mut Rng, tally: &mut Tally) {
         };
         let mut steps = Vec::new();
         let outcome = guarded(|| {
-            let mut trio = Trio::fresh(capacities);
+            let mut sides = S::fresh(capacities);
             for made in 1..=count {
-                let step = generator.step(&trio.model);
+                let step = generator.step(sides.model());
                 steps.push(step.clone());
-                compare_step(&mut trio, &step, made % size.every == 0, tally)?;
+                sides.compare_step(&step, made % size.every == 0, tally)?;
             }
             Ok(())
         });
         if let Err(difference) = outcome {
-            tally.report(&shrink(capacities, steps, difference));
+            tally.report(&shrink::<S>(capacities, steps, difference));
             return;
         }
     }
     println!(
-        "{} sequences: {sequences} with {} operations; compared after every step: {}",
+        "{} {}: {sequences} with {} operations; compared after every step: {}",
         size.name,
+        S::NAME,
         tally.operations() - before,
         match size.every {
             1 => "everything".to_string(),
@@ -139,10 +150,10 @@ fn random(size: Size, operations: u64, rng: &mut Rng, tally: &mut Tally) {
 
 /// Random sequences: four tenths of the operations in short ones, three tenths
 /// each in medium and long ones.
-pub fn compare_random(operations: u64, seed: u64, tally: &mut Tally) {
+pub fn compare_random<S: Sides>(operations: u64, seed: u64, tally: &mut Tally) {
     let mut rng = Rng::new(seed);
     for (size, tenths) in [(SHORT, 4), (MEDIUM, 3), (LONG, 3)] {
-        random(size, operations * tenths / 10, &mut rng, tally);
+        random::<S>(size, operations * tenths / 10, &mut rng, tally);
     }
 }
 
@@ -169,7 +180,7 @@ fn all_steps(edges: u32) -> Vec<Step> {
 /// Every sequence of up to `depth` steps from four stores: the empty one, and
 /// two nodes with three parallel edges as added, as compacted, and as compacted
 /// with the first edge redirected there and back.
-pub fn compare_exhaustive(depth: usize, tally: &mut Tally) {
+pub fn compare_exhaustive<S: Sides>(depth: usize, tally: &mut Tally) {
     let capacities = Capacities { nodes: 2, edges: 4 };
     let operation = |words| Step::Operation(words);
     let added: Vec<Step> = [[1, 0, 0, 1], [1, 0, 0, 2]]
@@ -189,27 +200,28 @@ pub fn compare_exhaustive(depth: usize, tally: &mut Tally) {
     for (start, edges) in starts {
         let mut made = start.clone();
         let outcome = guarded(|| {
-            let mut trio = Trio::fresh(capacities);
+            let mut sides = S::fresh(capacities);
             for step in &start {
-                trio.step(step, tally)?;
+                sides.compare_step(step, true, tally)?;
             }
             let steps = all_steps(edges);
-            descend(&trio, &steps, depth, &mut made, tally)
+            descend(&sides, &steps, depth, &mut made, tally)
         });
         if let Err(difference) = outcome {
-            tally.report(&shrink(capacities, made, difference));
+            tally.report(&shrink::<S>(capacities, made, difference));
             return;
         }
     }
     println!(
-        "exhaustive sequences: all of up to {depth} steps from four stores, {} operations; \
+        "exhaustive {}: all of up to {depth} steps from four stores, {} operations; \
          compared after every step: everything",
+        S::NAME,
         tally.operations() - before
     );
 }
 
-fn descend(
-    from: &Trio,
+fn descend<S: Sides>(
+    from: &S,
     steps: &[Step],
     depth: usize,
     made: &mut Vec<Step>,
@@ -219,10 +231,10 @@ fn descend(
         return Ok(());
     }
     for step in steps {
-        let mut trio = from.clone();
+        let mut sides = from.clone();
         made.push(step.clone());
-        compare_step(&mut trio, step, true, tally)?;
-        descend(&trio, steps, depth - 1, made, tally)?;
+        sides.compare_step(step, true, tally)?;
+        descend(&sides, steps, depth - 1, made, tally)?;
         made.pop();
     }
     Ok(())

@@ -39,7 +39,8 @@ pub struct Shape {
     sides: [Side; 2],
 }
 
-const fn side_of(direction: TraversalDirection) -> usize {
+/// The place of a direction where both are held, out first.
+pub const fn side_of(direction: TraversalDirection) -> usize {
     match direction {
         TraversalDirection::Outgoing => 0,
         TraversalDirection::Incoming => 1,

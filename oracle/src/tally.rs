@@ -78,6 +78,32 @@ things! {
         "Rules 1 to 5 and 7 are those of `validate.rs` in its order";
     Call: "calls with lengths of lent slices",
         "a lent slice too short | 2 | length needed";
+    PortAnswer: "port: answers of additions and removals",
+        "Each operation leaves two words in the answer slice: number and value.";
+    PortCount: "port: counts, and live bits counted",
+        "a new slot is the bound, which rises by one; a bound or count itself";
+    PortLive: "port: live bits, ranks and next live slots",
+        "it is live until removed; Out of range is not live.";
+    PortRules: "port: rules 1, 2, 4, 5 and 6, which the contracts require",
+        "Rules 1 to 5 and 7 are those of `validate.rs` in its order";
+    PortPart: "port: base parts, runs and rings",
+        "Adding an edge appends it to its source's out-list and target's in-list.";
+    PortRingEnds: "port: ends of rings",
+        "Adding an edge appends it to its source's out-list and target's in-list.";
+    PortIndex: "port: offsets and joined lists",
+        "the out-lists of nodes 0 up to n−1 joined, then the in-lists";
+    PortWalk: "port: walks, and counted",
+        "A walk is the list";
+    PortDegree: "port: degrees",
+        "a degree its length";
+    PortNeighbors: "port: successors and predecessors",
+        "A walk is the list; Removed edges keep their last ends.";
+    PortLookup: "port: map lookups",
+        "the slot a map lookup gives or NONE";
+    PortIdentity: "port: yes or no: identity",
+        "an identity map holds i at each i below the bound";
+    PortCompose: "port: compositions of maps",
+        "A short second map gives NONE.";
     Vectors: "recorded sequences",
         "the committed file is what its seed gives";
 }

@@ -4,6 +4,7 @@ use mathlib.Core.Bool.{Bool, true, false}
 use Rattle.plain.specs.declared.Answer.{Answer}
 use Rattle.liveness.specs.declared.Counted.{Counted}
 use Rattle.liveness.specs.declared.Counted.the-variants.{Live, Unpacked}
+use Rattle.adjacency.specs.declared.rings.RingEnds.{RingEnds}
 
 -- a count by whether the words are packed, and the number of live slots
 abbrev pub counted-as : Bool → ℕ → Counted
@@ -13,3 +14,7 @@ counted-as false n = Unpacked
 -- an answer by its number and its value
 abbrev pub of : ℕ → ℕ → Answer
 of number value = record { number = number; value = value }
+
+-- the ends of a ring, first and last
+abbrev pub ends-as : ℕ → ℕ → RingEnds
+ends-as first last = record { first = first; last = last }

@@ -55,6 +55,7 @@ pub enum Operation {
 }
 
 // The counts of one kind of slot: all slots, those that the compressed base holds, those that are live.
+#[repr(C)]
 pub struct Slots {
     pub bound: u32,
     pub base: u32,
@@ -62,6 +63,7 @@ pub struct Slots {
 }
 
 // The counts of a store, by value beside its six slices. Any values are legal input: the check judges them.
+#[repr(C)]
 pub struct Counts {
     pub nodes: Slots,
     pub edges: Slots,

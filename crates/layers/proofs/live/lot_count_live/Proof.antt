@@ -1,7 +1,7 @@
--- `layers::lot_count_live` meets its contract: each arm goes by the answer that it was taken for.
+-- `layers::live::lot_count_live` meets its contract: each arm goes by the answer that it was taken for.
 use borrow.Author.Needs.{needs}
-use Rattle.layers.proofs.lot_count_live.Statement.{statement}
-use Rattle.layers.proofs.lot_count_live.Tie as tie
+use Rattle.layers.proofs.live.lot_count_live.Statement.{statement}
+use Rattle.layers.proofs.live.lot_count_live.Tie as tie
 
 returns : tie.Need-returns
 returns c = cc

@@ -1,0 +1,323 @@
+//! The proved Rattle code beside the Rust store: the static library of crate
+//! `layers` is linked, the same steps are made on both, and what both tell is
+//! compared.
+//!
+//! The modules below own the memory and test what each contract requires before
+//! the call. What does not hold after a step is a difference, and what does not
+//! hold in the middle of one panics, which is a difference too.
+
+mod axis;
+mod exports;
+mod live;
+mod maps;
+mod memory;
+
+use crate::calls::{self, Lots};
+use crate::compare::Touched;
+use crate::generate::Step;
+use crate::graph::store::Renumbering;
+use crate::model::{Answer, Capacities, DIRECTIONS, Model, NONE, Operation};
+use crate::rust_store::{self, RustStore, edge, node, record};
+use crate::sequences::{self, Same, Sides};
+use crate::shape::side_of;
+use crate::tally::{Difference, Tally, Thing};
+use exports::{Counts, Slots};
+use live::Live;
+use memory::{Memory, Reader};
+
+/// What stands past a list in a lent slice, to see that it stays.
+const PAST: [u32; 2] = [0xdead_beef, 7];
+
+/// A slice to lend for so many words.
+fn lent(length: usize) -> Vec<u32> {
+    let mut words = vec![NONE - 1; length];
+    words.extend(PAST);
+    words
+}
+
+/// The words that were written to a lent slice.
+fn kept(mut words: Vec<u32>) -> Vec<u32> {
+    let past = words.split_off(words.len() - PAST.len());
+    assert_eq!(past, PAST, "promised: words past the list as they were");
+    words
+}
+
+#[derive(Clone)]
+pub struct Ported {
+    model: Model,
+    rust: RustStore,
+    memory: Memory,
+    /// The latest compaction's maps.
+    renumbering: Option<Renumbering>,
+}
+
+impl Sides for Ported {
+    const NAME: &str = "sequences with the port";
+
+    fn fresh(capacities: Capacities) -> Self {
+        Self {
+            model: Lots::fresh(capacities),
+            rust: RustStore::fresh(capacities),
+            memory: Memory::fresh(capacities),
+            renumbering: None,
+        }
+    }
+
+    fn model(&self) -> &Model {
+        &self.model
+    }
+
+    fn compare_step(&mut self, step: &Step, everything: bool, tally: &mut Tally) -> Same {
+        let everything = everything || !matches!(step, Step::Operation(_));
+        let mut touched = Vec::new();
+        match step {
+            Step::Operation(words) => {
+                let operation = Operation::decode(*words);
+                if let Some(operation) = operation {
+                    touched = Touched::by(operation, &self.model.plain).nodes;
+                }
+                self.operation(*words, operation, tally)?;
+            }
+            Step::Compact => self.compact(tally)?,
+            Step::Read(bytes) => self.read(bytes, tally)?,
+        }
+        if everything {
+            return self.compare_everything(tally);
+        }
+        let reader = self.compare_whole(tally)?;
+        let bound = self.rust.graph.node_bound() as u32;
+        for node in touched.into_iter().filter(|&node| node < bound) {
+            self.compare_node(&reader, node, tally)?;
+        }
+        Ok(())
+    }
+}
+
+impl Ported {
+    /// Beside a store that neither a fresh one nor an image led to.
+    #[cfg(feature = "serde")]
+    pub fn foreign(model: Model, rust: RustStore) -> Self {
+        Self {
+            memory: Memory::of(&rust),
+            model,
+            rust,
+            renumbering: None,
+        }
+    }
+
+    /// Makes an operation on the Rust and, where it is done, on the memory:
+    /// additions and removals by the proved functions, the rest from the Rust.
+    fn operation(
+        &mut self,
+        words: [u32; 4],
+        operation: Option<Operation>,
+        tally: &mut Tally,
+    ) -> Same {
+        // What a redirection or a move takes from where, found beforehand.
+        let graph = &self.rust.graph;
+        let relocated = match operation {
+            Some(Operation::Redirect {
+                direction,
+                edge,
+                node,
+            }) if (edge as usize) < graph.edge_bound() => {
+                let old = record(graph, edge)[side_of(direction)];
+                (old != node).then(|| (direction, vec![edge], [old, node]))
+            }
+            Some(Operation::Move {
+                direction,
+                old,
+                new,
+            }) if (old as usize) < graph.node_bound() => {
+                let moved = rust_store::walk(graph, direction, old);
+                (!moved.is_empty()).then_some((direction, moved, [old, new]))
+            }
+            _ => None,
+        };
+        let answer = self.rust.operation(words);
+        self.model.operation(words);
+        tally.answered(words, answer);
+        let (Some(operation), 0) = (operation, answer.number) else {
+            return Ok(());
+        };
+        let value = match operation {
+            Operation::AddNode { .. } => self.memory.add_node(),
+            Operation::AddEdge { source, target, .. } => self.memory.add_edge([source, target]),
+            Operation::RemoveEdge { edge } => self.memory.remove_edge(edge).into(),
+            Operation::RemoveNode { node } => self.memory.remove_node(node).into(),
+            Operation::Redirect { .. } | Operation::Move { .. } => {
+                if let Some((direction, moved, ends)) = relocated {
+                    let parts = self.rust.graph.parts(direction);
+                    let runs = ends.map(|node| {
+                        let run = parts[node as usize].run.as_deref();
+                        (node, run.expect("a redirection or a move leaves runs"))
+                    });
+                    self.memory.relocate(direction, &moved, runs);
+                }
+                return Ok(());
+            }
+            Operation::SetPayload { .. } => return Ok(()),
+        };
+        let place = || format!("{words:?}");
+        let given = Answer::done(value.into());
+        tally.same(Thing::PortAnswer, place, answer, given)
+    }
+
+    fn compact(&mut self, tally: &mut Tally) -> Same {
+        self.model.compact();
+        let renumbering = self.rust.graph.compact();
+        maps::compare_lookups(&renumbering, tally)?;
+        if let Some(earlier) = &self.renumbering {
+            maps::compare_composed(earlier, &renumbering, tally)?;
+        }
+        self.renumbering = Some(renumbering);
+        self.rebuild(tally)
+    }
+
+    fn read(&mut self, bytes: &[u8], tally: &mut Tally) -> Same {
+        let Capacities { nodes, edges } = self.model.capacities;
+        let read = calls::read_image(nodes.into(), edges.into(), bytes);
+        self.model = read.expect("a written image can be read");
+        self.rust.put(&self.model.plain);
+        self.renumbering = None;
+        self.rebuild(tally)
+    }
+
+    /// Puts the Rust's new base into the memory: its ends and joined lists, from
+    /// which the proved functions count the offsets and place the edges.
+    fn rebuild(&mut self, tally: &mut Tally) -> Same {
+        let graph = &self.rust.graph;
+        let edges = 0..graph.edge_bound() as u32;
+        let ends = DIRECTIONS.map(side_of).map(|side| -> Vec<u32> {
+            let end = |slot| record(graph, slot)[side];
+            edges.clone().map(end).collect()
+        });
+        let bases = graph.compressed_base();
+        let sides = [(&*ends[0], bases[0].1), (&*ends[1], bases[1].1)];
+        let nodes = graph.node_bound();
+        self.memory.rebuild(nodes as u32, sides);
+
+        for (side, direction) in DIRECTIONS.into_iter().enumerate() {
+            let place = || format!("base, {direction:?}");
+            let (offsets, joined) = graph.compress_again(direction);
+            let expected = [offsets[..nodes].to_vec(), joined, offsets[1..].to_vec()];
+            let given = axis::in_order(&ends[side], nodes);
+            tally.same(Thing::PortIndex, place, expected, given)?;
+            // The Rust has no offsets before the first compaction.
+            if !bases[side].0.is_empty() {
+                let given = self.memory.offsets(side);
+                tally.same(Thing::PortIndex, place, bases[side].0, &*given)?;
+            }
+        }
+        Ok(())
+    }
+
+    pub fn compare_everything(&self, tally: &mut Tally) -> Same {
+        let reader = self.compare_whole(tally)?;
+        self.compare_live(tally)?;
+        self.compare_parts(&reader, tally)?;
+        for node in 0..self.rust.graph.node_bound() as u32 {
+            self.compare_node(&reader, node, tally)?;
+        }
+        Ok(())
+    }
+
+    /// Bounds, base counts and counts of live slots, kept and counted, and the
+    /// rules that reading requires; then the memory can be read.
+    fn compare_whole(&self, tally: &mut Tally) -> Result<Reader<'_>, Difference> {
+        let (graph, memory) = (&self.rust.graph, &self.memory);
+        let place = || "the store".to_string();
+        let [base_nodes, base_edges] = graph.base_counts();
+        let slots = |bound: usize, base: usize, live: usize| Slots {
+            bound: bound as u32,
+            base: base as u32,
+            live: live as u32,
+        };
+        let expected = Counts {
+            nodes: slots(graph.node_bound(), base_nodes, graph.node_count()),
+            edges: slots(graph.edge_bound(), base_edges, graph.edge_count()),
+        };
+        tally.same(Thing::PortCount, place, expected, memory.counts())?;
+        let expected = [graph.node_count(), graph.edge_count()].map(Some);
+        let given = [memory.nodes.count(), memory.edges.count()];
+        tally.same(Thing::PortCount, place, expected, given)?;
+        let reader = memory.reader();
+        tally.same(Thing::PortRules, place, None, reader.as_ref().err())?;
+        Ok(reader.expect("no rule is broken"))
+    }
+
+    fn compare_live(&self, tally: &mut Tally) -> Same {
+        let (graph, memory) = (&self.rust.graph, &self.memory);
+        compare_slots(&memory.nodes, |slot| graph.contains_node(node(slot)), tally)?;
+        compare_slots(&memory.edges, |slot| graph.contains_edge(edge(slot)), tally)
+    }
+
+    /// Base parts, runs and rings of every node, as the columns hold them.
+    fn compare_parts(&self, reader: &Reader, tally: &mut Tally) -> Same {
+        for (side, direction) in reader.sides.iter().zip(DIRECTIONS) {
+            for (node, part) in self.rust.graph.parts(direction).iter().enumerate() {
+                let place = || format!("node {node}, {direction:?}");
+                tally.same(Thing::PortPart, place, part, &side.part(node))?;
+                let ends = [part.ring.first(), part.ring.last()];
+                let expected = ends.map(|end| end.copied().unwrap_or(NONE));
+                let given = side.ring_ends(node);
+                tally.same(Thing::PortRingEnds, place, expected, given)?;
+            }
+        }
+        Ok(())
+    }
+
+    /// Walk, count, degree and neighbors of a node, both ways.
+    fn compare_node(&self, reader: &Reader, slot: u32, tally: &mut Tally) -> Same {
+        let graph = &self.rust.graph;
+        let live = reader.nodes.is_live(slot);
+        let [outgoing, incoming] = &reader.sides;
+        let sides = [(outgoing, incoming), (incoming, outgoing)];
+        for ((side, far), direction) in sides.into_iter().zip(DIRECTIONS) {
+            let place = || format!("node {slot}, {direction:?}");
+            let node = slot as usize;
+            let expected = rust_store::walk(graph, direction, slot);
+            let expected = (expected.len(), expected);
+            let given = (side.count(node, live), side.walk(node, live));
+            tally.same(Thing::PortWalk, place, expected, given)?;
+            let expected = rust_store::degree(graph, direction, slot) as usize;
+            let given = side.degree(node, live);
+            tally.same(Thing::PortDegree, place, expected, given)?;
+            let expected = rust_store::neighbors(graph, direction, slot);
+            let given = side.neighbors(far, node, live);
+            tally.same(Thing::PortNeighbors, place, expected, given)?;
+        }
+        Ok(())
+    }
+}
+
+/// Every slot and some above: whether it is live, how many live ones stand
+/// before it, and the next live one, all by the Rust's own answer.
+fn compare_slots(live: &Live, rust: impl Fn(u32) -> bool, tally: &mut Tally) -> Same {
+    let bound = live.bound() as u32;
+    let mut rank = 0;
+    let mut next = (0..bound).find(|&slot| rust(slot)).unwrap_or(bound);
+    for slot in (0..bound).chain([bound, bound + 1, bound + 64, NONE]) {
+        let place = || format!("slot {slot}");
+        if slot < bound && slot > next {
+            next = (slot..bound).find(|&slot| rust(slot)).unwrap_or(bound);
+        }
+        let expected = (rust(slot), rank, next.max(slot.min(bound)) as usize);
+        let given = (
+            live.is_live(slot),
+            live.rank(slot as usize),
+            live.next(slot as usize),
+        );
+        tally.same(Thing::PortLive, place, expected, given)?;
+        rank += usize::from(rust(slot));
+    }
+    Ok(())
+}
+
+/// Random sequences of so many operations, all sequences of up to `depth` steps
+/// from four stores, and any two maps.
+pub fn compare(operations: u64, depth: usize, seed: u64, tally: &mut Tally) -> Same {
+    sequences::compare_random::<Ported>(operations, seed, tally);
+    sequences::compare_exhaustive::<Ported>(depth, tally);
+    maps::compare(20_000, seed, tally)
+}
