@@ -1,14 +1,22 @@
 -- Tests one after the other, and a loop over slots that stops at the first that fails a test: what is still to be answered from each place on.
 use Prim.Native.Nat.{ℕ, suc, _+_, _-_, _≤_, _<_}
 use mathlib.Core.Path.{_≡_, refl, sym, ap, _∙_}
-use mathlib.Core.Bool.{Bool, true, false, _&&_}
+use mathlib.Core.Bool.{Bool, true, false, _&&_, not}
 use mathlib.Core.List.{List, _∷_, []}
 use native.Mathlib.Omega.{arith}
+use borrow.Author.Tests.{not-true, not-false}
 use Rattle.plain.specs.Lists.{all, from}
 
 -- a test passed: what follows decides
 pub passed : {a b r : Bool} → a ≡ true → r ≡ b → r ≡ (a && b)
 passed h k = rw h k
+
+-- a test by a call that answers it, whose answer was not true, and was
+pub refused : {a r : Bool} → r ≡ a → not r ≡ true → a ≡ false
+refused {r = r} h k = sym h ∙ not-true r k
+
+pub accepted : {a r : Bool} → r ≡ a → not r ≡ false → a ≡ true
+accepted {r = r} h k = sym h ∙ not-false r k
 
 -- the slots from i on, below n
 abbrev pub slots-from : ℕ → ℕ → List ℕ

@@ -3,3 +3,4 @@
 
 pub mod axes;
 pub mod counts;
+pub mod rings;
