@@ -1,3 +1,7 @@
 pub mod Counting
 pub mod Indexing
 pub mod Ringing
+pub mod Marking
+pub mod Fresh
+pub mod Following
+pub mod Running

@@ -1,3 +1,5 @@
 pub mod Sizes
 pub mod Passing
 pub mod Rings
+pub mod Marks
+pub mod Runs

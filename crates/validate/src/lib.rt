@@ -3,4 +3,6 @@
 
 pub mod axes;
 pub mod counts;
+pub mod marks;
 pub mod rings;
+pub mod runs;
