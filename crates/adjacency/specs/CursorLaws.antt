@@ -1,0 +1,201 @@
+-- Laws of the cursor: a step finds the head of what remains and leaves the tail, and nothing is found exactly where nothing remains; a search finds the first
+-- entry that passes.
+use Prim.Native.Nat.{ℕ, _+_, _-_, _≤_, _<_}
+use native.Mathlib.Omega.{arith}
+use mathlib.Core.Path.{_≡_, refl, sym, ap, _∙_, subst}
+use mathlib.Core.Bool.{Bool, true, false}
+use mathlib.Core.Logic.{_⊎_, inl, inr, ⊎-elim}
+use mathlib.Core.List.{List, [], _∷_, _++_}
+use lib.ListN.{length}
+use lib.Dec.{eqb, ltb}
+use borrow.Author.Tests.{eqb-true, eqb-false, ne-eqb, ltb-true, ltb-false}
+use Rattle.plain.specs.Numbers.{NONE}
+use Rattle.plain.specs.Lists.{member}
+use Rattle.plain.specs.Laws.Booleans.{by-test, or-true}
+use Rattle.plain.specs.Laws.ListLaws.{member-first, member-later, member-append}
+use Rattle.shape.specs.Chains.{until, In}
+use Rattle.shape.specs.Laws.Chains.{chain-none, chain-some, chain-length}
+use Rattle.shape.specs.Laws.Walking.{between-none, between-some, between-length, until-first, until-end, until-on}
+use Rattle.adjacency.specs.declared.cursor.AdjacencyCursor.{AdjacencyCursor}
+use Rattle.adjacency.specs.declared.cursor.Found.{Found}
+use Rattle.adjacency.specs.declared.cursor.Found.the-variants.{Edge, Done}
+use Rattle.adjacency.specs.declared.cursor.Step.{Step}
+use Rattle.adjacency.specs.Cursor.{word, part-left, part-count, ring-left, remaining, exhausted, base-at, delta-at, ring-step, step-of, found-then, PartWithin, Closed, Ready, from-first, Sought}
+
+-- as many entries of the run or base part as the cursor's numbers tell
+pub part-counted : (linked : Bool) (entries : List ℕ) (at end : ℕ) → length (part-left linked entries at end) ≡ part-count linked at end
+part-counted true entries at end = chain-length (word entries) end at
+part-counted false entries at end = between-length (word entries) at end
+
+-- What a step from c leaves: the entry found stands before what the cursor left has to read, and that is ready too.
+pub record Stepped (linked : Bool) (entries next : List ℕ) (c : AdjacencyCursor) (s : Step) : Type 0 where
+  pub ready : Ready linked entries next (s .cursor)
+  pub left : remaining linked entries next c ≡ found-then (s .found) (remaining linked entries next (s .cursor))
+
+module _ {linked : Bool} {entries next : List ℕ} {c : AdjacencyCursor} (r : Ready linked entries next c) where
+  -- an entry e found, and the cursor d behind it
+  stepped : (e : ℕ) (d : AdjacencyCursor) → d .«base_end» ≤ NONE → PartWithin linked entries next (d .base) (d .«base_end»)
+      → Closed next (d .delta) (d .«delta_last») → remaining linked entries next c ≡ e ∷ remaining linked entries next d
+      → Stepped linked entries next c (record { cursor = d; found = Edge e })
+  stepped e d short part closed left =
+      record {
+        ready = record {
+          few = r .few;
+          short = short;
+          part = part;
+          closed = closed;
+          below = λ x m. r .below x (rw left (member-later x e (remaining linked entries next d) m));
+        };
+        left = left;
+      }
+
+  -- the ring's entry, where nothing is left before it
+  ring-stepped : part-left linked entries (c .base) (c .«base_end») ≡ [] → Stepped linked entries next c (ring-step next c)
+  unfolding remaining
+  ring-stepped none = by-test (eqb (c .delta) NONE) at-end (λ q. by-test (eqb (c .delta) (c .«delta_last»)) (at-last q (closed q)) (before-last q (closed q)))
+    where
+      last : ℕ
+      last = c .«delta_last»
+
+      ring : ℕ → List ℕ
+      ring = until (word next) last (length next)
+
+      closed : eqb (c .delta) NONE ≡ false → In last (ring (c .delta))
+      closed q = ⊎-elim (λ e. absurd (eqb-false (c .delta) NONE q e)) (λ m. m) (r .closed)
+
+      at-end : eqb (c .delta) NONE ≡ true → Stepped linked entries next c (ring-step next c)
+      at-end q = rw q (record { ready = r; left = rw (none, q) })
+
+      at-last : eqb (c .delta) NONE ≡ false → In last (ring (c .delta)) → eqb (c .delta) last ≡ true → Stepped linked entries next c (ring-step next c)
+      at-last q m e =
+          rw (q, e)
+          (stepped (c .delta) (delta-at c NONE) (r .short) (r .part) (inl refl)
+          (rw (none, q) (until-end (word next) last (length next) (c .delta) m (eqb-true (c .delta) last e))))
+
+      before-last : eqb (c .delta) NONE ≡ false → In last (ring (c .delta)) → eqb (c .delta) last ≡ false → Stepped linked entries next c (ring-step next c)
+      before-last q m e =
+          let on = until-on (word next) last (length next) (c .delta) m (eqb-false (c .delta) last e) in
+          let on-first = until-first (word next) last (length next) (word next (c .delta)) (on .1) in
+          let low = r .below (word next (c .delta)) (rw (none, q, on .0) (member-later (word next (c .delta)) (c .delta) (ring (word next (c .delta))) on-first)) in
+          let few = r .few in
+          let some : eqb (word next (c .delta)) NONE ≡ false = ne-eqb (word next (c .delta)) NONE (λ z. omega arith) in
+          rw (q, e) (stepped (c .delta) (delta-at c (word next (c .delta))) (r .short) (r .part) (inr (on .1)) (rw (none, q, some) (on .0)))
+
+-- a step of a walk that is ready
+pub step-stepped : (linked : Bool) {entries next : List ℕ} {c : AdjacencyCursor} → Ready linked entries next c
+    → Stepped linked entries next c (step-of linked entries next c)
+unfolding step-of remaining
+step-stepped true {entries} {next} {c} r =
+    by-test (eqb (c .«base_end») 0)
+    (λ q. rw q (ring-stepped r (chain-none (word entries) (c .«base_end») (c .base) (eqb-true (c .«base_end») 0 q))))
+    (λ q.
+    let some = eqb-false (c .«base_end») 0 q in
+    let short = r .short in
+    rw q
+    (stepped r (c .base) (base-at c (word entries (c .base)) (c .«base_end» - 1)) (omega arith) (r .part) (r .closed)
+    (ap (λ (l : List ℕ). l ++ ring-left next (c .delta) (c .«delta_last»)) (chain-some (word entries) (c .«base_end») (c .base) (omega arith)))))
+step-stepped false {entries} {next} {c} r =
+    by-test (ltb (c .base) (c .«base_end»))
+    (λ q.
+    let some = ltb-true (c .base) (c .«base_end») q in
+    rw q
+    (stepped r (word entries (c .base)) (base-at c (c .base + 1) (c .«base_end»)) (r .short) (omega arith, r .part .1) (r .closed)
+    (ap (λ (l : List ℕ). l ++ ring-left next (c .delta) (c .«delta_last»)) (between-some (word entries) (c .base) (c .«base_end») some))))
+    (λ q. rw q (ring-stepped r (between-none (word entries) (c .base) (c .«base_end») (ltb-false (c .base) (c .«base_end») q))))
+
+-- where nothing remains nothing is found
+pub step-done : (linked : Bool) {entries next : List ℕ} {c : AdjacencyCursor} → Ready linked entries next c → remaining linked entries next c ≡ []
+    → step-of linked entries next c .found ≡ Done
+step-done linked {entries} {next} {c} r none = only (step-of linked entries next c .found) (sym none ∙ step-stepped linked r .left)
+  where
+    only : (f : Found) → [] ≡ found-then f (remaining linked entries next (step-of linked entries next c .cursor)) → f ≡ Done
+    only Done q = refl
+    only (Edge e) q = let z : _≡_ {A = ℕ} 0 1 = cc in absurd (omega arith)
+
+-- nothing remains of the exhausted cursor, over any columns
+pub exhausted-remaining : (linked : Bool) (entries next : List ℕ) → remaining linked entries next exhausted ≡ []
+unfolding remaining
+exhausted-remaining true entries next = rw (chain-none (word entries) 0 0 refl)
+exhausted-remaining false entries next = rw (between-none (word entries) 0 0 (omega arith))
+
+-- ---- what a step reads stands in the columns
+
+module _ {linked : Bool} {entries next : List ℕ} {c : AdjacencyCursor} (r : Ready linked entries next c) where
+  -- the ring's entry
+  pub ring-within : (c .delta ≡ NONE → ⊥) → c .delta < length next
+  unfolding remaining
+  ring-within some =
+      r .below (c .delta)
+      (member-append (c .delta) (part-left linked entries (c .base) (c .«base_end»)) (ring-left next (c .delta) (c .«delta_last»))
+      ∙ rw (ne-eqb (c .delta) NONE some, first) (or-true (member (c .delta) (part-left linked entries (c .base) (c .«base_end»)))))
+    where
+      first : In (c .delta) (until (word next) (c .«delta_last») (length next) (c .delta))
+      first = ⊎-elim (λ e. absurd (some e)) (until-first (word next) (c .«delta_last») (length next) (c .delta)) (r .closed)
+
+  -- the base part's places
+  pub base-within : linked ≡ false → (c .base ≤ c .«base_end») × (c .«base_end» ≤ length entries)
+  base-within q = subst (λ (b : Bool). PartWithin b entries next (c .base) (c .«base_end»)) q (r .part)
+
+  -- the run's entry
+  pub run-within : linked ≡ true → (c .«base_end» ≡ 0 → ⊥) → c .base < length entries
+  unfolding remaining
+  run-within q some =
+      let long : length next ≤ length entries = subst (λ (b : Bool). PartWithin b entries next (c .base) (c .«base_end»)) q (r .part) in
+      let low = r .below (c .base) (rw (q, chain-some (word entries) (c .«base_end») (c .base) (omega arith)) (member-first (c .base) _)) in
+      omega arith
+
+-- ---- the search for the next entry that passes
+
+-- What holds at each turn of a search from c₀ that has come to c: it finds from c on what it finds from c₀ on.
+pub record Seeking (test : ℕ → Bool) (linked : Bool) (entries next : List ℕ) (c₀ c : AdjacencyCursor) : Type 0 where
+  pub ready : Ready linked entries next c
+  pub same : from-first test (remaining linked entries next c₀) ≡ from-first test (remaining linked entries next c)
+
+module _ {test : ℕ → Bool} {linked : Bool} {entries next : List ℕ} {c₀ c : AdjacencyCursor} (i : Seeking test linked entries next c₀ c)
+    {s : Step} (r : s ≡ step-of linked entries next c) where
+  -- what the step left
+  turn : Stepped linked entries next c s
+  turn = subst (λ (t : Step). Stepped linked entries next c t) (sym r) (step-stepped linked (i .ready))
+
+  -- what was found stands before what is left
+  found-is : {f : Found} → s .found ≡ f → remaining linked entries next c ≡ found-then f (remaining linked entries next (s .cursor))
+  found-is q = turn .left ∙ ap (λ (f : Found). found-then f (remaining linked entries next (s .cursor))) q
+
+  -- an entry that passes
+  pub seek-listed : {e : ℕ} → s .found ≡ Edge e → test e ≡ true → Sought test linked entries next c₀ s
+  unfolding from-first
+  seek-listed {e} q t = record { ready = turn .ready; left = i .same ∙ rw (found-is q, t, q) }
+
+  -- the end
+  pub seek-done : s .found ≡ Done → Sought test linked entries next c₀ s
+  unfolding from-first
+  seek-done q = record { ready = turn .ready; left = i .same ∙ rw (found-is q, q) }
+
+  -- past an entry that does not pass
+  pub seek-on : {e : ℕ} → s .found ≡ Edge e → test e ≡ false → Seeking test linked entries next c₀ (s .cursor)
+  unfolding from-first
+  seek-on {e} q t = record { ready = turn .ready; same = i .same ∙ rw (found-is q, t) }
+
+  -- less is left
+  pub seek-less : {e : ℕ} → s .found ≡ Edge e → length (remaining linked entries next (s .cursor)) < length (remaining linked entries next c)
+  seek-less {e} q = rw (found-is q) (omega arith)
+
+-- the same walk without the run or base part, over columns of which the first is not read
+pub ring-ready : {linked : Bool} {entries next : List ℕ} {c : AdjacencyCursor} → Ready linked entries next c → Ready false next next (base-at c 0 0)
+unfolding remaining
+ring-ready {linked} {entries} {next} {c} r =
+    let nothing = between-none (word next) 0 0 (omega arith) in
+    let before = part-left linked entries (c .base) (c .«base_end») in
+    let ring = ring-left next (c .delta) (c .«delta_last») in
+    record {
+      few = r .few;
+      short = omega arith;
+      part = (omega arith, omega arith);
+      closed = r .closed;
+      below = λ e m. r .below e (member-append e before ring ∙ rw (rw nothing at m) (or-true (member e before)));
+    }
+
+-- and all that it has to read
+pub ring-remaining : (next : List ℕ) (c : AdjacencyCursor) → remaining false next next (base-at c 0 0) ≡ ring-left next (c .delta) (c .«delta_last»)
+unfolding remaining
+ring-remaining next c = rw (between-none (word next) 0 0 (omega arith))

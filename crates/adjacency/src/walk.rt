@@ -1,0 +1,193 @@
+// Walks over one node's adjacency in one direction, from the packed axis: where a walk starts, the walk into a lent slice with the count first, degrees, and far
+// ends. Both directions use the same functions with the one axis or the other. `edges` and `nodes` are the capacities of the axis; `live` says whether the node
+// is live.
+
+ghost use mathlib.Core.Path.{_≡_};
+ghost use mathlib.Core.List.{map};
+ghost use Prim.Native.Nat.{_≤_};
+ghost use lib.ListN.{length};
+ghost use Rattle.plain.specs.Lists.{written};
+ghost use Rattle.shape.specs.Columns.{end-at};
+ghost use Rattle.adjacency.specs.Walk.{walk-in, tombstoned-in, entries-column, next-column, ColumnsThere, Readable, Walkable, WalkFits, Started};
+use crate::cursor::AdjacencyCursor;
+use crate::cursor::Start;
+use crate::index;
+use crate::rings;
+use plain::Counts;
+
+// Whether some edge is removed.
+fn tombstoned(counts: Counts) -> bool
+    ensures { λ r. ⌜ r ≡ tombstoned-in counts ⌝ }
+{
+    counts.edges.live != counts.edges.bound
+}
+
+// Where the walk over a node's adjacency starts.
+pub fn start(
+    axis: &[u32],
+    edges: usize,
+    nodes: usize,
+    counts: Counts,
+    node: usize,
+    live: bool,
+) -> Start
+    requires { ⌜ Readable (now axis) edges nodes counts node ⌝ }
+    ensures { λ r. ⌜ Started (now (axis .entry)) edges nodes counts node live r ⌝ }
+{
+    let mut cursor = AdjacencyCursor::EXHAUSTED;
+    if !live {
+        return Start {
+            linked: false,
+            cursor,
+        };
+    }
+    let ring = rings::ring_ends(axis, edges, node);
+    cursor.delta = ring.first;
+    cursor.delta_last = ring.last;
+    let mark = axis[4 * edges + 4 * nodes + node];
+    if mark != 0 {
+        cursor.base = axis[4 * edges + nodes + node];
+        cursor.base_end = axis[4 * edges + 3 * nodes + node];
+        return Start {
+            linked: true,
+            cursor,
+        };
+    }
+    let bounds = index::base_bounds(axis, edges, nodes, counts.nodes.base as usize, node);
+    cursor.base = bounds.start;
+    cursor.base_end = bounds.end;
+    Start {
+        linked: false,
+        cursor,
+    }
+}
+
+// The column that a walk reads before the ring: the run links, or the compressed index's edge numbers.
+fn entries_of(axis: &[u32], edges: usize, linked: bool) -> &[u32]
+    requires { ⌜ ColumnsThere (now axis) edges ⌝ }
+    ensures { λ r. ⌜ now r ≡ entries-column (now (axis .entry)) edges linked ⌝ }
+{
+    if linked {
+        let from = 3 * edges;
+        let to = 4 * edges;
+        return &axis[from..to];
+    }
+    let to = 2 * edges;
+    &axis[edges..to]
+}
+
+// The column of the ring links.
+fn next_of(axis: &[u32], edges: usize) -> &[u32]
+    requires { ⌜ ColumnsThere (now axis) edges ⌝ }
+    ensures { λ r. ⌜ now r ≡ next-column (now (axis .entry)) edges ⌝ }
+{
+    let from = 2 * edges;
+    let to = 3 * edges;
+    &axis[from..to]
+}
+
+// How many entries a node's walk has.
+pub fn count_walk(
+    axis: &[u32],
+    edges: usize,
+    nodes: usize,
+    counts: Counts,
+    live_edges: &[u64],
+    node: usize,
+    live: bool,
+) -> usize
+    requires { ⌜ Walkable (now axis) edges nodes counts (now «live_edges») node ⌝ }
+    ensures { λ r. ⌜ r ≡ length (walk-in (now (axis .entry)) edges nodes counts (now («live_edges» .entry)) node live) ⌝ }
+{
+    let start = start(axis, edges, nodes, counts, node, live);
+    let linked = start.linked;
+    let slots = counts.edges.bound as usize;
+    let entries = entries_of(axis, edges, linked);
+    let next = next_of(axis, edges);
+    start.cursor.count(linked, entries, next, tombstoned(counts), live_edges, slots)
+}
+
+// Writes a node's walk to the start of `out`. The caller has counted it.
+pub fn write_walk(
+    axis: &[u32],
+    edges: usize,
+    nodes: usize,
+    counts: Counts,
+    live_edges: &[u64],
+    node: usize,
+    live: bool,
+    out: &mut [u32],
+)
+    requires { ⌜ WalkFits (now axis) edges nodes counts (now «live_edges») node live (now out) ⌝ }
+    ensures { λ _. ⌜ now (out .exit) ≡ written (walk-in (now (axis .entry)) edges nodes counts (now («live_edges» .entry)) node live) (now (out .entry)) ⌝ }
+{
+    let start = start(axis, edges, nodes, counts, node, live);
+    let linked = start.linked;
+    let slots = counts.edges.bound as usize;
+    let entries = entries_of(axis, edges, linked);
+    let next = next_of(axis, edges);
+    start.cursor.write(
+        linked,
+        entries,
+        next,
+        tombstoned(counts),
+        live_edges,
+        slots,
+        out,
+    );
+}
+
+// Writes the far ends of a node's walk to the start of `out`: successors, or predecessors. `far` is the axis of the other direction.
+pub fn write_neighbors(
+    axis: &[u32],
+    far: &[u32],
+    edges: usize,
+    nodes: usize,
+    counts: Counts,
+    live_edges: &[u64],
+    node: usize,
+    live: bool,
+    out: &mut [u32],
+)
+    requires { ⌜ WalkFits (now axis) edges nodes counts (now «live_edges») node live (now out) ⌝ }
+    requires { ⌜ edges ≤ length (now far) ⌝ }
+    ensures { λ _. ⌜ now (out .exit) ≡ written (map (end-at (now (far .entry))) (walk-in (now (axis .entry)) edges nodes counts (now («live_edges» .entry)) node live)) (now (out .entry)) ⌝ }
+{
+    let start = start(axis, edges, nodes, counts, node, live);
+    let linked = start.linked;
+    let slots = counts.edges.bound as usize;
+    let entries = entries_of(axis, edges, linked);
+    let next = next_of(axis, edges);
+    start.cursor.write_ends(
+        linked,
+        entries,
+        next,
+        tombstoned(counts),
+        live_edges,
+        slots,
+        far,
+        out,
+    );
+}
+
+// The degree of a node: how many entries its walk has. Where no edge is removed, only the ring is walked.
+pub fn degree(
+    axis: &[u32],
+    edges: usize,
+    nodes: usize,
+    counts: Counts,
+    live_edges: &[u64],
+    node: usize,
+    live: bool,
+) -> usize
+    requires { ⌜ Walkable (now axis) edges nodes counts (now «live_edges») node ⌝ }
+    ensures { λ r. ⌜ r ≡ length (walk-in (now (axis .entry)) edges nodes counts (now («live_edges» .entry)) node live) ⌝ }
+{
+    if tombstoned(counts) {
+        return count_walk(axis, edges, nodes, counts, live_edges, node, live);
+    }
+    let start = start(axis, edges, nodes, counts, node, live);
+    let next = next_of(axis, edges);
+    let ring = start.cursor.with_base(0, 0);
+    start.cursor.part_count(start.linked) + ring.count(false, next, next, false, live_edges, 0)
+}
