@@ -16,7 +16,7 @@ use crate::rings;
 use plain::Counts;
 
 // Whether some edge is removed.
-fn tombstoned(counts: Counts) -> bool
+pub fn tombstoned(counts: Counts) -> bool
     ensures { λ r. ⌜ r ≡ tombstoned-in counts ⌝ }
 {
     counts.edges.live != counts.edges.bound
@@ -63,7 +63,7 @@ pub fn start(
 }
 
 // The column that a walk reads before the ring: the run links, or the compressed index's edge numbers.
-fn entries_of(axis: &[u32], edges: usize, linked: bool) -> &[u32]
+pub fn entries_of(axis: &[u32], edges: usize, linked: bool) -> &[u32]
     requires { ⌜ ColumnsThere (now axis) edges ⌝ }
     ensures { λ r. ⌜ now r ≡ entries-column (now (axis .entry)) edges linked ⌝ }
 {
@@ -77,7 +77,7 @@ fn entries_of(axis: &[u32], edges: usize, linked: bool) -> &[u32]
 }
 
 // The column of the ring links.
-fn next_of(axis: &[u32], edges: usize) -> &[u32]
+pub fn next_of(axis: &[u32], edges: usize) -> &[u32]
     requires { ⌜ ColumnsThere (now axis) edges ⌝ }
     ensures { λ r. ⌜ now r ≡ next-column (now (axis .entry)) edges ⌝ }
 {

@@ -8,7 +8,7 @@ use borrow.Author.Tests.{eq-eqb, ne-eqb, not-true}
 use Rattle.plain.specs.Lists.{member, distinct, all}
 use Rattle.plain.specs.Laws.Booleans.{by-test, same-truth, true-false, refuted, and-left, and-right, both-true, and-false, and-true, or-true, or-false}
 use Rattle.plain.specs.Laws.ListLaws.{all-of, all-member}
-use Rattle.validate.specs.Runs.{fresh}
+use Rattle.validate.specs.Marks.{fresh}
 
 -- the order of three alternatives does not matter
 pub or-swap : (a b c : Bool) → (b || (a || c)) ≡ ((a || b) || c)

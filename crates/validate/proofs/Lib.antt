@@ -5,3 +5,4 @@ pub mod Marking
 pub mod Fresh
 pub mod Following
 pub mod Running
+pub mod Walking

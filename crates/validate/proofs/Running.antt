@@ -1,25 +1,22 @@
--- The runs of all nodes, one after the other: what the nodes from one on decide, where the entries before are marked.
-use Prim.Native.Nat.{ℕ, zero, suc, _+_, _-_, _*_, _≤_, _<_, _/_, _%_}
+-- Runs: the chain of one, and the runs of all nodes, one after the other: what the nodes from one on decide, where the entries before are marked.
+use Prim.Native.Nat.{ℕ, zero, suc, _+_, _-_, _*_, _≤_, _<_}
 use mathlib.Core.Path.{_≡_, refl, sym, ap, _∙_}
 use mathlib.Core.Bool.{Bool, true, false, _&&_, _||_, not}
-use mathlib.Core.Logic.{⊎-elim}
 use mathlib.Core.List.{List, [], _∷_, _++_, map}
 use native.Mathlib.Omega.{arith}
-use lib.ListN.{getD, replicate, getD-replicate, length-replicate, List·getD-eq-default}
+use lib.ListN.{getD}
 use lib.Dec.{eqb, ltb}
-use lib.Pow.{pow-pos}
-use borrow.Author.Tests.{ne-eqb}
+use borrow.Author.Tests.{eq-eqb, ne-eqb, ltb-true}
 use Rattle.plain.specs.Lists.{member, distinct, all, from, joined}
-use Rattle.plain.specs.Laws.Booleans.{by-test, true-false, refuted, and-left, and-right, both-true, below-or-not, and-true}
-use Rattle.liveness.specs.Flags.{live-bit}
-use Rattle.liveness.specs.Bits.{bit-past}
+use Rattle.plain.specs.Laws.Booleans.{true-false, refuted, and-left, and-right, both-true}
 use Rattle.shape.specs.Columns.{cell, tail-at, mark-at, count-at, first-at}
 use Rattle.shape.specs.Chains.{chain}
 use Rattle.shape.specs.Shape.{run-list}
 use Rattle.shape.specs.Rules.{last-of, run-right}
 use Rattle.validate.specs.Passing.{slots-from, slots-more, slots-none}
-use Rattle.validate.specs.Marks.{marked}
-use Rattle.validate.specs.Runs.{entry-test, fresh, passes, Followed}
+use Rattle.validate.specs.Marks.{marked, fresh, passes, Followed}
+use Rattle.validate.specs.Runs.{entry-test, ends-in}
+use Rattle.validate.proofs.Following.{follow-start, follow-done}
 use Rattle.validate.proofs.Fresh.{fresh-clear, fresh-append}
 
 -- the run of a node with a mark is its chain
@@ -27,13 +24,36 @@ pub run-chain : (ws : List ℕ) (ce cn x : ℕ) → (mark-at ws ce cn x ≡ 0 �
 unfolding run-list
 run-chain ws ce cn x n = rw (ne-eqb (mark-at ws ce cn x) 0 n)
 
--- nothing is marked in a clear map
-pub clear-map : (n e : ℕ) → marked (replicate n 0) e ≡ false
-unfolding live-bit
-clear-map n e =
-    let word : _≡_ {A = ℕ} (getD (replicate n 0) (e / 64) 0) 0 =
-    ⊎-elim (λ l. getD-replicate n (e / 64) 0 0 l) (λ l. List·getD-eq-default (replicate n 0) 0 (rw (length-replicate {A = ℕ} n 0) l)) (below-or-not (e / 64) n) in
-    rw (word, bit-past 0 (e % 64) (pow-pos (e % 64)))
+-- a node with no run passes
+pub no-run : (test : ℕ → Bool) (tail : ℕ) (seen : List ℕ) → Followed test (ends-in [] tail) [] seen true seen
+unfolding last-of
+no-run test tail seen = rw (eq-eqb tail tail refl) (follow-done (follow-start test [] seen) true refl)
+
+-- an entry that passes is below the bound
+pub entry-below : (eb : ℕ) (live : Bool) (flags : List Bool) (e : ℕ) → entry-test eb live flags e ≡ true → e < eb
+unfolding entry-test
+entry-below eb live flags e h = ltb-true e eb (and-left (ltb e eb) (live || not (getD flags e false)) h)
+
+module _ (link : ℕ → ℕ) where
+  -- an entry of a chain, and those after it
+  pub chain-more : (n e : ℕ) → 0 < n → chain link n e ≡ e ∷ chain link (n - 1) (link e)
+  unfolding chain
+  chain-more zero e l = absurd (omega arith)
+  chain-more (suc n) e l = let q : n ≡ suc n - 1 = omega arith in ap (λ (z : ℕ). e ∷ chain link z (link e)) q
+
+  pub chain-none : (n e : ℕ) → n ≤ 0 → chain link n e ≡ []
+  unfolding chain
+  chain-none zero e l = refl
+  chain-none (suc n) e l = absurd (omega arith)
+
+  -- the last entry from one on
+  pub last-more : (n e last : ℕ) → 0 < n → last-of (chain link n e) last ≡ last-of (chain link (n - 1) (link e)) e
+  unfolding last-of
+  last-more n e last l = rw (chain-more n e l)
+
+  pub last-none : (n e last : ℕ) → n ≤ 0 → last-of (chain link n e) last ≡ last
+  unfolding last-of
+  last-none n e last l = rw (chain-none n e l)
 
 -- ---- the tests of one run
 
@@ -65,7 +85,7 @@ pub record Right (ws : List ℕ) (ce cn eb : ℕ) (live : Bool) (flags : List Bo
 
 module _ (ws : List ℕ) (ce cn eb : ℕ) (live : Bool) (flags : List Bool) (marks : ℕ → Bool) (x : ℕ) where
   run-passes : Bool
-  run-passes = passes (entry-test eb live flags) marks (tail-at ws ce cn x) (tail-at ws ce cn x) (run-list ws ce cn x)
+  run-passes = (passes (entry-test eb live flags) marks (run-list ws ce cn x) && ends-in (run-list ws ce cn x) (tail-at ws ce cn x))
 
   below-test : Bool
   below-test = all (λ e. ltb e eb) (run-list ws ce cn x)
@@ -79,7 +99,7 @@ module _ (ws : List ℕ) (ce cn eb : ℕ) (live : Bool) (flags : List Bool) (mar
   once-test : Bool
   once-test = fresh marks (run-list ws ce cn x)
 
-  parts : run-passes ≡ ((below-test && dead-test) && (last-test && once-test))
+  parts : run-passes ≡ (((below-test && dead-test) && once-test) && last-test)
   unfolding run-passes below-test dead-test last-test once-test passes entry-test
   parts =
       rw (
@@ -88,23 +108,23 @@ module _ (ws : List ℕ) (ce cn eb : ℕ) (live : Bool) (flags : List Bool) (mar
       )
 
   -- a run that passes is right
-  pub passes-right : passes (entry-test eb live flags) marks (tail-at ws ce cn x) (tail-at ws ce cn x) (run-list ws ce cn x) ≡ true → Right ws ce cn eb live flags marks x
+  pub passes-right : (passes (entry-test eb live flags) marks (run-list ws ce cn x) && ends-in (run-list ws ce cn x) (tail-at ws ce cn x)) ≡ true → Right ws ce cn eb live flags marks x
   unfolding run-passes below-test dead-test last-test once-test
   passes-right h =
       let k = sym parts ∙ h in
-      let l = and-left (below-test && dead-test) (last-test && once-test) k in
-      let r = and-right (below-test && dead-test) (last-test && once-test) k in
+      let l = and-left ((below-test && dead-test) && once-test) last-test k in
+      let both = and-left (below-test && dead-test) once-test l in
       record {
-        right = both-true (and-left below-test dead-test l) (and-left last-test once-test r);
-        once = and-right last-test once-test r;
-        dead = and-right below-test dead-test l;
+        right = both-true (and-left below-test dead-test both) (and-right ((below-test && dead-test) && once-test) last-test k);
+        once = and-right (below-test && dead-test) once-test l;
+        dead = and-right below-test dead-test both;
       }
 
   -- and the other way round
-  pub right-passes : Right ws ce cn eb live flags marks x → passes (entry-test eb live flags) marks (tail-at ws ce cn x) (tail-at ws ce cn x) (run-list ws ce cn x) ≡ true
+  pub right-passes : Right ws ce cn eb live flags marks x → (passes (entry-test eb live flags) marks (run-list ws ce cn x) && ends-in (run-list ws ce cn x) (tail-at ws ce cn x)) ≡ true
   unfolding run-passes below-test dead-test last-test once-test
   right-passes r =
-      parts ∙ both-true (both-true (and-left below-test last-test (r .right)) (r .dead)) (both-true (and-right below-test last-test (r .right)) (r .once))
+      parts ∙ both-true (both-true (both-true (and-left below-test last-test (r .right)) (r .dead)) (r .once)) (and-right below-test last-test (r .right))
 
 -- ---- the runs from a node on
 
@@ -159,7 +179,7 @@ module _ (ws : List ℕ) (ce cn nb eb : ℕ) (nodes edges : List Bool) where
 
     -- its run passes: those after it decide, with its entries marked
     pub runs-more : {live answer : Bool} {seen exit : List ℕ} → live ≡ getD nodes x false
-        → Followed (entry-test eb live edges) (tail-at ws ce cn x) (run-list ws ce cn x) seen answer exit → answer ≡ true → runs-from (marked seen) x ≡ runs-from (marked exit) (x + 1)
+        → Followed (entry-test eb live edges) (ends-in (run-list ws ce cn x) (tail-at ws ce cn x)) (run-list ws ce cn x) seen answer exit → answer ≡ true → runs-from (marked seen) x ≡ runs-from (marked exit) (x + 1)
     unfolding runs-from tests-of later right dead rights deads
     runs-more {live} {seen = seen} {exit} same f q =
         let r = rw same at (passes-right ws ce cn eb live edges (marked seen) x (sym (f .answers) ∙ q)) in
@@ -167,7 +187,7 @@ module _ (ws : List ℕ) (ce cn nb eb : ℕ) (nodes edges : List Bool) where
 
     -- it does not
     pub runs-fail : {live answer : Bool} {seen exit : List ℕ} → live ≡ getD nodes x false
-        → Followed (entry-test eb live edges) (tail-at ws ce cn x) (run-list ws ce cn x) seen answer exit → answer ≡ false → runs-from (marked seen) x ≡ false
+        → Followed (entry-test eb live edges) (ends-in (run-list ws ce cn x) (tail-at ws ce cn x)) (run-list ws ce cn x) seen answer exit → answer ≡ false → runs-from (marked seen) x ≡ false
     unfolding right dead
     runs-fail {live} {seen = seen} same f q =
         refuted (runs-from (marked seen) x)

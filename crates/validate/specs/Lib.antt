@@ -3,3 +3,4 @@ pub mod Passing
 pub mod Rings
 pub mod Marks
 pub mod Runs
+pub mod Walks

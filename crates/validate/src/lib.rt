@@ -6,3 +6,4 @@ pub mod counts;
 pub mod marks;
 pub mod rings;
 pub mod runs;
+pub mod walks;

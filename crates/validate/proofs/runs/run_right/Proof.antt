@@ -1,13 +1,12 @@
 -- `validate::runs::run_right` meets its contract: no run, or its chain.
 use borrow.Author.Needs.{needs}
 use Rattle.shape.specs.Laws.Frames.{run-list-unmarked}
-use Rattle.validate.proofs.Following.{follow-empty}
-use Rattle.validate.proofs.Running.{run-chain}
+use Rattle.validate.proofs.Running.{run-chain, no-run}
 use Rattle.validate.proofs.runs.run_right.Statement.{statement}
 use Rattle.validate.proofs.runs.run_right.Tie as tie
 
 returns : tie.Need-returns
-returns c = rw (run-list-unmarked _ _ _ _ (c .if1 .taken)) (follow-empty _ _ _)
+returns c = rw (run-list-unmarked _ _ _ _ (c .if1 .taken)) (no-run _ _ _)
 
 returns-2 : tie.Need-returns-2
 returns-2 c =
