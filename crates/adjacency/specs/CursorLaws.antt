@@ -4,7 +4,7 @@ use Prim.Native.Nat.{ℕ, _+_, _-_, _≤_, _<_}
 use native.Mathlib.Omega.{arith}
 use mathlib.Core.Path.{_≡_, refl, sym, ap, _∙_, subst}
 use mathlib.Core.Bool.{Bool, true, false}
-use mathlib.Core.Logic.{_⊎_, inl, inr, ⊎-elim}
+use mathlib.Core.Logic.{inl, inr, ⊎-elim}
 use mathlib.Core.List.{List, [], _∷_, _++_}
 use lib.ListN.{length}
 use lib.Dec.{eqb, ltb}
@@ -144,6 +144,22 @@ module _ {linked : Bool} {entries next : List ℕ} {c : AdjacencyCursor} (r : Re
       let low = r .below (c .base) (rw (q, chain-some (word entries) (c .«base_end») (c .base) (omega arith)) (member-first (c .base) _)) in
       omega arith
 
+-- ---- a loop that steps: what each turn finds
+
+module _ {linked : Bool} {entries next : List ℕ} {c : AdjacencyCursor} (ready : Ready linked entries next c) {s : Step}
+    (r : s ≡ step-of linked entries next c) where
+  -- what the step left
+  pub turn : Stepped linked entries next c s
+  turn = subst (λ (t : Step). Stepped linked entries next c t) (sym r) (step-stepped linked ready)
+
+  -- what was found stands before what is left
+  pub found-is : {f : Found} → s .found ≡ f → remaining linked entries next c ≡ found-then f (remaining linked entries next (s .cursor))
+  found-is q = turn .left ∙ ap (λ (f : Found). found-then f (remaining linked entries next (s .cursor))) q
+
+  -- less is left
+  pub turn-less : {e : ℕ} → s .found ≡ Edge e → length (remaining linked entries next (s .cursor)) < length (remaining linked entries next c)
+  turn-less {e} q = rw (found-is q) (omega arith)
+
 -- ---- the search for the next entry that passes
 
 -- What holds at each turn of a search from c₀ that has come to c: it finds from c on what it finds from c₀ on.
@@ -153,32 +169,20 @@ pub record Seeking (test : ℕ → Bool) (linked : Bool) (entries next : List �
 
 module _ {test : ℕ → Bool} {linked : Bool} {entries next : List ℕ} {c₀ c : AdjacencyCursor} (i : Seeking test linked entries next c₀ c)
     {s : Step} (r : s ≡ step-of linked entries next c) where
-  -- what the step left
-  turn : Stepped linked entries next c s
-  turn = subst (λ (t : Step). Stepped linked entries next c t) (sym r) (step-stepped linked (i .ready))
-
-  -- what was found stands before what is left
-  found-is : {f : Found} → s .found ≡ f → remaining linked entries next c ≡ found-then f (remaining linked entries next (s .cursor))
-  found-is q = turn .left ∙ ap (λ (f : Found). found-then f (remaining linked entries next (s .cursor))) q
-
   -- an entry that passes
   pub seek-listed : {e : ℕ} → s .found ≡ Edge e → test e ≡ true → Sought test linked entries next c₀ s
   unfolding from-first
-  seek-listed {e} q t = record { ready = turn .ready; left = i .same ∙ rw (found-is q, t, q) }
+  seek-listed {e} q t = record { ready = turn (i .ready) r .ready; left = i .same ∙ rw (found-is (i .ready) r q, t, q) }
 
   -- the end
   pub seek-done : s .found ≡ Done → Sought test linked entries next c₀ s
   unfolding from-first
-  seek-done q = record { ready = turn .ready; left = i .same ∙ rw (found-is q, q) }
+  seek-done q = record { ready = turn (i .ready) r .ready; left = i .same ∙ rw (found-is (i .ready) r q, q) }
 
   -- past an entry that does not pass
   pub seek-on : {e : ℕ} → s .found ≡ Edge e → test e ≡ false → Seeking test linked entries next c₀ (s .cursor)
   unfolding from-first
-  seek-on {e} q t = record { ready = turn .ready; same = i .same ∙ rw (found-is q, t) }
-
-  -- less is left
-  pub seek-less : {e : ℕ} → s .found ≡ Edge e → length (remaining linked entries next (s .cursor)) < length (remaining linked entries next c)
-  seek-less {e} q = rw (found-is q) (omega arith)
+  seek-on {e} q t = record { ready = turn (i .ready) r .ready; same = i .same ∙ rw (found-is (i .ready) r q, t) }
 
 -- the same walk without the run or base part, over columns of which the first is not read
 pub ring-ready : {linked : Bool} {entries next : List ℕ} {c : AdjacencyCursor} → Ready linked entries next c → Ready false next next (base-at c 0 0)

@@ -7,3 +7,6 @@ pub mod Reading
 pub mod Walk
 pub mod WalkLaws
 pub mod StoreWalks
+pub mod Clear
+pub mod ClearLaws
+pub mod StoreClears

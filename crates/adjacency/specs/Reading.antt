@@ -1,5 +1,5 @@
 -- A walk read to its end, one listed entry after the other: how many there are, and what a slice holds to which they, or a word of each, are written.
-use Prim.Native.Nat.{ℕ, suc, _+_, _-_, _≤_, _<_}
+use Prim.Native.Nat.{ℕ, suc, _+_, _≤_, _<_}
 use native.Mathlib.Omega.{arith}
 use native.Mathlib.Numerals.{add-one}
 use mathlib.Core.Path.{_≡_, refl, sym, ap, _∙_}
@@ -11,7 +11,7 @@ use lib.Dec.{eqb}
 use Rattle.plain.specs.Numbers.{NONE, LIMIT}
 use Rattle.plain.specs.Lists.{member, keep, written}
 use Rattle.plain.specs.Laws.Booleans.{by-test, and-left}
-use Rattle.plain.specs.Laws.ListLaws.{member-first, member-keep, length-keep, count-length}
+use Rattle.plain.specs.Laws.ListLaws.{map-snoc, member-first, member-keep, length-keep, count-length}
 use Rattle.shape.specs.Laws.Walking.{until-short}
 use Rattle.adjacency.specs.declared.cursor.AdjacencyCursor.{AdjacencyCursor}
 use Rattle.adjacency.specs.declared.cursor.Found.the-variants.{Edge, Done}
@@ -137,11 +137,6 @@ walked-few {test} r w =
 write-one : (past out₀ : List ℕ) (n v : ℕ) → n ≡ length past → n < length out₀ → set (past ++ drop n out₀) n v ≡ (past ++ (v ∷ [])) ++ drop (n + 1) out₀
 write-one past out₀ n v q h =
     rw (drop-cons out₀ n 0 h, add-one n) (set-at past (getD out₀ n 0) (drop (suc n) out₀) v n (sym q) ∙ sym (append-snoc past v (drop (suc n) out₀)))
-
--- a map of a list with one entry more
-map-snoc : (f : ℕ → ℕ) (xs : List ℕ) (e : ℕ) → map f (xs ++ (e ∷ [])) ≡ map f xs ++ (f e ∷ [])
-map-snoc f [] e = refl
-map-snoc f (x ∷ xs) e = ap (λ (l : List ℕ). f x ∷ l) (map-snoc f xs e)
 
 -- The walk has come to c, and the slice holds a word f of each entry past, from its start on.
 pub record Writing (f : ℕ → ℕ) (test : ℕ → Bool) (linked : Bool) (entries next : List ℕ) (c₀ : AdjacencyCursor) (out₀ out : List ℕ) (n : ℕ)

@@ -10,20 +10,12 @@ use Rattle.plain.specs.declared.Counts.{Counts}
 use Rattle.plain.specs.Numbers.{LIMIT}
 use Rattle.liveness.specs.Flags.{live-flags}
 use Rattle.shape.specs.Columns.{Sized}
-use Rattle.shape.specs.Shape.{base-of, run-of, ring-of, Adjacency, part, walk-of}
+use Rattle.shape.specs.Shape.{adjacency-in, part, walk-of}
 use Rattle.shape.specs.Checked.{Bounded, LiveRight, Index, Rings, Runs}
 use Rattle.adjacency.specs.declared.cursor.Start.{Start}
 use Rattle.adjacency.specs.Cursor.{part-left, ring-left, Ready}
 
 -- ---- what a walk reads
-
--- a node's adjacency, as `axis-of` of crate shape has it
-abbrev pub adjacency-in : List ℕ → ℕ → ℕ → Counts → ℕ → Adjacency
-adjacency-in ws ce cn counts x = record {
-  base = base-of ws ce cn (counts .nodes .base) x;
-  run = run-of ws ce cn x;
-  ring = ring-of ws ce (counts .edges .base) (counts .edges .bound) x;
-}
 
 -- a node's walk, by the live words of the edges
 abbrev pub walk-in : List ℕ → ℕ → ℕ → Counts → List ℕ → ℕ → Bool → List ℕ

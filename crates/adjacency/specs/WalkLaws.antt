@@ -4,7 +4,7 @@ use native.Mathlib.Nat.{le-of-suc-le-suc, not-suc-le-zero}
 use native.Mathlib.Omega.{arith}
 use mathlib.Core.Path.{_≡_, refl, sym, ap, _∙_, subst}
 use mathlib.Core.Bool.{Bool, true, false, cond}
-use mathlib.Core.Logic.{_⊎_, inl, inr, ⊎-elim}
+use mathlib.Core.Logic.{_⊎_, inl, inr}
 use mathlib.Core.Option.{some}
 use mathlib.Core.List.{List, [], _∷_, _++_}
 use lib.ListN.{length, drop, length-take, length-drop, length-append}
@@ -16,15 +16,18 @@ use Rattle.plain.specs.Numbers.{NONE, LIMIT}
 use Rattle.plain.specs.Lists.{member, keep, count}
 use Rattle.plain.specs.Reads.{live-count}
 use Rattle.plain.specs.Laws.Booleans.{by-test, and-left, or-other}
-use Rattle.plain.specs.Laws.ListLaws.{member-append, member-keep, member-first, member-later, count-length}
+use Rattle.plain.specs.Laws.ListLaws.{member-append, member-keep, count-length}
 use Rattle.liveness.specs.Flags.{live-flags}
 use Rattle.liveness.specs.FlagLaws.{length-flags}
+use Rattle.plain.specs.Laws.Deleting.{keep-all}
+use Rattle.shape.specs.Laws.Taking.{keep-agree}
+use Rattle.shape.specs.Laws.CheckedShape.{part-below, raw-below}
 use Rattle.shape.specs.Columns.{cell, last-at, first-at, count-at, mark-at}
 use Rattle.shape.specs.Chains.{chain, until, ring, In}
-use Rattle.shape.specs.Shape.{between, run-list, run-of, ring-of, part, raw, live-in}
-use Rattle.shape.specs.Laws.Chains.{in-none, chain-agree, run-below, run-short, until-agree, ring-line, ring-last, ring-below, line-last}
+use Rattle.shape.specs.Shape.{adjacency-in, between, run-list, run-of, ring-of, part, raw, live-in}
+use Rattle.shape.specs.Laws.Chains.{in-none, chain-agree, run-short, until-agree, ring-line, ring-last, ring-below, line-last}
 use Rattle.shape.specs.Laws.Frames.{between-agree}
-use Rattle.shape.specs.Laws.Walking.{between-none, between-member, until-wider, until-first}
+use Rattle.shape.specs.Laws.Walking.{between-none, until-wider, until-first}
 use Rattle.adjacency.specs.declared.cursor.AdjacencyCursor.{AdjacencyCursor}
 use Rattle.adjacency.specs.declared.cursor.Start.{Start}
 use Rattle.adjacency.specs.Index.{base-bounds}
@@ -33,7 +36,7 @@ use Rattle.adjacency.specs.Rings.{EndsReadable, ring-ends}
 use Rattle.adjacency.specs.Cursor.{word, part-left, part-count, ring-left, remaining, exhausted, base-at, PartWithin, Closed, listed, listed-left, Seekable, Writable}
 use Rattle.adjacency.specs.CursorLaws.{part-counted, ring-remaining}
 use Rattle.adjacency.specs.Reading.{kept-short}
-use Rattle.adjacency.specs.Walk.{adjacency-in, walk-in, tombstoned-in, column, entries-column, next-column, Readable, Walkable, Started}
+use Rattle.adjacency.specs.Walk.{walk-in, tombstoned-in, column, entries-column, next-column, Readable, Walkable, Started}
 
 -- ---- columns
 
@@ -143,31 +146,9 @@ module _ {ws : List ℕ} {ce cn : ℕ} {counts : Counts} {x : ℕ} (r : Readable
   unfolding run-of
   base-read unmarked = rw (eq-eqb (mark-at ws ce cn x) 0 unmarked) (bounds-part ws ce cn bn x)
 
-  -- its entries are below the edge bound
-  part-below : (e : ℕ) → In e (part (adjacency-in ws ce cn counts x)) → e < eb
-  unfolding run-list
-  part-below e m =
-      by-test (eqb (mark-at ws ce cn x) 0) (λ q. in-base (eqb-true (mark-at ws ce cn x) 0 q)) (λ q. in-run (eqb-false (mark-at ws ce cn x) 0 q))
-    where
-      in-run : (mark-at ws ce cn x ≡ 0 → ⊥) → e < eb
-      in-run marked = run-below (r .runs .run x (r .node) marked) e (rw (ne-eqb (mark-at ws ce cn x) 0 marked) (rw (run-read marked) at m))
-
-      in-index : (i : ℕ) → i < be → cell ws ce i < be
-      in-index i h = ⊎-elim (λ q. absurd (omega (arith, q .1))) (λ ok. ok .entries i h) (r .index)
-
-      in-base : mark-at ws ce cn x ≡ 0 → e < eb
-      in-base unmarked =
-          let at = between-member (cell ws ce) (base-bounds ws ce cn bn x .start) (base-bounds ws ce cn bn x .end) e (rw (base-read unmarked) at m) in
-          let stop = bounds-range ws ce cn bn x (r .index) .1 in
-          let bounded = r .edges in
-          let low = in-index (at .0) (omega (arith, at .2)) in
-          omega (arith, at .3)
-
-  -- and so are all that a walk reads
-  raw-below : (e : ℕ) → In e (raw (adjacency-in ws ce cn counts x)) → e < eb
-  raw-below e m =
-      ⊎-elim (part-below e) (ring-below (r .rings .ring x (r .node)) e)
-      (in-either e (part (adjacency-in ws ce cn counts x)) (ring-of ws ce be eb x) m)
+  -- all that a walk reads is below the edge bound
+  read-below : (e : ℕ) → In e (raw (adjacency-in ws ce cn counts x)) → e < eb
+  read-below = raw-below ws ce cn counts (r .edges .base-within) (r .index) (r .runs) x (r .node) (r .rings)
 
   -- ---- the start
 
@@ -185,7 +166,7 @@ module _ {ws : List ℕ} {ce cn : ℕ} {counts : Counts} {x : ℕ} (r : Readable
       short = omega arith;
       part = within;
       closed = ring-starts .1;
-      below = λ e m. let low = raw-below e (rw (whole, ring-starts .0) at m) in let bounded = r .edges in omega (arith, next-length);
+      below = λ e m. let low = read-below e (rw (whole, ring-starts .0) at m) in let bounded = r .edges in omega (arith, next-length);
     };
     part-is = whole;
     ring-is = ring-starts .0;
@@ -201,7 +182,7 @@ module _ {ws : List ℕ} {ce cn : ℕ} {counts : Counts} {x : ℕ} (r : Readable
       started true (first-at ws ce cn x) (count-at ws ce cn x) (omega arith) (rw (run-length, next-length) (omega arith))
       (rw (run-read marked)
       (chain-agree (cell ws (3 * ce)) (word (entries-column ws ce true)) (count-at ws ce cn x) (first-at ws ce cn x)
-      (λ e m. let low = part-below e (rw (run-read marked) m) in column-word ws (3 * ce) ce e (omega arith))))
+      (λ e m. let low = part-below ws ce cn counts (r .edges .base-within) (r .index) (r .runs) x (r .node) e (rw (run-read marked) m) in column-word ws (3 * ce) ce e (omega arith))))
 
   -- a node without a run
   pub base-starts : mark-at ws ce cn x ≡ 0
@@ -236,6 +217,23 @@ module _ {ws : List ℕ} {ce cn : ℕ} {counts : Counts} {x : ℕ} (r : Readable
 
 -- ---- what a started walk reads
 
+module _ {ws : List ℕ} {ce cn : ℕ} {counts : Counts} {x : ℕ} {live : Bool} {s : Start} (t : Started ws ce cn counts x live s) where
+  -- the run or base part and the ring of a live node
+  pub started-left : remaining (s .linked) (entries-column ws ce (s .linked)) (next-column ws ce) (s .cursor)
+      ≡ cond live (raw (adjacency-in ws ce cn counts x)) []
+  unfolding remaining
+  started-left = rw (t .part-is, t .ring-is) (both live)
+    where
+      both : (b : Bool) → cond b (part (adjacency-in ws ce cn counts x)) [] ++ cond b (adjacency-in ws ce cn counts x .ring) []
+          ≡ cond b (raw (adjacency-in ws ce cn counts x)) []
+      both true = refl
+      both false = refl
+
+  -- with columns that were handed out, and live words that are long enough, it can be read
+  pub started-seekable : {entries next live-edges : List ℕ} {slots : ℕ} → entries ≡ entries-column ws ce (s .linked) → next ≡ next-column ws ce
+      → slots ≤ 64 * length live-edges → Seekable (s .linked) entries next live-edges slots (s .cursor)
+  started-seekable are-entries is-next long = rw (are-entries, is-next) (record { ready = t .ready; live-long = long })
+
 -- all flags are set where as many are as there are
 flag-set : (flags : List Bool) (i : ℕ) → live-count flags ≡ length flags → i < length flags → live-in flags i ≡ true
 unfolding count
@@ -243,19 +241,6 @@ flag-set [] i full h = absurd (not-suc-le-zero h)
 flag-set (true ∷ flags) zero full h = refl
 flag-set (true ∷ flags) (suc i) full h = flag-set flags i (omega arith) (le-of-suc-le-suc h)
 flag-set (false ∷ flags) i full h = absurd (omega (arith, count-length (λ f. f) flags))
-
--- filters that agree at the members are equal
-keep-same : (f g : ℕ → Bool) (xs : List ℕ) → ((e : ℕ) → In e xs → f e ≡ g e) → keep f xs ≡ keep g xs
-unfolding keep
-keep-same f g [] agree = refl
-keep-same f g (x ∷ xs) agree =
-    rw (agree x (member-first x xs), keep-same f g xs (λ e m. agree e (member-later e x xs m)))
-
--- a filter that all pass
-keep-all : (xs : List ℕ) → keep (λ e. true) xs ≡ xs
-unfolding keep
-keep-all [] = refl
-keep-all (x ∷ xs) = rw (keep-all xs)
 
 module _ {ws : List ℕ} {ce cn : ℕ} {counts : Counts} {live-edges : List ℕ} {x : ℕ} (w : Walkable ws ce cn counts live-edges x) where
   abbrev flags : List Bool
@@ -274,33 +259,22 @@ module _ {ws : List ℕ} {ce cn : ℕ} {counts : Counts} {live-edges : List ℕ}
   -- a walk has edges below the bound
   pub walk-below : (live : Bool) (e : ℕ) → In e (walk-in ws ce cn counts live-edges x live) → e < counts .edges .bound
   walk-below true e m =
-      raw-below (w .readable) e
+      read-below (w .readable) e
       (and-left (member e (raw (adjacency-in ws ce cn counts x))) (live-in flags e) (sym (member-keep (live-in flags) e (raw (adjacency-in ws ce cn counts x))) ∙ m))
   walk-below false e m = in-none e m
 
   module _ {live : Bool} {s : Start} (t : Started ws ce cn counts x live s) where
-    -- the run or base part and the ring of a live node
-    started-left : remaining (s .linked) (entries-column ws ce (s .linked)) (next-column ws ce) (s .cursor)
-        ≡ cond live (raw (adjacency-in ws ce cn counts x)) []
-    unfolding remaining
-    started-left = rw (t .part-is, t .ring-is) (both live)
-      where
-        both : (b : Bool) → cond b (part (adjacency-in ws ce cn counts x)) [] ++ cond b (adjacency-in ws ce cn counts x .ring) []
-            ≡ cond b (raw (adjacency-in ws ce cn counts x)) []
-        both true = refl
-        both false = refl
-
     -- the listed entries of it are the node's walk
     pub started-walk : listed-left (s .linked) (entries-column ws ce (s .linked)) (next-column ws ce) (tombstoned-in counts) live-edges
         (counts .edges .bound) (s .cursor) ≡ walk-in ws ce cn counts live-edges x live
     unfolding keep
-    started-walk = rw started-left (kept live)
+    started-walk = rw (started-left t) (kept live)
       where
         kept : (b : Bool) → keep (listed (tombstoned-in counts) flags) (cond b (raw (adjacency-in ws ce cn counts x)) [])
             ≡ cond b (keep (live-in flags) (raw (adjacency-in ws ce cn counts x))) []
         kept true =
-            keep-same (listed (tombstoned-in counts) flags) (live-in flags) (raw (adjacency-in ws ce cn counts x))
-            (λ e m. listed-live e (raw-below (w .readable) e m))
+            keep-agree (listed (tombstoned-in counts) flags) (live-in flags) (raw (adjacency-in ws ce cn counts x))
+            (λ e m. listed-live e (read-below (w .readable) e m))
         kept false = refl
 
     -- where no edge is removed, the walk is as long as the run or base part and the ring together
@@ -335,7 +309,7 @@ module _ {ws : List ℕ} {ce cn : ℕ} {counts : Counts} {live-edges : List ℕ}
     module _ {entries next : List ℕ} (are-entries : entries ≡ entries-column ws ce (s .linked)) (is-next : next ≡ next-column ws ce) where
       -- the walk can be read
       pub given-seekable : Seekable (s .linked) entries next live-edges (counts .edges .bound) (s .cursor)
-      given-seekable = rw (are-entries, is-next) (record { ready = t .ready; live-long = w .live-long })
+      given-seekable = started-seekable t are-entries is-next (w .live-long)
 
       -- its listed entries are the node's walk
       pub given-walk : {tombstoned : Bool} → tombstoned ≡ tombstoned-in counts

@@ -1,11 +1,11 @@
 -- The calls that change a store or speak of its memory, each with the lengths of what is lent: number, value, answer words, plain lists afterwards.
 -- Document 01, "The strip", the table and the order of refusals. The reads are in `Reads`, the calls on maps in `Renumbering`.
-use Prim.Native.Nat.{ℕ, zero, suc, _+_, _*_, _%_}
-use mathlib.Core.Bool.{Bool, true, false, cond, not}
+use Prim.Native.Nat.{ℕ, zero, suc, _*_, _%_}
+use mathlib.Core.Bool.{true, cond, not}
 use mathlib.Core.Option.{Option, none, some}
 use mathlib.Core.List.{List, [], _∷_}
 use lib.ListN.{length}
-use lib.Dec.{eqb, leb, ltb}
+use lib.Dec.{eqb, ltb}
 use Rattle.plain.specs.declared.Answer.{Answer}
 use Rattle.plain.specs.declared.Record.{Record}
 use Rattle.plain.specs.Numbers.{NONE, LIMIT, done, no-store, too-short, ragged, not-compact, unreadable, above-limit}
@@ -13,7 +13,7 @@ use Rattle.plain.specs.Plain.{Plain, empty, node-bound, edge-bound, node
 use Rattle.plain.specs.Operations.{operations, operation-words}
 use Rattle.plain.specs.Step.{Capacities, State, run, answers}
 use Rattle.plain.specs.Reads.{Reply, lent, live-edges, no-record}
-use Rattle.plain.specs.Compaction.{Survivors, survivors, of-survivors, compacted, renumbering, adjacency}
+use Rattle.plain.specs.Compaction.{survivors, of-survivors, compacted, renumbering, adjacency}
 use Rattle.plain.specs.Image.{image, parsed, broken-image, nodes-in, edges-in}
 use Rattle.plain.specs.Memory.{Slice, first-short, Lengths, other-slices}
 

@@ -2,7 +2,7 @@
 -- makes their counts the bounds and renumbers ends and lists, each list in its order."
 -- "Only in a checked store that neither a fresh one nor an image led to, a list whose base part or run ascends (its dead entries read too) comes out in slot
 -- order, as in the Rust": that speaks of the words of a store and not of its lists alone, and stands with the store's shape.
-use Prim.Native.Nat.{ℕ, zero, suc, _+_, _*_}
+use Prim.Native.Nat.{ℕ, zero, suc, _+_}
 use mathlib.Core.Bool.{Bool, true, false, cond}
 use mathlib.Core.List.{List, [], _∷_, _++_, map}
 use lib.ListN.{getD}
@@ -10,7 +10,7 @@ use Rattle.plain.specs.declared.TraversalDirection.{TraversalDirection}
 use Rattle.plain.specs.declared.TraversalDirection.the-variants.{Outgoing, Incoming}
 use Rattle.plain.specs.Numbers.{NONE}
 use Rattle.plain.specs.Lists.{joined}
-use Rattle.plain.specs.Plain.{Plain, NodeSlot, EdgeSlot, EdgePayload, Incidence, no-node, no-edge, node-flags, edge-flags, list-of, end-of}
+use Rattle.plain.specs.Plain.{Plain, NodeSlot, EdgeSlot, EdgePayload, no-node, no-edge, node-flags, edge-flags, list-of, end-of}
 use Rattle.plain.specs.Reads.{live-slots}
 
 -- how many live slots stand before slot x: the number that x gets if it is live

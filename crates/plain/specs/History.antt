@@ -1,7 +1,7 @@
 -- Whole histories: a list of strips, compactions and image readings from a fresh store. Document 01, "Demand 3": "It is one claim about two whole lists of
 -- calls, not one for each call. Every number answered in them follows from the plain lists and the calls' arguments, lengths included, never from the store's
 -- counts or words; a refused call or operation leaves the plain lists and the store as they were." What a field is stands with the store's shape.
-use Prim.Native.Nat.{ℕ, zero, suc}
+use Prim.Native.Nat.{ℕ}
 use mathlib.Core.Bool.{cond}
 use mathlib.Core.List.{List, [], _∷_}
 use lib.Dec.{eqb}

@@ -8,6 +8,7 @@ pub mod Cases
 pub mod Operating
 pub mod Stepping
 pub mod CallCases
+pub mod Strips
 pub mod Rank
 pub mod Renumberings
 pub mod Fitting

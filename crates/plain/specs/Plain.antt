@@ -6,7 +6,7 @@ use mathlib.Core.List.{List, [], _∷_, _++_, map}
 use lib.ListN.{length, getD, set, getElem?}
 use Rattle.plain.specs.declared.TraversalDirection.{TraversalDirection}
 use Rattle.plain.specs.declared.TraversalDirection.the-variants.{Outgoing, Incoming}
-use Rattle.plain.specs.Lists.{append-at, delete-at, set-all, count}
+use Rattle.plain.specs.Lists.{append-at, delete-at, set-all}
 
 -- "Payloads `N` and `E` become `u32`."
 abbrev pub EdgePayload : Type 0

@@ -2,7 +2,7 @@
 -- "A field is a count of the record or a word of the store's own memory (no map, work or answer word) whose content can change an answer of the check or of a read
 -- of the store": the counts, and the words that `shape-of` and the rules below read. No fields are, for instance, words past the bounds, links of no entry, the
 -- link of a run's last entry, first and tail of an empty run, and every index word where both base counts are 0.
-use Prim.Native.Nat.{ℕ, suc, _+_, _*_, _≤_, _<_}
+use Prim.Native.Nat.{ℕ, suc, _*_, _≤_, _<_}
 use mathlib.Core.Path.{_≡_}
 use mathlib.Core.Bool.{Bool, true, false}
 use mathlib.Core.Logic.{_⊎_}
@@ -11,7 +11,6 @@ use lib.ListN.{length, getD}
 use Rattle.plain.specs.declared.TraversalDirection.{TraversalDirection}
 use Rattle.plain.specs.declared.Slots.{Slots}
 use Rattle.plain.specs.declared.Counts.{Counts}
-use Rattle.plain.specs.Numbers.{LIMIT}
 use Rattle.plain.specs.Reads.{live-count}
 use Rattle.plain.specs.Memory.{live-words}
 use Rattle.plain.specs.Laws.WellFormed.{WellFormed}

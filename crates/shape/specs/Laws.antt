@@ -12,3 +12,7 @@ pub mod Reaching
 pub mod Settling
 pub mod Compactness
 pub mod Checking
+pub mod Reading
+pub mod Judging
+pub mod CheckedShape
+pub mod Running

@@ -1,6 +1,6 @@
 -- The rules of the check as tests on counts, lengths and words, and `broken`, the first that fails. Document 01, "Checking a store".
-use Prim.Native.Nat.{ℕ, zero, suc, _+_, _*_, _-_}
-use mathlib.Core.Bool.{Bool, true, false, cond, _&&_, _||_, not}
+use Prim.Native.Nat.{ℕ, suc, _+_, _*_, _-_}
+use mathlib.Core.Bool.{Bool, false, cond, _&&_, _||_, not}
 use mathlib.Core.List.{List, [], _∷_, map}
 use lib.ListN.{length, getD}
 use lib.Dec.{eqb, leb, ltb}
@@ -14,9 +14,9 @@ use Rattle.plain.specs.Plain.{Plain, edge-bound, node-bound, node-flags, edge-f
 use Rattle.plain.specs.Reads.{live-count}
 use Rattle.plain.specs.Memory.{live-words}
 use Rattle.liveness.specs.Flags.{packed}
-use Rattle.shape.specs.Columns.{cell, end-at, adjacency-at, last-at, first-at, tail-at, count-at, mark-at, offset-at}
-use Rattle.shape.specs.Chains.{chain, until}
-use Rattle.shape.specs.Shape.{Words, node-live, edge-live, axis-words, run-list, shape-of, plain-of}
+use Rattle.shape.specs.Columns.{cell, end-at, adjacency-at, last-at, tail-at, offset-at}
+use Rattle.shape.specs.Chains.{until}
+use Rattle.shape.specs.Shape.{Words, node-live, edge-live, run-list, shape-of, plain-of}
 
 -- both directions pass a test of an axis
 abbrev pub both-axes : (List ℕ → Bool) → Words → Bool

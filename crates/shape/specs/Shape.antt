@@ -1,6 +1,6 @@
 -- The shape of a store: what the Rust holds in its vectors, as lists of edge numbers, dead entries included. It is a total function of the counts and the six
 -- lists of words; the plain lists are a total function of it.
-use Prim.Native.Nat.{ℕ, zero, suc, _+_, _-_, _*_}
+use Prim.Native.Nat.{ℕ, suc, _-_, _*_}
 use mathlib.Core.Bool.{Bool, true, false, cond, _&&_, not}
 use mathlib.Core.Option.{Option, none, some}
 use mathlib.Core.List.{List, [], _∷_, _++_, map}
@@ -8,13 +8,12 @@ use lib.ListN.{length, getD}
 use lib.Dec.{eqb, leb, ltb}
 use Rattle.plain.specs.declared.TraversalDirection.{TraversalDirection}
 use Rattle.plain.specs.declared.TraversalDirection.the-variants.{Outgoing, Incoming}
-use Rattle.plain.specs.declared.Slots.{Slots}
 use Rattle.plain.specs.declared.Counts.{Counts}
 use Rattle.plain.specs.Lists.{member, keep, all, from}
 use Rattle.plain.specs.Plain.{Plain, NodeSlot, EdgeSlot, Incidence}
 use Rattle.plain.specs.Step.{Capacities}
 use Rattle.liveness.specs.Flags.{live-flags}
-use Rattle.shape.specs.Columns.{adjacency-at, next-at, link-at, last-at, first-at, count-at, mark-at, offset-at, cell}
+use Rattle.shape.specs.Columns.{last-at, first-at, count-at, mark-at, offset-at, cell}
 use Rattle.shape.specs.Chains.{chain, ring}
 
 -- ---- one node of one direction, from the words of its axis
@@ -83,15 +82,19 @@ abbrev pub axis-words : TraversalDirection → Words → List ℕ
 axis-words Outgoing w = w .outgoing
 axis-words Incoming w = w .incoming
 
--- one direction, of capacities ce and cn and these counts
+-- the adjacency of node x, in words of capacities ce and cn with these counts
+abbrev pub adjacency-in : List ℕ → ℕ → ℕ → Counts → ℕ → Adjacency
+adjacency-in ws ce cn counts x = record {
+  base = base-of ws ce cn (counts .nodes .base) x;
+  run = run-of ws ce cn x;
+  ring = ring-of ws ce (counts .edges .base) (counts .edges .bound) x;
+}
+
+-- one direction
 unfoldable pub axis-of : List ℕ → ℕ → ℕ → Counts → Axis
 axis-of ws ce cn counts = record {
   ends = map (λ e. getD ws e 0) (from 0 (counts .edges .bound));
-  nodes = map (λ x. record {
-    base = base-of ws ce cn (counts .nodes .base) x;
-    run = run-of ws ce cn x;
-    ring = ring-of ws ce (counts .edges .base) (counts .edges .bound) x;
-  }) (from 0 (counts .nodes .bound));
+  nodes = map (adjacency-in ws ce cn counts) (from 0 (counts .nodes .bound));
 }
 
 unfoldable pub shape-of : Words → Shape

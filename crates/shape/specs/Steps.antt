@@ -17,8 +17,8 @@ use Rattle.plain.specs.declared.Operation.{Operation}
 use Rattle.plain.specs.declared.Operation.the-variants.{AddNode, AddEdge, RemoveEdge, RemoveNode, Redirect, Move, SetPayload, Unknown}
 use Rattle.plain.specs.Lists.{member, without, keep, from, set-all}
 use Rattle.plain.specs.Plain.{NodeSlot, EdgeSlot, killed-node, killed-edge, no-node, no-edge}
-use Rattle.plain.specs.Step.{Capacities, Outcome, step}
-use Rattle.shape.specs.Shape.{Adjacency, Axis, Shape, live-in, walk-of, no-adjacency, axis-in, adjacency-of, node-flags-of, edge-flags-of, plain-of}
+use Rattle.plain.specs.Step.{Capacities, Outcome, State, step}
+use Rattle.shape.specs.Shape.{Adjacency, Axis, Shape, live-in, walk-of, no-adjacency, axis-in, adjacency-of, node-flags-of, edge-flags-of, is-compact, plain-of}
 
 -- ---- one node
 
@@ -153,3 +153,12 @@ acts Unknown o = false
 -- the shape after an operation
 unfoldable pub shape-step : Capacities → Shape → Operation → Shape
 shape-step caps s operation = cond (acts operation (step caps (plain-of s) operation)) (acted operation s) s
+
+-- the shape after a strip: "A refused operation changes nothing and the strip goes on."
+unfoldable pub shape-run : Capacities → Shape → List Operation → Shape
+shape-run caps s [] = s
+shape-run caps s (operation ∷ operations) = shape-run caps (shape-step caps s operation) operations
+
+-- the plain lists of a shape, with the compact flag beside them
+abbrev pub state-of : Shape → State
+state-of s = record { lists = plain-of s; compact = is-compact s }

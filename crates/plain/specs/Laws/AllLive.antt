@@ -1,10 +1,10 @@
 -- Lists in which every slot is live: compaction leaves them as they are, and their image read gives them back. So are the lists of every compact store.
 use Prim.Native.Nat.{ℕ, _≤_, _<_}
-use mathlib.Core.Path.{_≡_, refl, sym, ap, subst, _∙_}
-use mathlib.Core.Bool.{Bool, true, false, _&&_}
-use mathlib.Core.List.{List, [], map}
+use mathlib.Core.Path.{_≡_, sym, ap, _∙_}
+use mathlib.Core.Bool.{Bool, true, false}
+use mathlib.Core.List.{List, []}
 use native.Mathlib.Omega.{arith}
-use lib.ListN.{length, getD, replicate, length-map, List·getD-map}
+use lib.ListN.{length, getD, replicate, List·getD-map}
 use lib.Seq.{ext-getD}
 use lib.Dec.{eqb}
 use borrow.Author.Tests.{lt-ltb}
@@ -12,15 +12,15 @@ use Rattle.plain.specs.declared.TraversalDirection.{TraversalDirection}
 use Rattle.plain.specs.declared.TraversalDirection.the-variants.{Outgoing, Incoming}
 use Rattle.plain.specs.Numbers.{LIMIT}
 use Rattle.plain.specs.Lists.{member}
-use Rattle.plain.specs.Plain.{Plain, NodeSlot, EdgeSlot, Incidence, incidence, no-node, no-edge, node-bound, edge-bound, node-flags, edge-flags, list-of, end-of}
+use Rattle.plain.specs.Plain.{Plain, NodeSlot, EdgeSlot, incidence, no-node, no-edge, node-bound, edge-bound, node-flags, edge-flags, list-of, end-of}
 use Rattle.plain.specs.Step.{Capacities}
 use Rattle.plain.specs.Compaction.{survivors, of-survivors, compacted, rank}
 use Rattle.plain.specs.Image.{image, parsed}
 use Rattle.plain.specs.Laws.Booleans.{and-left}
 use Rattle.plain.specs.Laws.ListLaws.{map-unchanged}
-use Rattle.plain.specs.Laws.WellFormed.{Incident, WellFormed}
+use Rattle.plain.specs.Laws.WellFormed.{WellFormed}
 use Rattle.plain.specs.Laws.Rank.{rank-all-live, live-all-live, live-count-all-live}
-use Rattle.plain.specs.Laws.Operating.{incident, edge-below, length-node-flags, length-edge-flags}
+use Rattle.plain.specs.Laws.Operating.{incident, edge-below, length-edge-flags}
 use Rattle.plain.specs.Laws.Compacting.{survivors-sound, compacted-well-formed, compacted-nodes-live, compacted-edges-live, compacted-node-bound, compacted-edge-bound, compacted-list, compacted-end, compacted-node-payload, compacted-edge-payload}
 use Rattle.plain.specs.Laws.ImageLaws.{read-back}
 

@@ -2,31 +2,29 @@
 -- leave nothing out, so each number is given exactly in its case; a refused call leaves the store.
 use Prim.Native.Nat.{ℕ, zero, suc, _*_, _%_, _≤_, _<_}
 use mathlib.Core.Path.{_≡_, refl, sym, ap, _∙_}
-use mathlib.Core.Bool.{Bool, true, false, cond, not}
+use mathlib.Core.Bool.{Bool, true, false}
 use mathlib.Core.Logic.{_⊎_, inl, inr, ⊎-elim}
 use mathlib.Core.Option.{Option, none, some, Option·map}
 use mathlib.Core.List.{List, [], _∷_, map}
 use native.Mathlib.Omega.{arith}
 use lib.ListN.{length, getD, getElem?, length-map, List·getD-map}
-use lib.Dec.{eqb, leb, ltb}
 use borrow.Author.Tests.{eq-eqb, ne-eqb, le-leb, lt-leb, lt-ltb, le-ltb}
 use Rattle.plain.specs.declared.TraversalDirection.{TraversalDirection}
 use Rattle.plain.specs.declared.TraversalDirection.the-variants.{Outgoing, Incoming}
 use Rattle.plain.specs.declared.Answer.{Answer}
 use Rattle.plain.specs.declared.Record.{Record}
 use Rattle.plain.specs.Numbers.{NONE}
-use Rattle.plain.specs.Plain.{Plain, NodeSlot, EdgeSlot, no-node, no-edge, node-bound, edge-bound, node-flags, edge-flags, node-slot, edge-slot, list-of, end-of, opposite}
+use Rattle.plain.specs.Plain.{Plain, NodeSlot, EdgeSlot, no-node, no-edge, node-bound, edge-bound, node-flags, edge-flags, list-of, end-of, opposite}
 use Rattle.plain.specs.Operations.{operations}
-use Rattle.plain.specs.Step.{Capacities, State, live-node, live-edge, node-missing, run, answers}
-use Rattle.plain.specs.Reads.{Reply, lent, listing, reply-unless, answer-unless, answered, yes-or-no, no-record, walk, neighbors, degree, node-payload, edge-record, live-edge-record, contains-node, contains-edge, is-live, find-fault}
-use Rattle.plain.specs.Renumbering.{composed, compose}
+use Rattle.plain.specs.Step.{Capacities, State, node-missing, run, answers}
+use Rattle.plain.specs.Reads.{lent, listing, answered, yes-or-no, no-record, walk, neighbors, degree, node-payload, edge-record, live-edge-record, contains-node, contains-edge, is-live, find-fault}
 use Rattle.plain.specs.Compaction.{survivors}
 use Rattle.plain.specs.Image.{image, broken-image, nodes-in, edges-in}
 use Rattle.plain.specs.Memory.{Slice, first-short, Lengths, other-slices}
-use Rattle.plain.specs.Calls.{Stripped, strip, short-answer, within, fresh-within, Compacted, compaction-slices, compacting, compaction, write-image, reading-slices, read-within}
-use Rattle.plain.specs.Laws.Booleans.{by-test, below-or-not}
+use Rattle.plain.specs.Calls.{strip, short-answer, within, fresh-within, compaction-slices, compacting, compaction, write-image, reading-slices, read-within}
+use Rattle.plain.specs.Laws.Booleans.{below-or-not}
 use Rattle.plain.specs.Laws.Operating.{edge-below}
-use Rattle.plain.specs.Laws.Cases.{Absent, Removed, Live, Slot, absent, removed, live, slot, flag-absent, flag-removed, flag-live, fault-absent, fault-below}
+use Rattle.plain.specs.Laws.Cases.{Absent, Removed, Live, live, fault-absent, fault-below}
 
 -- ---- lent slices
 

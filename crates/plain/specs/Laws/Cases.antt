@@ -2,19 +2,19 @@
 -- that `step` gives each outcome exactly in its case; so a definition that refused too much or too little would fail them.
 use Prim.Native.Nat.{ℕ, zero, suc, _≤_, _<_}
 use mathlib.Core.Path.{_≡_, refl, sym, ap, subst, _∙_}
-use mathlib.Core.Bool.{Bool, true, false, cond}
-use mathlib.Core.Logic.{_⊎_, inl, inr, ⊎-elim}
-use mathlib.Core.Option.{Option, none, some, Option·map}
+use mathlib.Core.Bool.{Bool, true, false}
+use mathlib.Core.Logic.{⊎-elim}
+use mathlib.Core.Option.{none, some, Option·map}
 use mathlib.Core.List.{List, [], _∷_, map, nil≢cons}
 use native.Mathlib.Omega.{arith}
 use lib.ListN.{length, getD, getElem?, length-map}
-use lib.Dec.{eqb, leb}
-use borrow.Author.Tests.{eq-eqb, ne-eqb, eqb-true, eqb-false, le-leb, lt-leb, leb-true, leb-false}
+use lib.Dec.{eqb}
+use borrow.Author.Tests.{eq-eqb, ne-eqb, eqb-true, eqb-false, le-leb, lt-leb}
 use Rattle.plain.specs.declared.TraversalDirection.{TraversalDirection}
 use Rattle.plain.specs.declared.Operation.{Operation}
 use Rattle.plain.specs.declared.Operation.the-variants.{AddNode, AddEdge, RemoveEdge, RemoveNode, Redirect, Move, SetPayload, Unknown}
-use Rattle.plain.specs.Plain.{Plain, NodeSlot, EdgeSlot, incidence, with-incidence, node-bound, edge-bound, node-flags, edge-flags, node-slot, edge-slot, list-of, end-of, node-added, edge-added, edge-removed, node-removed, redirected, moved, payload-set}
-use Rattle.plain.specs.Step.{Capacities, Outcome, refused, unchanged, changed, unless, slot-fault, live-node, live-edge, node-fault, node-missing, edge-fault, edge-missing, moving, step}
+use Rattle.plain.specs.Plain.{Plain, NodeSlot, EdgeSlot, incidence, with-incidence, node-bound, edge-bound, node-flags, edge-flags, list-of, end-of, node-added, edge-added, edge-removed, node-removed, redirected, moved, payload-set}
+use Rattle.plain.specs.Step.{Capacities, Outcome, refused, unchanged, changed, unless, slot-fault, node-fault, edge-fault, moving, step}
 use Rattle.plain.specs.Laws.Booleans.{by-test, below-or-not, true-false}
 
 -- ---- what a slot is: at or above the bound, removed or live

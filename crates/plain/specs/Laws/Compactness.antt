@@ -1,14 +1,14 @@
 -- The compact flag: where it is set, every slot is live. So the image of a compact store, read, gives its lists back.
-use Prim.Native.Nat.{ℕ, zero, suc, _*_, _%_}
+use Prim.Native.Nat.{ℕ, _*_, _%_}
 use mathlib.Core.Path.{_≡_, refl, sym, ap, _∙_}
-use mathlib.Core.Bool.{Bool, true, false, cond, _&&_, false≢true}
+use mathlib.Core.Bool.{true, false≢true}
 use mathlib.Core.Option.{Option, none, some}
 use mathlib.Core.List.{List, [], _∷_}
-use lib.ListN.{length, getD, set, replicate, length-set}
+use lib.ListN.{length, getD, replicate, length-set}
 use lib.Seq.{map-set-same}
 use lib.Dec.{eqb, ltb}
 use Rattle.plain.specs.declared.Operation.{Operation}
-use Rattle.plain.specs.Plain.{Plain, EdgeSlot, no-edge, node-bound, edge-bound, node-flags, edge-flags, empty, payload-set}
+use Rattle.plain.specs.Plain.{Plain, EdgeSlot, no-edge, payload-set}
 use Rattle.plain.specs.Operations.{operations}
 use Rattle.plain.specs.Step.{Capacities, Outcome, State, step, stepped, run}
 use Rattle.plain.specs.Compaction.{Survivors, survivors, of-survivors}

@@ -1,12 +1,10 @@
 -- Laws of a list after an entry is set, appended or deleted, each as one equation by cases on the index.
-use Prim.Native.Nat.{ℕ, zero, suc, _+_, _≤_, _<_}
+use Prim.Native.Nat.{ℕ, zero, suc, _<_}
 use mathlib.Core.Path.{_≡_, refl, sym, ap, _∙_}
-use mathlib.Core.Bool.{Bool, true, false, cond, _&&_, _||_, not, false≢true}
-use mathlib.Core.Logic.{_⊎_, inl, inr, ⊎-elim}
+use mathlib.Core.Bool.{true, false, cond, _||_, not, false≢true}
 use mathlib.Core.List.{List, [], _∷_, _++_, map}
-use native.Mathlib.Omega.{arith}
-use lib.ListN.{length, getD, set, length-set, length-append}
-use lib.Seq.{getD-set-same, getD-set-other, getD-append-add}
+use lib.ListN.{length, getD, set, length-set}
+use lib.Seq.{getD-set-same, getD-set-other}
 use lib.Dec.{eqb, eqb·zero-suc, eqb·suc-zero, eqb·suc-suc}
 use borrow.Author.Tests.{eq-eqb, eqb-true, eqb-false, not-true}
 use Rattle.plain.specs.Lists.{member, without, distinct, keep, append-at, delete-at, set-all}
@@ -33,7 +31,8 @@ module _ {A : Type 0} where
 
 -- ---- members
 
-keep-all : (l : List ℕ) → keep (λ e. true) l ≡ l
+-- every entry passes
+pub keep-all : (l : List ℕ) → keep (λ e. true) l ≡ l
 unfolding keep
 keep-all [] = refl
 keep-all (x ∷ l) = rw (keep-all l)

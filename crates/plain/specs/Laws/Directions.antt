@@ -1,18 +1,17 @@
 -- Each operation's change to one direction keeps the direction well formed: `Incident`.
-use Prim.Native.Nat.{ℕ, zero, suc, _+_, _≤_, _<_}
-use mathlib.Core.Path.{_≡_, refl, sym, ap, _∙_}
-use mathlib.Core.Bool.{Bool, true, false, cond, _&&_, _||_, not}
-use mathlib.Core.Logic.{_⊎_, inl, inr, ⊎-elim}
+use Prim.Native.Nat.{ℕ, _+_, _≤_, _<_}
+use mathlib.Core.Path.{_≡_, refl, sym, _∙_}
+use mathlib.Core.Bool.{Bool, true, false, cond, _&&_}
 use mathlib.Core.List.{List, [], _∷_, _++_}
 use native.Mathlib.Omega.{arith}
 use native.Mathlib.Nat.{le-refl}
 use lib.ListN.{length, getD, set, length-set, length-append, List·getD-eq-default}
 use lib.Dec.{eqb}
-use borrow.Author.Tests.{eq-eqb, ne-eqb, eqb-true, eqb-false}
-use Rattle.plain.specs.Lists.{member, without, distinct, append-at, delete-at, set-all}
+use borrow.Author.Tests.{eq-eqb, eqb-true, eqb-false}
+use Rattle.plain.specs.Lists.{member, without, distinct, append-at, delete-at}
 use Rattle.plain.specs.Plain.{Incidence, widened, attached, detached, redirected, moved}
 use Rattle.plain.specs.Laws.WellFormed.{Incident}
-use Rattle.plain.specs.Laws.Booleans.{by-test, true-false, and-left, and-right, and-false, or-true, or-false, eqb-comm, below-or-not}
+use Rattle.plain.specs.Laws.Booleans.{by-test, true-false, and-left, and-right, and-false, or-true, or-false, eqb-comm}
 use Rattle.plain.specs.Laws.ListLaws.{member-append, distinct-without}
 use Rattle.plain.specs.Laws.Rank.{live-below}
 use Rattle.plain.specs.Laws.Deleting.{getD-set, getD-snoc, member-gone, member-kept, distinct-appended, distinct-snoc, getD-append-at, getD-delete-at, length-append-at, length-delete-at, length-set-all, getD-set-all}

@@ -110,6 +110,19 @@ distinct-edges-at ends x = distinct-keep (λ e. eqb x (getD ends e 0)) (from 0 (
 pub live-has-end : (ends : List ℕ) (m x e : ℕ) → length ends ≡ m → (getD (replicate m true) e false && eqb (getD ends e 0) x) ≡ has-end ends x e
 live-has-end ends m x e long = ap (λ (live : Bool). live && eqb (getD ends e 0) x) (live-all-live m e ∙ ap (ltb e) (sym long))
 
+module _ {n : ℕ} {ends : List ℕ} {lists : List (List ℕ)} (f : Fitted n ends lists) where
+  -- there is a list a node
+  pub fitted-many : length lists ≡ n
+  fitted-many =
+      sym (length-map lists (λ (l : List ℕ). length l)) ∙ ap length (f .lengths) ∙ length-map (from 0 n) (λ x. count (eqb x) ends) ∙ length-from 0 n
+
+  -- each as long as the ends say
+  pub fitted-long : (x : ℕ) → x < n → length (getD lists x []) ≡ count (eqb x) ends
+  fitted-long x h =
+      sym (List·getD-map (λ (l : List ℕ). length l) lists x []) ∙ ap (λ (l : List ℕ). getD l x 0) (f .lengths)
+      ∙ getD-map (λ x. count (eqb x) ends) (from 0 n) x 0 0 (subst (λ (k : ℕ). x < k) (sym (length-from 0 n)) h)
+      ∙ ap (λ (k : ℕ). count (eqb k) ends) (getD-from 0 n x 0 h ∙ zero-add x)
+
 module _ (n m : ℕ) (i : Incidence) (long : length (i .ends) ≡ m) where
   -- where every edge is live, well-formed lists are fitted: each is as long as the edges' ends say
   pub incident-fitted : Incident (replicate m true) n i → Fitted n (i .ends) (i .lists)
@@ -136,7 +149,7 @@ module _ (n m : ℕ) (i : Incidence) (long : length (i .ends) ≡ m) where
   pub fitted-incident : Fitted n (i .ends) (i .lists) → Incident (replicate m true) n i
   fitted-incident f = record {
     ends-length = long ∙ sym (length-replicate m true);
-    lists-length = as-many;
+    lists-length = fitted-many f;
     ends-below = λ e h. f .ends-below e (subst (λ (k : ℕ). e < k) (length-replicate m true ∙ sym long) h);
     listed = λ x e. same-truth (member e (getD (i .lists) x [])) (has-end (i .ends) x e) (r .at-end x e) (all-there x e) ∙ sym (live-has-end (i .ends) m x e long);
     once = r .once;
@@ -145,25 +158,11 @@ module _ (n m : ℕ) (i : Incidence) (long : length (i .ends) ≡ m) where
       r : Right (i .ends) (i .lists)
       r = right-at (i .ends) (i .lists) (f .right)
 
-      as-many : length (i .lists) ≡ n
-      as-many =
-          sym (length-map (i .lists) (λ (l : List ℕ). length l))
-          ∙ ap length (f .lengths)
-          ∙ length-map (from 0 n) (λ x. count (eqb x) (i .ends))
-          ∙ length-from 0 n
-
-      as-long : (x : ℕ) → x < n → length (getD (i .lists) x []) ≡ count (eqb x) (i .ends)
-      as-long x h =
-          sym (List·getD-map (λ (l : List ℕ). length l) (i .lists) x [])
-          ∙ ap (λ (l : List ℕ). getD l x 0) (f .lengths)
-          ∙ getD-map (λ x. count (eqb x) (i .ends)) (from 0 n) x 0 0 (subst (λ (k : ℕ). x < k) (sym (length-from 0 n)) h)
-          ∙ ap (λ (k : ℕ). count (eqb k) (i .ends)) (getD-from 0 n x 0 h ∙ zero-add x)
-
       all-there : (x e : ℕ) → has-end (i .ends) x e ≡ true → member e (getD (i .lists) x []) ≡ true
       all-there x e h =
           let at = has-end-at (i .ends) x e h in
           let below = f .ends-below e (has-end-below (i .ends) x e h) in
-          let sized : length (getD (i .lists) x []) ≡ length (edges-at (i .ends) x) = as-long x (omega arith) ∙ sym (length-edges-at (i .ends) x) in
+          let sized : length (getD (i .lists) x []) ≡ length (edges-at (i .ends) x) = fitted-long f x (omega arith) ∙ sym (length-edges-at (i .ends) x) in
           distinct-full (getD (i .lists) x []) (edges-at (i .ends) x) (r .once x)
           (λ y k. member-edges-at (i .ends) x y ∙ r .at-end x y k)
           (omega arith) e (member-edges-at (i .ends) x e ∙ h)

@@ -1,30 +1,29 @@
 -- Whole histories on the definitions: they keep the lists well formed, what is refused leaves the store, and document 01's demand 3 on the plain lists.
-use Prim.Native.Nat.{ℕ, zero, suc, _*_, _%_, _≤_, _<_}
+use Prim.Native.Nat.{ℕ, zero, suc, _*_, _%_, _≤_}
 use mathlib.Core.Path.{_≡_, refl, sym, ap, _∙_}
-use mathlib.Core.Bool.{Bool, true, false, cond, not}
+use mathlib.Core.Bool.{true, cond}
 use mathlib.Core.Logic.{_⊎_, inl, inr, ⊎-elim, _↔_}
 use mathlib.Core.Option.{Option, none, some}
 use mathlib.Core.List.{List, [], _∷_}
 use native.Mathlib.Omega.{arith}
 use lib.ListN.{length}
 use lib.Dec.{eqb, ltb}
-use borrow.Author.Tests.{eqb-true, eqb-false}
 use Rattle.plain.specs.Numbers.{LIMIT}
-use Rattle.plain.specs.Plain.{Plain, node-flags, edge-flags}
+use Rattle.plain.specs.Plain.{Plain}
 use Rattle.plain.specs.Operations.{operations}
-use Rattle.plain.specs.Step.{Capacities, State, run}
+use Rattle.plain.specs.Step.{Capacities, State}
 use Rattle.plain.specs.Reads.{Reply, lent}
 use Rattle.plain.specs.Renumbering.{is-identity-map}
-use Rattle.plain.specs.Compaction.{Survivors, survivors, compacted, renumbering}
+use Rattle.plain.specs.Compaction.{Survivors, survivors, compacted}
 use Rattle.plain.specs.Image.{image, broken-image, nodes-in, edges-in, parsed}
-use Rattle.plain.specs.Memory.{first-short, exact, live-words, axis-words}
-use Rattle.plain.specs.Calls.{strip, fresh-state, limits, Compacted, compacting, compaction, compaction-slices, reading-slices, read-image, read-state, write-image}
-use Rattle.plain.specs.History.{Call, Strip, Compaction, Reading, Called, call, history-from, history, closing-image}
+use Rattle.plain.specs.Memory.{first-short, exact}
+use Rattle.plain.specs.Calls.{strip, fresh-state, limits, Compacted, compacting, compaction, compaction-slices, reading-slices, read-image, read-state}
+use Rattle.plain.specs.History.{Call, Strip, Compaction, Reading, call, history-from, history, closing-image}
 use Rattle.plain.specs.Laws.WellFormed.{WellFormed, Sound}
 use Rattle.plain.specs.Laws.Booleans.{by-test, below-or-not}
 use Rattle.plain.specs.Laws.Operating.{empty-well-formed}
 use Rattle.plain.specs.Laws.Stepping.{run-well-formed, Words, operations-fitting}
-use Rattle.plain.specs.Laws.CallCases.{LongEnough, FirstShort, slice-fits, long-or-short, read-broken, read-short, read-done, compaction-done, write-compact, lent-short, lent-done}
+use Rattle.plain.specs.Laws.CallCases.{LongEnough, FirstShort, slice-fits, long-or-short, read-broken, read-short, read-done, write-compact, lent-short, lent-done}
 use Rattle.plain.specs.Laws.Compacting.{survivors-sound, of-survivors-well-formed, survivors-of, compacted-well-formed, compacted-again, node-map-again, edge-map-again}
 use Rattle.plain.specs.Laws.ImageLaws.{image-injective, parsed-sound, nodes-length, edges-length}
 

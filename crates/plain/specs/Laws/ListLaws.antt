@@ -414,3 +414,8 @@ distinct-joined owner a (l ∷ ls) once owned =
         let here = owned 0 e h in
         let there = owned (suc (found .0)) e (found .1) in
         omega arith
+
+-- a map over a list with one more
+pub map-snoc : {A B : Type 0} (f : A → B) (l : List A) (a : A) → map f (l ++ (a ∷ [])) ≡ map f l ++ (f a ∷ [])
+map-snoc f [] a = refl
+map-snoc f (x ∷ l) a = rw (map-snoc f l a)

@@ -1,24 +1,24 @@
 -- Every operation keeps the plain lists well formed.
-use Prim.Native.Nat.{ℕ, zero, suc, _+_, _≤_, _<_, _^_}
+use Prim.Native.Nat.{ℕ, _+_, _<_, _^_}
 use mathlib.Core.Path.{_≡_, refl, sym, ap, subst, _∙_}
-use mathlib.Core.Bool.{Bool, true, false, cond, _&&_, _||_, not, false≢true}
+use mathlib.Core.Bool.{Bool, true, false, _&&_, not, false≢true}
 use mathlib.Core.List.{List, [], _∷_, _++_, map}
 use native.Mathlib.Omega.{arith}
-use lib.ListN.{length, getD, set, length-set, length-append, length-map, List·getD-eq-default}
-use lib.Seq.{map-set-same, set-getD}
+use lib.ListN.{length, getD, set, length-set, length-append, length-map}
+use lib.Seq.{map-set-same}
 use lib.Dec.{eqb, lit<}
 use borrow.Author.Tests.{eq-eqb, ne-eqb, eqb-true, not-true}
 use Rattle.plain.specs.declared.TraversalDirection.{TraversalDirection}
 use Rattle.plain.specs.declared.TraversalDirection.the-variants.{Outgoing, Incoming}
 use Rattle.plain.specs.Lists.{member, without, distinct}
-use Rattle.plain.specs.Plain.{Plain, NodeSlot, EdgeSlot, Incidence, incidence, with-incidence, no-node, no-edge, killed-node, killed-edge, node-bound, edge-bound, node-flags, edge-flags, list-of, end-of, widened, attached, detached, redirected, moved, empty, node-added, edge-added, edge-removed, edges-removed, node-removed, payload-set}
+use Rattle.plain.specs.Plain.{Plain, NodeSlot, EdgeSlot, Incidence, incidence, with-incidence, no-node, no-edge, killed-node, killed-edge, node-bound, edge-bound, node-flags, edge-flags, list-of, end-of, attached, detached, redirected, moved, empty, node-added, edge-added, edge-removed, edges-removed, node-removed, payload-set}
 use Rattle.plain.specs.Step.{Capacities}
 use Rattle.plain.specs.Laws.WellFormed.{Incident, WellFormed}
 use Rattle.plain.specs.Laws.Booleans.{by-test, true-false, and-left, and-right, and-false, and-true, or-true, or-other, refuted}
 use Rattle.plain.specs.Laws.Deleting.{getD-set, getD-snoc, map-set, without-all}
-use Rattle.plain.specs.Laws.ListLaws.{member-append, without-absent}
+use Rattle.plain.specs.Laws.ListLaws.{map-snoc, member-append, without-absent}
 use Rattle.plain.specs.Laws.Rank.{live-below}
-use Rattle.plain.specs.Laws.Directions.{widened-incident, attached-incident, attached-end, detached-incident, detached-list, elsewhere, list-at, end-at, redirected-incident, redirected-end, moved-incident, moved-end, moving-live}
+use Rattle.plain.specs.Laws.Directions.{widened-incident, attached-incident, attached-end, detached-incident, detached-list, elsewhere, list-at, end-at, redirected-incident, redirected-end, moved-incident, moved-end}
 
 -- a list with no member is empty
 no-member : (l : List ℕ) → ((e : ℕ) → member e l ≡ false) → l ≡ []
@@ -75,11 +75,6 @@ with-incident h Incoming i k l = record {
   edge-payloads = h .edge-payloads;
 }
 
--- a list of slots with one more: its flags and its length
-snoc-flags : {A : Type 0} (f : A → Bool) (l : List A) (a : A) → map f (l ++ (a ∷ [])) ≡ map f l ++ (f a ∷ [])
-snoc-flags f [] a = refl
-snoc-flags f (x ∷ l) a = rw (snoc-flags f l a)
-
 snoc-length : {A : Type 0} (l : List A) (a : A) → length (l ++ (a ∷ [])) ≡ length l + 1
 snoc-length l a = length-append l (a ∷ [])
 
@@ -116,7 +111,7 @@ unfolding node-added
 node-added-well-formed {caps} {p} v fits room h =
     let slot : NodeSlot = record { payload = v; live = true } in
     let live : (x : ℕ) → getD (node-flags p) x false ≡ true → getD (map (λ (s : NodeSlot). s .live) (p .nodes ++ (slot ∷ []))) x false ≡ true =
-    λ x l. rw (snoc-flags (λ (s : NodeSlot). s .live) (p .nodes) slot) (live-snoc (node-flags p) x l) in
+    λ x l. rw (map-snoc (λ (s : NodeSlot). s .live) (p .nodes) slot) (live-snoc (node-flags p) x l) in
     record {
       nodes-within = rw (snoc-length (p .nodes) slot) (omega arith);
       edges-within = h .edges-within;
@@ -153,7 +148,7 @@ pub edge-added-well-formed : {caps : Capacities} {p : Plain} (s t v : ℕ) → g
 unfolding edge-added
 edge-added-well-formed {caps} {p} s t v live-s live-t fits room h =
     let slot : EdgeSlot = record { payload = v; live = true } in
-    let flags = snoc-flags (λ (s : EdgeSlot). s .live) (p .edges) slot in
+    let flags = map-snoc (λ (s : EdgeSlot). s .live) (p .edges) slot in
     record {
       nodes-within = h .nodes-within;
       edges-within = rw (snoc-length (p .edges) slot) (omega arith);

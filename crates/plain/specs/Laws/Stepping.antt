@@ -1,6 +1,6 @@
 -- A step and a strip: they keep the lists well formed, and what is refused changes nothing.
 use Prim.Native.Nat.{ℕ, zero, suc, _<_, _^_}
-use mathlib.Core.Path.{_≡_, refl, sym, ap}
+use mathlib.Core.Path.{_≡_, refl}
 use mathlib.Core.Bool.{Bool, true, false, cond, _&&_}
 use mathlib.Core.Option.{Option, none, some}
 use mathlib.Core.List.{List, [], _∷_}
@@ -9,7 +9,7 @@ use lib.Dec.{eqb}
 use Rattle.plain.specs.declared.TraversalDirection.{TraversalDirection}
 use Rattle.plain.specs.declared.Operation.{Operation}
 use Rattle.plain.specs.declared.Operation.the-variants.{AddNode, AddEdge, RemoveEdge, RemoveNode, Redirect, Move, SetPayload, Unknown}
-use Rattle.plain.specs.Plain.{Plain, EdgePayload, list-of, node-slot, edge-slot, end-of, node-bound, edge-bound}
+use Rattle.plain.specs.Plain.{Plain, list-of, node-slot, edge-slot, end-of, node-bound, edge-bound}
 use Rattle.plain.specs.Operations.{unused, decoded, operations}
 use Rattle.plain.specs.Step.{Capacities, Outcome, State, refused, unless, removing, moving, live-node, live-edge, node-fault, node-missing, edge-fault, edge-missing, room-fault, self-fault, step, stepped, run}
 use Rattle.plain.specs.Laws.WellFormed.{WellFormed}

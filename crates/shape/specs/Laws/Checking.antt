@@ -1,19 +1,17 @@
 -- The tests of the check and what they mean: `broken` is 0 exactly where the words are a checked store.
-use Prim.Native.Nat.{ℕ, zero, suc, _+_, _*_, _-_, _≤_, _<_, _^_}
+use Prim.Native.Nat.{ℕ, zero, suc, _*_, _-_, _≤_, _<_}
 use mathlib.Core.Path.{_≡_, refl, sym, ap, subst, _∙_}
-use mathlib.Core.Bool.{Bool, true, false, cond, _&&_, _||_, not, false≢true}
-use mathlib.Core.Logic.{_⊎_, inl, inr, ⊎-elim}
+use mathlib.Core.Bool.{Bool, true, false, _&&_, _||_, not}
+use mathlib.Core.Logic.{inl, inr, ⊎-elim}
 use mathlib.Core.List.{List, [], _∷_, _++_, map}
 use native.Mathlib.Omega.{arith}
 use native.Mathlib.Nat.{suc-inj, zero-add}
 use lib.ListN.{length, getD, length-append, length-map, List·getD-eq-default}
 use lib.Dec.{eqb, leb, ltb}
 use borrow.Author.Tests.{eq-eqb, ne-eqb, eqb-true, eqb-false, leb-true, le-leb, ltb-true, lt-ltb, not-true}
-use Rattle.plain.specs.declared.Slots.{Slots}
 use Rattle.plain.specs.declared.Counts.{Counts}
 use Rattle.plain.specs.declared.TraversalDirection.{TraversalDirection}
-use Rattle.plain.specs.declared.TraversalDirection.the-variants.{Outgoing, Incoming}
-use Rattle.plain.specs.Numbers.{NONE, LIMIT}
+use Rattle.plain.specs.Numbers.{NONE}
 use Rattle.plain.specs.Lists.{member, distinct, all, from, joined}
 use Rattle.plain.specs.Plain.{Plain, incidence, node-bound, edge-bound, node-flags, edge-flags, list-of, end-of}
 use Rattle.plain.specs.Step.{Capacities}
@@ -25,7 +23,7 @@ use Rattle.plain.specs.Laws.Deleting.{distinct-appended}
 use Rattle.shape.specs.Columns.{cell, end-at, last-at, first-at, tail-at, count-at, mark-at, adjacency-at, offset-at}
 use Rattle.shape.specs.Chains.{chain, until, ring, In, Seg, Line, Run, Ring}
 use Rattle.shape.specs.Shape.{ring-of, run-list}
-use Rattle.shape.specs.Checked.{Index, Indexed, Runs}
+use Rattle.shape.specs.Checked.{Index, Runs}
 use Rattle.shape.specs.Rules.{index-right, ring-right, last-of, run-right, runs-right, walks-right}
 use Rattle.shape.specs.Laws.Chains.{in-snoc, in-none, until-is, line-last, ring-line, chain-length, run-below, run-once}
 use Rattle.shape.specs.Laws.Frames.{run-list-unmarked}

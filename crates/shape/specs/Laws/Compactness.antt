@@ -1,29 +1,29 @@
 -- Whether the shape is compact after an operation: as the compact flag beside the plain lists says.
-use Prim.Native.Nat.{ℕ, zero, suc, _+_, _≤_, _<_}
+use Prim.Native.Nat.{ℕ, zero, suc, _≤_, _<_}
 use mathlib.Core.Path.{_≡_, refl, sym, ap, _∙_}
 use mathlib.Core.Bool.{Bool, true, false, cond, _&&_, not}
-use mathlib.Core.Option.{Option, none, some}
-use mathlib.Core.List.{List, [], _∷_, _++_, map}
+use mathlib.Core.List.{List, [], _∷_, _++_}
 use native.Mathlib.Omega.{arith}
 use lib.ListN.{length, getD, set, length-set, length-map, length-append}
-use lib.Seq.{map-set-same, getD-set-same, getD-set-other}
+use lib.Seq.{map-set-same, getD-set-same}
 use lib.Dec.{eqb}
 use borrow.Author.Tests.{eq-eqb, ne-eqb}
 use Rattle.plain.specs.declared.TraversalDirection.{TraversalDirection}
 use Rattle.plain.specs.declared.TraversalDirection.the-variants.{Outgoing, Incoming}
 use Rattle.plain.specs.declared.Operation.{Operation}
 use Rattle.plain.specs.declared.Operation.the-variants.{AddNode, AddEdge, RemoveEdge, RemoveNode, Redirect, Move, SetPayload, Unknown}
-use Rattle.plain.specs.Lists.{member, without, all}
+use Rattle.plain.specs.Lists.{without, all}
 use Rattle.plain.specs.Plain.{NodeSlot, EdgeSlot, killed-node, killed-edge, no-node, no-edge, list-of, end-of}
 use Rattle.plain.specs.Step.{Capacities, Outcome, step}
 use Rattle.plain.specs.Laws.Booleans.{by-test, and-false, and-true}
 use Rattle.plain.specs.Laws.Deleting.{map-set}
 use Rattle.plain.specs.Laws.Rank.{live-below}
 use Rattle.plain.specs.Laws.Cases.{Case, case-of, add-node-full, add-node, add-edge-source-absent, add-edge-source-removed, add-edge-target-absent, add-edge-target-removed, add-edge-full, add-edge, remove-edge-absent, remove-edge-removed, remove-edge, remove-node-absent, remove-node-removed, remove-node, redirect-edge-absent, redirect-edge-removed, redirect-node-absent, redirect-node-removed, redirect-same, redirect, move-onto-itself, move-old-absent, move-nothing, move-new-absent, move-new-removed, move, set-payload-absent, set-payload, unknown}
-use Rattle.shape.specs.Shape.{Adjacency, Axis, Shape, no-adjacency, axis-in, adjacency-of, node-flags-of, edge-flags-of, has-run, is-compact, plain-of}
+use Rattle.shape.specs.Shape.{Axis, Shape, no-adjacency, axis-in, adjacency-of, node-flags-of, edge-flags-of, has-run, is-compact, plain-of}
 use Rattle.shape.specs.Steps.{live-entries, taken, swept, with-run, redirected-axis, moved-axis, with-axis, retired, walk-in, acted, acts, shape-step}
 use Rattle.shape.specs.Laws.Refining.{Proper, live-node-below}
 use Rattle.shape.specs.Laws.Stepping.{length-some}
+use Rattle.shape.specs.Laws.Keeping.{retired-length}
 
 -- a test that one element fails, all do not pass
 not-all : {A : Type 0} (test : A → Bool) (l : List A) (x : ℕ) (d : A) → x < length l → test (getD l x d) ≡ false → all test l ≡ false
@@ -176,3 +176,35 @@ module _ {caps : Capacities} {s : Shape} (h : Proper caps s) (b : Based s) where
   pub step-compact : (operation : Operation) → is-compact (shape-step caps s operation) ≡ (is-compact s && step caps (plain-of s) operation .keeps-compact)
   unfolding shape-step
   step-compact operation = case-compact (case-of caps (plain-of s) operation)
+
+-- an operation's own change keeps the base within the bounds
+based-acted : {s : Shape} → Based s → (operation : Operation) → Based (acted operation s)
+unfolding acted
+based-acted {s} b (AddNode v) = record {
+  nodes-within = rw (length-append (s .nodes) (record { payload = v; live = true } ∷ [])) (let w = b .nodes-within in omega arith);
+  edges-within = b .edges-within;
+}
+based-acted {s} b (AddEdge x y v) = record {
+  nodes-within = b .nodes-within;
+  edges-within = rw (length-append (s .edges) (record { payload = v; live = true } ∷ [])) (let w = b .edges-within in omega arith);
+}
+based-acted {s} b (RemoveEdge e) = record { nodes-within = b .nodes-within; edges-within = rw (retired-length (e ∷ []) (s .edges)) (b .edges-within) }
+based-acted {s} b (RemoveNode x) = record {
+  nodes-within = rw (length-set (s .nodes) x (killed-node (getD (s .nodes) x no-node))) (b .nodes-within);
+  edges-within = rw (retired-length (walk-in Outgoing s x ++ walk-in Incoming s x) (s .edges)) (b .edges-within);
+}
+based-acted {s} b (Redirect Outgoing e new) = record { nodes-within = b .nodes-within; edges-within = b .edges-within }
+based-acted {s} b (Redirect Incoming e new) = record { nodes-within = b .nodes-within; edges-within = b .edges-within }
+based-acted {s} b (Move Outgoing old new) = record { nodes-within = b .nodes-within; edges-within = b .edges-within }
+based-acted {s} b (Move Incoming old new) = record { nodes-within = b .nodes-within; edges-within = b .edges-within }
+based-acted {s} b (SetPayload e v) = record {
+  nodes-within = b .nodes-within;
+  edges-within = rw (length-set (s .edges) e (record { payload = v; live = getD (s .edges) e no-edge .live })) (b .edges-within);
+}
+based-acted b Unknown = b
+
+-- the base stays within the bounds
+pub step-based : (caps : Capacities) {s : Shape} → Based s → (operation : Operation) → Based (shape-step caps s operation)
+unfolding shape-step
+step-based caps {s} b operation =
+    by-test (acts operation (step caps (plain-of s) operation)) (λ a. rw a (based-acted b operation)) (λ a. rw a b)

@@ -1,11 +1,11 @@
 -- What the shape's step keeps: a proper shape stays proper.
-use Prim.Native.Nat.{ℕ, zero, suc, _+_, _≤_, _<_}
-use mathlib.Core.Path.{_≡_, refl, sym, ap, subst, _∙_}
-use mathlib.Core.Bool.{Bool, true, false, cond, _&&_, _||_, not, false≢true}
+use Prim.Native.Nat.{ℕ, zero, suc, _+_, _<_}
+use mathlib.Core.Path.{_≡_, refl, sym, _∙_}
+use mathlib.Core.Bool.{Bool, true, not}
 use mathlib.Core.Option.{Option, none, some}
 use mathlib.Core.List.{List, [], _∷_, _++_}
 use native.Mathlib.Omega.{arith}
-use lib.ListN.{length, getD, set, length-set, length-append, List·getD-eq-default}
+use lib.ListN.{length, getD, set, length-set, length-append}
 use lib.Dec.{eqb}
 use borrow.Author.Tests.{eqb-true}
 use Rattle.plain.specs.declared.TraversalDirection.{TraversalDirection}
@@ -15,16 +15,14 @@ use Rattle.plain.specs.declared.Operation.the-variants.{AddNode, AddEdge, Remov
 use Rattle.plain.specs.Lists.{member, without, keep}
 use Rattle.plain.specs.Plain.{EdgeSlot, killed-edge, no-edge}
 use Rattle.plain.specs.Step.{Capacities, Outcome, step}
-use Rattle.plain.specs.Laws.Booleans.{by-test, true-false, and-left, or-other, or-false}
+use Rattle.plain.specs.Laws.Booleans.{by-test, and-left, or-other, or-false}
 use Rattle.plain.specs.Laws.ListLaws.{member-append, member-keep, member-without}
-use Rattle.plain.specs.Laws.Deleting.{getD-set, getD-snoc}
-use Rattle.plain.specs.Laws.WellFormed.{WellFormed}
 use Rattle.plain.specs.Laws.Cases.{Case, case-of, redirect-edge-absent, redirect-edge-removed, redirect-node-absent, redirect-node-removed, redirect-same, redirect}
 use Rattle.plain.specs.Laws.Operating.{edge-below}
 use Rattle.plain.specs.Laws.Stepping.{Fitting, step-well-formed}
 use Rattle.shape.specs.Chains.{In}
-use Rattle.shape.specs.Shape.{Adjacency, Axis, Shape, hiding, part, raw, live-in, no-adjacency, axis-in, adjacency-of, edge-flags-of, plain-of}
-use Rattle.shape.specs.Steps.{live-entries, run-or-base, taken, power-of-two, swept, with-run, opened, appended, redirected-axis, moved-axis, with-axis, retired, walk-in, acted, acts, shape-step}
+use Rattle.shape.specs.Shape.{Adjacency, Shape, hiding, part, raw, live-in, no-adjacency, axis-in, adjacency-of, edge-flags-of, plain-of}
+use Rattle.shape.specs.Steps.{live-entries, run-or-base, taken, power-of-two, swept, with-run, opened, appended, redirected-axis, moved-axis, retired, walk-in, acted, acts, shape-step}
 use Rattle.shape.specs.Laws.Chains.{in-front, in-none}
 use Rattle.shape.specs.Laws.Refining.{Proper, getD-added}
 use Rattle.shape.specs.Laws.Stepping.{step-refines}
@@ -141,7 +139,7 @@ module _ {caps : Capacities} {s : Shape} (h : Proper caps s) where
   opened-low d x = rw (getD-added (axis-in d s .nodes) no-adjacency x) (low d x)
 
 -- removals keep the number of edge slots
-retired-length : (es : List ℕ) (edges : List EdgeSlot) → length (retired es edges) ≡ length edges
+pub retired-length : (es : List ℕ) (edges : List EdgeSlot) → length (retired es edges) ≡ length edges
 unfolding retired
 retired-length [] edges = refl
 retired-length (e ∷ es) edges = retired-length es (set edges e (killed-edge (getD edges e no-edge))) ∙ length-set edges e (killed-edge (getD edges e no-edge))

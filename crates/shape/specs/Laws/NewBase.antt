@@ -1,6 +1,6 @@
 -- A new base: words whose offsets were counted from the ends and whose adjacency column holds joined lists. Each node's base part is its list, and the index
 -- passes rule 4; with every ring empty and no run, that is the whole direction. What compaction and image reading leave.
-use Prim.Native.Nat.{ℕ, zero, suc, _+_, _-_, _*_, _≤_, _<_}
+use Prim.Native.Nat.{ℕ, suc, _+_, _-_, _*_, _≤_, _<_}
 use mathlib.Core.Path.{_≡_, sym, ap, ap₂, _∙_, subst}
 use mathlib.Core.Bool.{Bool, true, cond, _&&_}
 use mathlib.Core.Logic.{inl, inr, ⊎-elim}
@@ -9,7 +9,7 @@ use mathlib.Core.List.{List, [], map, map-map}
 use native.Mathlib.Omega.{arith}
 use native.Mathlib.Nat.{zero-add}
 use borrow.Author.Tests.{ne-eqb, lt-ltb, le-ltb, ltb-true}
-use lib.ListN.{length, getD, take, length-map, length-replicate, List·getD-map, List·getD-eq-default}
+use lib.ListN.{length, getD, take, length-map, length-replicate, List·getD-eq-default}
 use lib.Dec.{eqb, ltb}
 use Rattle.plain.specs.declared.Counts.{Counts}
 use Rattle.plain.specs.Numbers.{NONE}
@@ -24,7 +24,9 @@ use Rattle.plain.specs.Laws.Fitting.{has-end, live-has-end, incident-fitted}
 use Rattle.shape.specs.Columns.{Sized, cell, end-at, offset-at, last-at, mark-at}
 use Rattle.shape.specs.Shape.{between, base-of, run-of, run-list, ring-of, Adjacency, Axis, axis-of}
 use Rattle.shape.specs.Chains.{ring}
-use Rattle.shape.specs.Checked.{Index, Indexed, AxisChecked}
+use Rattle.shape.specs.Checked.{Index, AxisChecked}
+use Rattle.plain.specs.Laws.Fitting.{fitted-many, fitted-long}
+use Rattle.shape.specs.Laws.Frames.{offset-within}
 use Rattle.shape.specs.Laws.Indexing.{Rewritten, total, before, before-suc, before-zero, before-total, before-all, before-few, ends-of, length-ends, end-of-edge, ends-same, part-of-joined, edges-to, in-order, map-from-same, front-range}
 
 -- ---- bounds of a base part
@@ -43,43 +45,18 @@ module _ (ws : List ℕ) (ce cn bn : ℕ) where
   unfolding base-of from
   base-between x = by-test (ltb x bn) (λ h. rw h) (λ h. rw h)
 
-  -- an offset of a node up to the base count is within the index
-  pub offsets-within : {be : ℕ} → Indexed ws ce cn bn be → (x : ℕ) → x < bn + 1 → offset-at ws ce cn x ≤ be
-  offsets-within {be} i x h = below (bn - x) x (omega arith)
-    where
-      below : (k x : ℕ) → x + k ≡ bn → offset-at ws ce cn x ≤ be
-      below zero x e = let at : x ≡ bn = omega arith in rw at (let stop = i .stops in omega arith)
-      below (suc k) x e = let rest = below k (suc x) (omega arith) in let step = i .ascends x (omega arith) in omega arith
-
   -- the bounds are in order and within the index
   pub base-range : {be : ℕ} → Index ws ce cn bn be → (x : ℕ)
       → (base-start ws ce cn bn x ≤ base-end ws ce cn bn x) × (base-end ws ce cn bn x ≤ be)
   base-range {be} (inl e) x = rw (le-ltb x bn (omega arith)) (omega arith, omega arith)
   base-range {be} (inr i) x =
       by-test (ltb x bn)
-      (λ h. let l = ltb-true x bn h in rw h (i .ascends x l, offsets-within i (suc x) (omega arith)))
+      (λ h. let l = ltb-true x bn h in rw h (i .ascends x l, offset-within i (suc x) (omega arith)))
       (λ h. rw h (omega arith, omega arith))
 
 -- ---- fitted lists
 
 module _ {n : ℕ} {ends : List ℕ} {lists : List (List ℕ)} (f : Fitted n ends lists) where
-  -- a list a node
-  fitted-many : length lists ≡ n
-  fitted-many =
-      sym (length-map lists (λ (l : List ℕ). length l))
-      ∙ ap length (f .lengths)
-      ∙ length-map (from 0 n) (λ x. count (eqb x) ends)
-      ∙ length-from 0 n
-
-  -- as long as the ends say
-  fitted-long : (x : ℕ) → x < n → count (eqb x) ends ≡ length (getD lists x [])
-  fitted-long x h =
-      sym
-      (sym (List·getD-map (λ (l : List ℕ). length l) lists x [])
-      ∙ ap (λ (l : List ℕ). getD l x 0) (f .lengths)
-      ∙ getD-map (λ y. count (eqb y) ends) (from 0 n) x 0 0 (rw (length-from 0 n) h)
-      ∙ ap (λ (k : ℕ). count (eqb k) ends) (getD-from 0 n x 0 h ∙ zero-add x))
-
   -- an entry an edge, all together
   pub fitted-total : length (joined lists) ≡ length ends
   fitted-total = length-joined lists ∙ ap sum (f .lengths) ∙ sum-list-lengths n (below-of ends (f .ends-below))
@@ -186,7 +163,7 @@ module _ (ws : List ℕ) (ce cn n : ℕ) (ends : List ℕ) (lists : List (List �
       let long : offset-at ws ce cn (suc x) - offset-at ws ce cn x ≡ size x = omega arith in
       rw (lt-ltb x n h)
       (ap₂ (λ (a k : ℕ). map (cell ws ce) (from a k)) start long
-      ∙ part-of-joined (cell ws ce) size lists (length ends) x (b .entries) (omega arith) (λ y l. fitted-long f y (omega arith)) (omega arith))
+      ∙ part-of-joined (cell ws ce) size lists (length ends) x (b .entries) (omega arith) (λ y l. sym (fitted-long f y (omega arith))) (omega arith))
 
   -- the index passes rule 4
   pub built-index : Index ws ce cn n (length ends)

@@ -1,7 +1,7 @@
 -- Stores that a fresh one or an image led to: every operation keeps their rings ascending and behind their runs and base parts.
-use Prim.Native.Nat.{ℕ, zero, suc, _≤_, _<_}
+use Prim.Native.Nat.{ℕ, _≤_, _<_}
 use mathlib.Core.Path.{_≡_, refl, sym, ap, _∙_}
-use mathlib.Core.Bool.{Bool, true, false, cond, _&&_}
+use mathlib.Core.Bool.{true}
 use mathlib.Core.List.{List, [], _∷_, _++_}
 use native.Mathlib.Omega.{arith}
 use lib.ListN.{length, getD, set}
@@ -15,7 +15,7 @@ use Rattle.plain.specs.Lists.{member, without}
 use Rattle.plain.specs.Step.{Capacities, step}
 use Rattle.plain.specs.Laws.Booleans.{by-test, and-left, and-right}
 use Rattle.shape.specs.Chains.{In}
-use Rattle.shape.specs.Shape.{Adjacency, Axis, Shape, part, raw, no-adjacency, axis-in, adjacency-of, edge-flags-of, ascends, plain-of}
+use Rattle.shape.specs.Shape.{Adjacency, Shape, part, no-adjacency, axis-in, adjacency-of, edge-flags-of, ascends, plain-of}
 use Rattle.shape.specs.Checked.{Reached}
 use Rattle.shape.specs.Steps.{live-entries, taken, swept, with-run, opened, appended, redirected-axis, moved-axis, acted, acts, shape-step}
 use Rattle.shape.specs.Laws.Chains.{in-front, in-none}

@@ -1,34 +1,32 @@
 -- The shape's step is the plain lists' step: what each operation does to base parts, runs and rings is, on the walks, what document 01 says.
-use Prim.Native.Nat.{ℕ, zero, suc, _+_, _≤_, _<_}
+use Prim.Native.Nat.{ℕ, _+_, _≤_, _<_}
 use mathlib.Core.Path.{_≡_, refl, sym, ap, ap₂, subst, _∙_}
-use mathlib.Core.Bool.{Bool, true, false, cond, _&&_, _||_, not}
+use mathlib.Core.Bool.{Bool, true, false, cond, _&&_, not}
 use mathlib.Core.Logic.{⊎-elim}
-use mathlib.Core.Option.{Option, none, some}
 use mathlib.Core.List.{List, [], _∷_, _++_, map, append-nil, append-assoc}
 use native.Mathlib.Omega.{arith}
 use native.Mathlib.Nat.{zero-add}
 use lib.ListN.{length, getD, set, length-set, length-map, length-append, List·getD-eq-default}
 use lib.Seq.{ext-getD, map-set-same}
 use lib.Dec.{eqb}
-use borrow.Author.Tests.{eq-eqb, ne-eqb, eqb-true, eqb-false}
+use borrow.Author.Tests.{eq-eqb, ne-eqb, eqb-true}
 use Rattle.plain.specs.declared.TraversalDirection.{TraversalDirection}
 use Rattle.plain.specs.declared.TraversalDirection.the-variants.{Outgoing, Incoming}
-use Rattle.plain.specs.declared.Operation.{Operation}
-use Rattle.plain.specs.declared.Operation.the-variants.{AddNode, AddEdge, RemoveEdge, RemoveNode, Redirect, Move, SetPayload, Unknown}
+use Rattle.plain.specs.declared.Operation.the-variants.{AddNode, AddEdge, RemoveEdge, RemoveNode, Redirect, Move, SetPayload}
 use Rattle.plain.specs.Lists.{member, without, keep, from, append-at, delete-at, set-all}
-use Rattle.plain.specs.Plain.{Plain, NodeSlot, EdgeSlot, Incidence, incidence, with-incidence, no-node, no-edge, killed-node, killed-edge, node-flags, edge-flags, node-bound, edge-bound, list-of, end-of, widened, attached, node-added, edge-added, edge-removed, edges-removed, node-removed, redirected, moved, payload-set}
-use Rattle.plain.specs.Step.{Capacities, step}
-use Rattle.plain.specs.Laws.Booleans.{by-test, below-or-not, and-left, or-false, or-true, or-other, eqb-comm, true-false}
-use Rattle.plain.specs.Laws.ListLaws.{getD-map, getD-from, length-from, member-append, without-keep}
+use Rattle.plain.specs.Plain.{Plain, NodeSlot, EdgeSlot, Incidence, incidence, with-incidence, no-node, no-edge, killed-node, list-of, end-of, widened, attached, node-added, edge-added, edge-removed, edges-removed, node-removed, redirected, moved, payload-set}
+use Rattle.plain.specs.Step.{Capacities}
+use Rattle.plain.specs.Laws.Booleans.{by-test, below-or-not, and-left, or-false, or-true, or-other, eqb-comm}
+use Rattle.plain.specs.Laws.ListLaws.{map-snoc, getD-map, getD-from, length-from, member-append}
 use Rattle.plain.specs.Laws.Deleting.{getD-set, getD-snoc, map-set, getD-append-at, length-append-at, length-delete-at, without-all, without-all-keeps}
 use Rattle.plain.specs.Laws.Rank.{live-below}
 use Rattle.plain.specs.Laws.WellFormed.{Incident, WellFormed}
-use Rattle.plain.specs.Laws.Directions.{attached-list, redirected-list, moved-list}
-use Rattle.plain.specs.Laws.Operating.{incident, each-way, node-below, edge-below, edges-removed-well-formed, edges-removed-list, edges-removed-nodes, edges-removed-ends, edges-removed-live}
+use Rattle.plain.specs.Laws.Directions.{redirected-list, moved-list}
+use Rattle.plain.specs.Laws.Operating.{incident, edge-below, edges-removed-well-formed, edges-removed-list, edges-removed-nodes, edges-removed-ends, edges-removed-live}
 use Rattle.shape.specs.Chains.{In}
-use Rattle.shape.specs.Shape.{Adjacency, Axis, Shape, hiding, part, raw, live-in, walk-of, no-adjacency, axis-in, adjacency-of, node-flags-of, edge-flags-of, incidence-by, plain-of}
-use Rattle.shape.specs.Steps.{live-entries, taken, swept, with-run, opened, appended, redirected-axis, moved-axis, with-axis, retired, walk-in, acted, acts, shape-step}
-use Rattle.shape.specs.Laws.Taking.{keep-append, keep-again, keep-without, keep-one, keep-passing, keep-agree, keep-both, live-taken, live-edited}
+use Rattle.shape.specs.Shape.{Adjacency, Axis, Shape, part, raw, live-in, walk-of, no-adjacency, axis-in, adjacency-of, node-flags-of, edge-flags-of, incidence-by, plain-of}
+use Rattle.shape.specs.Steps.{live-entries, taken, swept, with-run, opened, appended, redirected-axis, moved-axis, with-axis, retired, walk-in, acted}
+use Rattle.shape.specs.Laws.Taking.{keep-append, keep-again, keep-without, keep-one, keep-agree, keep-both, live-taken, live-edited}
 
 -- A shape whose plain lists are well formed and whose entries are edges of the store.
 pub record Proper (caps : Capacities) (s : Shape) : Type 0 where
@@ -76,21 +74,16 @@ list-is-walk s Outgoing x = list-at (edge-flags-of s) (node-flags-of s) (s .outg
 list-is-walk s Incoming x = list-at (edge-flags-of s) (node-flags-of s) (s .incoming) x
 
 -- its slots and ends are the shape's
-nodes-of : (s : Shape) → plain-of s .nodes ≡ s .nodes
+pub nodes-of : (s : Shape) → plain-of s .nodes ≡ s .nodes
 unfolding plain-of
 nodes-of s = refl
 
-ends-of : (s : Shape) (d : TraversalDirection) → incidence d (plain-of s) .ends ≡ axis-in d s .ends
+pub ends-of : (s : Shape) (d : TraversalDirection) → incidence d (plain-of s) .ends ≡ axis-in d s .ends
 unfolding plain-of
 ends-of s Outgoing = refl
 ends-of s Incoming = refl
 
 -- ---- the slots
-
--- flags of slots with one more
-snoc-flags : {A : Type 0} (f : A → Bool) (l : List A) (a : A) → map f (l ++ (a ∷ [])) ≡ map f l ++ (f a ∷ [])
-snoc-flags f [] a = refl
-snoc-flags f (x ∷ l) a = rw (snoc-flags f l a)
 
 -- an added default is read as before
 pub getD-added : {A : Type 0} (l : List A) (d : A) (x : ℕ) → getD (l ++ (d ∷ [])) x d ≡ getD l x d
@@ -134,7 +127,7 @@ pub add-node-refines : {caps : Capacities} {s : Shape} → Proper caps s → (v 
 unfolding acted plain-of node-added
 add-node-refines {s = s} h v =
     let slot : NodeSlot = record { payload = v; live = true } in
-    let flags : map (λ (n : NodeSlot). n .live) (s .nodes ++ (slot ∷ [])) ≡ node-flags-of s ++ (true ∷ []) = snoc-flags (λ (n : NodeSlot). n .live) (s .nodes) slot in
+    let flags : map (λ (n : NodeSlot). n .live) (s .nodes ++ (slot ∷ [])) ≡ node-flags-of s ++ (true ∷ []) = map-snoc (λ (n : NodeSlot). n .live) (s .nodes) slot in
     let even : (d : TraversalDirection) → length (axis-in d s .nodes) ≡ length (node-flags-of s) =
     λ d. axis-nodes h d ∙ sym (length-map (s .nodes) (λ (n : NodeSlot). n .live)) in
     plain-ext refl refl
@@ -216,7 +209,7 @@ module _ {caps : Capacities} {s : Shape} (h : Proper caps s) where
   unfolding acted plain-of edge-added
   add-edge-refines source target v ls lt =
       let slot : EdgeSlot = record { payload = v; live = true } in
-      let flags = snoc-flags (λ (e : EdgeSlot). e .live) (s .edges) slot in
+      let flags = map-snoc (λ (e : EdgeSlot). e .live) (s .edges) slot in
       plain-ext refl refl
       (ap (λ (f : List Bool). incidence-by (walk-of f) (node-flags-of s) (appended (length (s .edges)) source (s .outgoing))) flags ∙ added-lists Outgoing source ls)
       (ap (λ (f : List Bool). incidence-by (walk-of f) (node-flags-of s) (appended (length (s .edges)) target (s .incoming))) flags ∙ added-lists Incoming target lt)

@@ -1,8 +1,8 @@
 -- What compaction sees of a reached store is its walks: putting a list in slot order whose run or base part ascends changes nothing there.
 use Prim.Native.Nat.{ℕ, zero, suc, _+_, _≤_, _<_}
 use mathlib.Core.Path.{_≡_, refl, sym, ap, _∙_}
-use mathlib.Core.Bool.{Bool, true, false, cond, _&&_, _||_, not}
-use mathlib.Core.List.{List, [], _∷_, _++_, map}
+use mathlib.Core.Bool.{Bool, true, false}
+use mathlib.Core.List.{List, [], _∷_, _++_}
 use native.Mathlib.Omega.{arith}
 use lib.ListN.{length, getD, length-map}
 use lib.Dec.{eqb, leb, ltb}
@@ -10,13 +10,13 @@ use borrow.Author.Tests.{eq-eqb, ne-eqb, eqb-true, eqb-false, leb-true, le-leb}
 use Rattle.plain.specs.declared.TraversalDirection.{TraversalDirection}
 use Rattle.plain.specs.declared.TraversalDirection.the-variants.{Outgoing, Incoming}
 use Rattle.plain.specs.Lists.{member, distinct, keep, from}
-use Rattle.plain.specs.Plain.{NodeSlot, EdgeSlot, list-of}
+use Rattle.plain.specs.Plain.{EdgeSlot}
 use Rattle.plain.specs.Step.{Capacities}
 use Rattle.plain.specs.Laws.Booleans.{by-test, true-false, and-left, and-right, refuted}
 use Rattle.plain.specs.Laws.ListLaws.{member-from, map-same, distinct-head, distinct-tail}
 use Rattle.plain.specs.Laws.Operating.{incident}
 use Rattle.shape.specs.Chains.{In}
-use Rattle.shape.specs.Shape.{Adjacency, Axis, Shape, part, raw, live-in, walk-of, no-adjacency, axis-in, adjacency-of, node-flags-of, edge-flags-of, incidence-by, plain-by, plain-of, ascends, in-slot-order, settled-walk, settled}
+use Rattle.shape.specs.Shape.{Shape, part, raw, live-in, walk-of, no-adjacency, axis-in, adjacency-of, node-flags-of, edge-flags-of, incidence-by, plain-of, ascends, settled-walk, settled}
 use Rattle.shape.specs.Checked.{Reached}
 use Rattle.shape.specs.Steps.{walk-in}
 use Rattle.shape.specs.Laws.Taking.{keep-agree}

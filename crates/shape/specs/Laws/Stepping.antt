@@ -1,16 +1,14 @@
 -- The shape's step refines the plain lists' step, for every operation.
-use Prim.Native.Nat.{ℕ}
-use mathlib.Core.Path.{_≡_, refl, sym, ap, _∙_}
-use mathlib.Core.Bool.{Bool, true, false, cond, _&&_, not}
+use mathlib.Core.Path.{_≡_, refl}
+use mathlib.Core.Bool.{cond}
 use mathlib.Core.List.{List, [], _∷_}
 use native.Mathlib.Omega.{arith}
 use lib.ListN.{length}
-use lib.Dec.{eqb}
 use borrow.Author.Tests.{eq-eqb, ne-eqb}
 use Rattle.plain.specs.declared.Operation.{Operation}
 use Rattle.plain.specs.Plain.{list-of, end-of}
 use Rattle.plain.specs.Step.{Capacities, Outcome, step}
-use Rattle.plain.specs.Laws.Cases.{Case, case-of, comes-to, add-node-full, add-node, add-edge-source-absent, add-edge-source-removed, add-edge-target-absent, add-edge-target-removed, add-edge-full, add-edge, remove-edge-absent, remove-edge-removed, remove-edge, remove-node-absent, remove-node-removed, remove-node, redirect-edge-absent, redirect-edge-removed, redirect-node-absent, redirect-node-removed, redirect-same, redirect, move-onto-itself, move-old-absent, move-nothing, move-new-absent, move-new-removed, move, set-payload-absent, set-payload, unknown}
+use Rattle.plain.specs.Laws.Cases.{Case, case-of, add-node-full, add-node, add-edge-source-absent, add-edge-source-removed, add-edge-target-absent, add-edge-target-removed, add-edge-full, add-edge, remove-edge-absent, remove-edge-removed, remove-edge, remove-node-absent, remove-node-removed, remove-node, redirect-edge-absent, redirect-edge-removed, redirect-node-absent, redirect-node-removed, redirect-same, redirect, move-onto-itself, move-old-absent, move-nothing, move-new-absent, move-new-removed, move, set-payload-absent, set-payload, unknown}
 use Rattle.shape.specs.Shape.{Shape, plain-of}
 use Rattle.shape.specs.Steps.{acted, acts, shape-step}
 use Rattle.shape.specs.Laws.Refining.{Proper, add-node-refines, add-edge-refines, remove-edge-refines, remove-node-refines, redirect-refines, move-refines, set-payload-refines}

@@ -1,16 +1,15 @@
 -- Laws of the live entries, and of what a run takes over and sweeps: neither changes what is walked. Callers cite these and unfold neither.
 use Prim.Native.Nat.{ℕ}
-use mathlib.Core.Path.{_≡_, refl, sym, ap, ap₂, _∙_}
-use mathlib.Core.Bool.{Bool, true, false, cond, _&&_, not}
+use mathlib.Core.Path.{_≡_, refl, _∙_}
+use mathlib.Core.Bool.{Bool, true, _&&_}
 use mathlib.Core.Option.{Option, none, some}
-use mathlib.Core.List.{List, [], _∷_, _++_, append-nil, append-assoc}
-use lib.ListN.{length, getD}
+use mathlib.Core.List.{List, [], _∷_, _++_}
+use lib.ListN.{length}
 use lib.Dec.{eqb}
 use borrow.Author.Tests.{eq-eqb}
 use Rattle.plain.specs.Lists.{member, without, keep}
-use Rattle.plain.specs.Laws.Booleans.{by-test, and-left, and-right}
-use Rattle.plain.specs.Laws.ListLaws.{member-append, member-keep, member-without, distinct-keep, distinct-without}
-use Rattle.shape.specs.Shape.{Adjacency, hiding, part, raw, live-in}
+use Rattle.plain.specs.Laws.Booleans.{by-test}
+use Rattle.shape.specs.Shape.{Adjacency, hiding, raw, live-in}
 use Rattle.shape.specs.Chains.{In}
 use Rattle.shape.specs.Steps.{live-entries, run-or-base, taken, power-of-two, swept}
 

@@ -4,7 +4,7 @@ use borrow.Author.Needs.{needs}
 use lib.ListN.{length}
 use Rattle.liveness.specs.Flags.{live-flags}
 use Rattle.adjacency.specs.Cursor.{remaining, listed}
-use Rattle.adjacency.specs.CursorLaws.{Seeking, seek-listed, seek-done, seek-on, seek-less}
+use Rattle.adjacency.specs.CursorLaws.{Seeking, seek-listed, seek-done, seek-on, turn-less}
 use Rattle.adjacency.proofs.cursor.AdjacencyCursor.seek.Statement.{statement}
 use Rattle.adjacency.proofs.cursor.AdjacencyCursor.seek.Tie as tie
 
@@ -32,7 +32,7 @@ returns-2 c = let s = c .before .before in seek-done (s .before .loop .inv) (s .
 loop-less : tie.Need-loop-less Inv-loop μ-loop
 loop-less c =
     let s = c .before .before .before .before .before .before in
-    seek-less (s .before .loop .inv) (s .step .ensures) (c .before .before .before .before .found .given .1)
+    turn-less (s .before .loop .inv .ready) (s .step .ensures) (c .before .before .before .before .found .given .1)
 
 loop-again : tie.Need-loop-again Inv-loop μ-loop
 loop-again c =

@@ -1,0 +1,61 @@
+-- `adjacency::clear::clear_left` meets its contract. The loop's invariant is `Clearing`, the measure how many entries remain.
+use native.Mathlib.Omega.{arith}
+use borrow.Author.Needs.{needs}
+use lib.ListN.{length}
+use Rattle.adjacency.specs.Cursor.{remaining}
+use Rattle.adjacency.specs.CursorLaws.{turn-less}
+use Rattle.adjacency.specs.ClearLaws.{Clearing, clearing-start, clearing-on, clearing-end, retired-then, retired-few}
+use Rattle.adjacency.proofs.clear.clear_left.Statement.{statement}
+use Rattle.adjacency.proofs.clear.clear_left.Tie as tie
+
+abbrev Inv-loop : tie.InvT-loop
+Inv-loop linked entries next live-edges₀ slots cursor₀ n₀ live-edges cursor n =
+    Clearing linked entries next slots cursor₀ live-edges₀ live-edges n cursor
+
+abbrev μ-loop : tie.MeasureT-loop
+μ-loop linked entries next live-edges₀ slots cursor₀ n₀ live-edges cursor n = length (remaining linked entries next cursor)
+
+loop-holds : tie.Need-loop-holds Inv-loop μ-loop
+loop-holds c = let entry = c .before .before .before in clearing-start (entry .args .slots) (entry .args .live-edges .now) (entry .pre .seekable .ready)
+
+retire-requires : tie.Need-retire-requires Inv-loop μ-loop
+retire-requires c κs =
+    let at = c .before .before .before .before .before in
+    omega (arith, at .loop .inv .retired .long, at .before .before .before .before .pre .seekable .live-long)
+
+add-n : tie.Need-add-n Inv-loop μ-loop
+add-n c =
+    let gone = c .before .before in
+    let at = gone .before .before .before .before .before .before in
+    omega (arith, retired-few (retired-then (at .loop .inv .retired) (gone .retire .ensures)), at .before .before .before .before .pre .few)
+
+returns : tie.Need-returns Inv-loop μ-loop
+returns c = let s = c .before .before in clearing-end (s .before .loop .inv) (s .step .ensures) (c .enum-told .given .1)
+
+loop-less : tie.Need-loop-less Inv-loop μ-loop
+loop-less c =
+    let s = c .before .before .before .before .before .before .before .before in
+    turn-less (s .before .loop .inv .ready) (s .step .ensures) (c .before .before .before .before .before .before .found .given .1)
+
+loop-again : tie.Need-loop-again Inv-loop μ-loop
+loop-again c =
+    let gone = c .before .before .before in
+    let s = gone .before .before .before .before .before in
+    clearing-on (s .before .loop .inv) (s .step .ensures) (gone .before .before .before .found .given .1) (gone .retire .ensures)
+
+pub clear-left-spec : {M : Type 1} → statement M
+clear-left-spec =
+    tie.close
+    (tie.spec
+    Inv-loop
+    μ-loop
+    loop-holds
+    (λ c κs. c .loop .inv .ready)
+    (λ c. search needs)
+    retire-requires
+    add-n
+    (λ c. search needs)
+    (λ c. search needs)
+    returns
+    loop-less
+    loop-again)

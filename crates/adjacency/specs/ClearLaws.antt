@@ -1,0 +1,186 @@
+-- Laws of edges made dead: none, one, some and then more, and only the live ones of them; then the loop over a walk.
+use Prim.Native.Nat.{ℕ, zero, suc, _+_, _/_, _≤_, _<_}
+use native.Mathlib.Omega.{arith}
+use mathlib.Core.Path.{_≡_, refl, sym, ap, _∙_}
+use mathlib.Core.Bool.{Bool, true, false, cond, _&&_, _||_, not}
+use mathlib.Core.List.{List, [], _∷_, _++_, append-nil}
+use lib.ListN.{length, getD, set, length-set}
+use lib.Seq.{append-snoc}
+use lib.Dec.{eqb, eqb·zero-suc, eqb·suc-zero, eqb·suc-suc}
+use Rattle.plain.specs.declared.Counts.{Counts}
+use Rattle.plain.specs.Lists.{member, keep}
+use Rattle.plain.specs.Memory.{live-words}
+use Rattle.plain.specs.Reads.{live-count}
+use Rattle.plain.specs.Laws.Booleans.{by-test, and-true, and-false, or-false}
+use Rattle.plain.specs.Laws.ListLaws.{member-append, member-keep, count-length}
+use Rattle.plain.specs.Laws.Rank.{live-below, live-count-removed}
+use Rattle.liveness.specs.Flags.{live-flags}
+use Rattle.liveness.specs.FlagLaws.{length-flags}
+use Rattle.liveness.specs.Calls.{Cleared}
+use Rattle.liveness.specs.CallLaws.{clear-keeps}
+use Rattle.shape.specs.Shape.{Adjacency, adjacency-in, raw, live-in, walk-of}
+use Rattle.shape.specs.Laws.Taking.{keep-append}
+use Rattle.adjacency.specs.declared.cursor.AdjacencyCursor.{AdjacencyCursor}
+use Rattle.adjacency.specs.declared.cursor.Found.the-variants.{Edge, Done}
+use Rattle.adjacency.specs.declared.cursor.Step.{Step}
+use Rattle.adjacency.specs.declared.cursor.Start.{Start}
+use Rattle.adjacency.specs.Cursor.{remaining, step-of, Ready}
+use Rattle.adjacency.specs.CursorLaws.{turn, found-is}
+use Rattle.adjacency.specs.Walk.{walk-in, entries-column, next-column, Started}
+use Rattle.adjacency.specs.WalkLaws.{started-left, started-seekable}
+use Rattle.adjacency.specs.Clear.{Retired, LeftClearable, Clearable}
+
+-- ---- flags
+
+-- a flag after one was cleared, in range or not
+pub getD-cleared : (flags : List Bool) (e k : ℕ) → getD (set flags e false) k false ≡ (getD flags k false && not (eqb k e))
+getD-cleared [] e k = refl
+getD-cleared (flag ∷ flags) zero zero = sym (and-false flag)
+getD-cleared (flag ∷ flags) zero (suc k) = rw (eqb·suc-zero k) (sym (and-true (getD flags k false)))
+getD-cleared (flag ∷ flags) (suc e) zero = rw (eqb·zero-suc e) (sym (and-true flag))
+getD-cleared (flag ∷ flags) (suc e) (suc k) = rw (eqb·suc-suc k e) (getD-cleared flags e k)
+
+-- what is live and not among the live ones of a list is what is live and not in the list
+live-gone : (test : ℕ → Bool) (l : List ℕ) (k : ℕ) → (test k && not (member k (keep test l))) ≡ (test k && not (member k l))
+live-gone test l k =
+    rw (member-keep test k l) (by-test (test k) (λ q. rw (q, and-true (member k l))) (λ q. rw q))
+
+-- ---- edges made dead
+
+-- none
+pub retired-none : (slots : ℕ) (words : List ℕ) → Retired slots [] words words 0
+unfolding member
+retired-none slots words = record {
+  flags = λ k. sym (and-true (getD (live-flags words slots) k false));
+  counted = omega arith;
+  packs = λ p. p;
+  others = refl;
+  long = refl;
+}
+
+-- one
+pub retired-one : {slots e : ℕ} {entry exit : List ℕ} {answer : Bool} → Cleared entry slots e answer exit
+    → Retired slots (e ∷ []) entry exit (cond answer 1 0)
+unfolding member
+retired-one {slots} {e} {entry} {exit} {answer} cleared = record {
+  flags = λ k. ap (λ (f : List Bool). getD f k false) (cleared .flags) ∙ getD-cleared (live-flags entry slots) e k
+      ∙ rw (or-false (eqb k e));
+  counted = by-test answer one-less (λ q. rw (q, cleared .keeps q) (omega arith));
+  packs = cleared .packs;
+  others = by-test answer (λ q. clear-keeps (live-words slots) (word-below q) cleared) (λ q. rw (cleared .keeps q));
+  long = ap length (cleared .others) ∙ length-set entry (e / 64) (getD exit (e / 64) 0);
+}
+  where
+    was-live : answer ≡ true → getD (live-flags entry slots) e false ≡ true
+    was-live q = sym (cleared .answers) ∙ q
+
+    one-less : answer ≡ true → live-count (live-flags entry slots) ≡ cond answer 1 0 + live-count (live-flags exit slots)
+    one-less q = rw (q, cleared .flags) (omega (arith, live-count-removed (live-flags entry slots) e (was-live q)))
+
+    word-below : answer ≡ true → e / 64 < live-words slots
+    word-below q = let low = live-below (live-flags entry slots) e (was-live q) in omega (arith, length-flags entry slots)
+
+-- some, and then more
+pub retired-then : {slots n m : ℕ} {es fs entry mid exit : List ℕ} → Retired slots es entry mid n → Retired slots fs mid exit m
+    → Retired slots (es ++ fs) entry exit (n + m)
+retired-then {slots} {es = es} {fs = fs} {entry = entry} a b = record {
+  flags = λ k. b .flags k ∙ rw (a .flags k, member-append k es fs) (gone (getD (live-flags entry slots) k false) (member k es) (member k fs));
+  counted = let first = a .counted in let second = b .counted in omega arith;
+  packs = λ p. b .packs (a .packs p);
+  others = b .others ∙ a .others;
+  long = b .long ∙ a .long;
+}
+  where
+    gone : (live x y : Bool) → ((live && not x) && not y) ≡ (live && not (x || y))
+    gone false x y = refl
+    gone true true y = refl
+    gone true false y = refl
+
+module _ {slots n : ℕ} {entry exit : List ℕ} where
+  -- others that leave the same live
+  retired-same : {es fs : List ℕ}
+      → ((k : ℕ) → (getD (live-flags entry slots) k false && not (member k es)) ≡ (getD (live-flags entry slots) k false && not (member k fs)))
+      → Retired slots es entry exit n → Retired slots fs entry exit n
+  retired-same same a = record { flags = λ k. a .flags k ∙ same k; counted = a .counted; packs = a .packs; others = a .others; long = a .long }
+
+  -- to make a list dead is to make the live ones of it dead
+  retired-live : (l : List ℕ) → Retired slots l entry exit n → Retired slots (keep (live-in (live-flags entry slots)) l) entry exit n
+  retired-live l = retired-same (λ k. sym (live-gone (live-in (live-flags entry slots)) l k))
+
+  -- so to make the entries of a live node dead, and none of a removed one, is to make the walk dead
+  retired-walk : (live : Bool) (a : Adjacency) → Retired slots (cond live (raw a) []) entry exit n
+      → Retired slots (walk-of (live-flags entry slots) live a) entry exit n
+  retired-walk true a gone = retired-live (raw a) gone
+  retired-walk false a gone = gone
+
+  -- and the other way round
+  retired-raw : (live : Bool) (a : Adjacency) → Retired slots (walk-of (live-flags entry slots) live a) entry exit n
+      → Retired slots (cond live (raw a) []) entry exit n
+  retired-raw true a gone = retired-same (live-gone (live-in (live-flags entry slots)) (raw a)) gone
+  retired-raw false a gone = gone
+
+-- Two walks made dead, the second as it is read after the first was made dead, are both as they were at entry: what the first pass made dead is in both, or was
+-- dead.
+pub retired-both : {slots n m : ℕ} {entry mid exit : List ℕ} (live : Bool) (a b : Adjacency)
+    → Retired slots (walk-of (live-flags entry slots) live a) entry mid n → Retired slots (walk-of (live-flags mid slots) live b) mid exit m
+    → Retired slots (walk-of (live-flags entry slots) live a ++ walk-of (live-flags entry slots) live b) entry exit (n + m)
+retired-both {slots} {entry = entry} true a b first second =
+    rw (keep-append (live-in (live-flags entry slots)) (raw a) (raw b)) at
+    (retired-live (raw a ++ raw b) (retired-then (retired-raw true a first) (retired-raw true b second)))
+retired-both false a b first second = retired-then first second
+
+-- what was dead stays dead
+pub retired-stays : {slots n : ℕ} {es entry exit : List ℕ} → Retired slots es entry exit n → (k : ℕ) → getD (live-flags entry slots) k false ≡ false
+    → getD (live-flags exit slots) k false ≡ false
+retired-stays gone k dead = gone .flags k ∙ rw dead
+
+-- no more are counted than there are slots
+pub retired-few : {slots n : ℕ} {es entry exit : List ℕ} → Retired slots es entry exit n → n ≤ slots
+retired-few {slots} {entry = entry} a =
+    omega (arith, a .counted, count-length (λ f. f) (live-flags entry slots), length-flags entry slots)
+
+-- ---- the loop
+
+-- From c₀ the walk has come to c, past the entries `past`, which are dead; n of them were live.
+pub record Clearing (linked : Bool) (entries next : List ℕ) (slots : ℕ) (c₀ : AdjacencyCursor) (live₀ live : List ℕ) (n : ℕ) (c : AdjacencyCursor) : Type 0 where
+  pub past : List ℕ
+  pub ready : Ready linked entries next c
+  pub whole : remaining linked entries next c₀ ≡ past ++ remaining linked entries next c
+  pub retired : Retired slots past live₀ live n
+
+-- where it starts
+pub clearing-start : {linked : Bool} {entries next : List ℕ} (slots : ℕ) {c : AdjacencyCursor} (live : List ℕ) → Ready linked entries next c
+    → Clearing linked entries next slots c live live 0 c
+clearing-start slots live r = record { past = []; ready = r; whole = refl; retired = retired-none slots live }
+
+module _ {linked : Bool} {entries next : List ℕ} {slots : ℕ} {c₀ c : AdjacencyCursor} {live₀ live : List ℕ} {n : ℕ}
+    (i : Clearing linked entries next slots c₀ live₀ live n c) {s : Step} (r : s ≡ step-of linked entries next c) where
+  -- past one entry more
+  pub clearing-on : {e m : ℕ} {live' : List ℕ} → s .found ≡ Edge e → Retired slots (e ∷ []) live live' m
+      → Clearing linked entries next slots c₀ live₀ live' (n + m) (s .cursor)
+  clearing-on {e} q gone = record {
+    past = i .past ++ (e ∷ []);
+    ready = turn (i .ready) r .ready;
+    whole = i .whole ∙ rw (found-is (i .ready) r q) (sym (append-snoc (i .past) e (remaining linked entries next (s .cursor))));
+    retired = retired-then (i .retired) gone;
+  }
+
+  -- at the end all are past
+  pub clearing-end : s .found ≡ Done → Retired slots (remaining linked entries next c₀) live₀ live n
+  clearing-end q = rw (i .whole, found-is (i .ready) r q, append-nil (i .past)) (i .retired)
+
+-- ---- a node's walk, read from columns that were handed out
+
+module _ {ws : List ℕ} {ce cn : ℕ} {counts : Counts} {live-edges : List ℕ} {x : ℕ} (p : Clearable ws ce cn counts live-edges x) {live : Bool} {s : Start}
+    (t : Started ws ce cn counts x live s) {entries next : List ℕ} (are-entries : entries ≡ entries-column ws ce (s .linked)) (is-next : next ≡ next-column ws ce) where
+  -- its entries can be made dead
+  pub given-clearable : LeftClearable (s .linked) entries next live-edges (counts .edges .bound) (s .cursor)
+  given-clearable = record {
+    seekable = started-seekable t are-entries is-next (p .live-long);
+    few = let bounded = p .readable .edges in let sized = p .readable .sized in omega arith;
+  }
+
+  -- and then the walk is
+  pub given-retired : {exit : List ℕ} {n : ℕ} → Retired (counts .edges .bound) (remaining (s .linked) entries next (s .cursor)) live-edges exit n
+      → Retired (counts .edges .bound) (walk-in ws ce cn counts live-edges x live) live-edges exit n
+  given-retired gone = retired-walk live (adjacency-in ws ce cn counts x) (rw (are-entries, is-next, started-left t) at gone)

@@ -1,0 +1,74 @@
+// Making every edge of a node's walk dead, in one direction (`clear_adjacency` of the Rust). Removing a node is this with the one axis and then with the other. The
+// walk is cleared as it is read, with no memory for it: a removed edge stays an entry of its lists, so what the cursor has still to read does not change.
+
+ghost use mathlib.Core.List.{[], _∷_};
+ghost use Prim.Native.Nat.{_*_, _≤_};
+ghost use lib.ListN.{length};
+ghost use Rattle.adjacency.specs.Cursor.{remaining};
+ghost use Rattle.adjacency.specs.Walk.{walk-in};
+ghost use Rattle.adjacency.specs.Clear.{Retired, LeftClearable, Clearable};
+use crate::cursor::AdjacencyCursor;
+use crate::cursor::Found;
+use crate::walk;
+use plain::Counts;
+
+// Makes an edge dead. Answers 1 where it was live, else 0.
+fn retire(live_edges: &mut [u64], slots: usize, edge: u32) -> u32
+    requires { ⌜ slots ≤ 64 * length (now «live_edges») ⌝ }
+    ensures { λ r. ⌜ Retired slots (edge ∷ []) (now («live_edges» .entry)) (now («live_edges» .exit)) r ⌝ }
+{
+    if liveness::clear(live_edges, slots, edge as usize) {
+        return 1;
+    }
+    0
+}
+
+// Makes the entries dead that a cursor has still to read. Answers how many were live.
+fn clear_left(
+    from: AdjacencyCursor,
+    linked: bool,
+    entries: &[u32],
+    next: &[u32],
+    live_edges: &mut [u64],
+    slots: usize,
+) -> u32
+    requires { ⌜ LeftClearable linked (now entries) (now next) (now «live_edges») slots from ⌝ }
+    ensures { λ r. ⌜ Retired slots (remaining linked (now (entries .entry)) (now (next .entry)) from) (now («live_edges» .entry)) (now («live_edges» .exit)) r ⌝ }
+{
+    let mut cursor = from;
+    let mut n: u32 = 0;
+    loop {
+        let step = cursor.step(linked, entries, next);
+        let found = step.found;
+        match found {
+            Found::Edge(edge) => {
+                n += retire(live_edges, slots, edge);
+            }
+            Found::Done => {
+                return n;
+            }
+        }
+        cursor = step.cursor;
+    }
+}
+
+// Makes every edge of a node's walk dead. Answers how many were live.
+pub fn clear_adjacency(
+    axis: &[u32],
+    edges: usize,
+    nodes: usize,
+    counts: Counts,
+    live_edges: &mut [u64],
+    node: usize,
+    live: bool,
+) -> u32
+    requires { ⌜ Clearable (now axis) edges nodes counts (now «live_edges») node ⌝ }
+    ensures { λ r. ⌜ Retired (counts .edges .bound) (walk-in (now (axis .entry)) edges nodes counts (now («live_edges» .entry)) node live) (now («live_edges» .entry)) (now («live_edges» .exit)) r ⌝ }
+{
+    let start = walk::start(axis, edges, nodes, counts, node, live);
+    let linked = start.linked;
+    let slots = counts.edges.bound as usize;
+    let entries = walk::entries_of(axis, edges, linked);
+    let next = walk::next_of(axis, edges);
+    clear_left(start.cursor, linked, entries, next, live_edges, slots)
+}

@@ -1,0 +1,89 @@
+-- What the shape of a store's words holds: flags, bounds, ends and adjacencies, each by the words that it is read from.
+use Prim.Native.Nat.{ℕ, _<_}
+use mathlib.Core.Path.{_≡_, refl, sym, ap, _∙_}
+use mathlib.Core.Bool.{false}
+use mathlib.Core.List.{List, map, map-map}
+use native.Mathlib.Nat.{zero-add}
+use lib.ListN.{length, getD, length-map}
+use Rattle.plain.specs.declared.TraversalDirection.{TraversalDirection}
+use Rattle.plain.specs.declared.TraversalDirection.the-variants.{Outgoing, Incoming}
+use Rattle.plain.specs.declared.Counts.{Counts}
+use Rattle.plain.specs.Lists.{from}
+use Rattle.plain.specs.Plain.{NodeSlot, EdgeSlot, incidence, end-of}
+use Rattle.plain.specs.Laws.ListLaws.{getD-map, getD-from, length-from, map-getD}
+use Rattle.liveness.specs.FlagLaws.{length-flags}
+use Rattle.shape.specs.Columns.{end-at}
+use Rattle.shape.specs.Laws.Refining.{ends-of}
+use Rattle.shape.specs.Shape.{Axis, plain-of, adjacency-of, Words, node-live, edge-live, axis-words, adjacency-in, axis-of, shape-of, axis-in, no-adjacency, node-flags-of, edge-flags-of}
+
+-- a list made of the slots below n
+module _ {A : Type 0} (f : ℕ → A) (n : ℕ) where
+  pub made-length : length (map f (from 0 n)) ≡ n
+  made-length = length-map (from 0 n) f ∙ length-from 0 n
+
+  pub made-at : (x : ℕ) (d : A) → x < n → getD (map f (from 0 n)) x d ≡ f x
+  made-at x d l = getD-map f (from 0 n) x 0 d (rw (length-from 0 n) l) ∙ ap f (getD-from 0 n x 0 l ∙ zero-add x)
+
+module _ (w : Words) where
+  pub node-bound-is : length (shape-of w .nodes) ≡ w .counts .nodes .bound
+  unfolding shape-of
+  node-bound-is = made-length (λ x. record { payload = getD (w .nodes) x 0; live = getD (node-live w) x false }) (w .counts .nodes .bound)
+
+  pub edge-bound-is : length (shape-of w .edges) ≡ w .counts .edges .bound
+  unfolding shape-of
+  edge-bound-is = made-length (λ e. record { payload = getD (w .edges) e 0; live = getD (edge-live w) e false }) (w .counts .edges .bound)
+
+  pub node-flags-are : node-flags-of (shape-of w) ≡ node-live w
+  unfolding shape-of
+  node-flags-are =
+      let slot : ℕ → NodeSlot = λ x. record { payload = getD (w .nodes) x 0; live = getD (node-live w) x false } in
+      let n = w .counts .nodes .bound in
+      map-map (λ (s : NodeSlot). s .live) slot (from 0 n) ∙ ap (λ (k : ℕ). map (λ x. getD (node-live w) x false) (from 0 k)) (sym (length-flags (w .live-nodes) n))
+      ∙ map-getD (node-live w) false
+
+  pub edge-flags-are : edge-flags-of (shape-of w) ≡ edge-live w
+  unfolding shape-of
+  edge-flags-are =
+      let slot : ℕ → EdgeSlot = λ e. record { payload = getD (w .edges) e 0; live = getD (edge-live w) e false } in
+      let n = w .counts .edges .bound in
+      map-map (λ (s : EdgeSlot). s .live) slot (from 0 n) ∙ ap (λ (k : ℕ). map (λ x. getD (edge-live w) x false) (from 0 k)) (sym (length-flags (w .live-edges) n))
+      ∙ map-getD (edge-live w) false
+
+  -- one direction
+  pub axis-is : (d : TraversalDirection) → axis-in d (shape-of w) ≡ axis-of (axis-words d w) (length (w .edges)) (length (w .nodes)) (w .counts)
+  unfolding shape-of
+  axis-is Outgoing = refl
+  axis-is Incoming = refl
+
+-- the words of one axis
+module _ (ws : List ℕ) (ce cn : ℕ) (counts : Counts) where
+  pub axis-ends : length (axis-of ws ce cn counts .ends) ≡ counts .edges .bound
+  unfolding axis-of
+  axis-ends = made-length (λ e. getD ws e 0) (counts .edges .bound)
+
+  pub axis-end : (e : ℕ) → e < counts .edges .bound → getD (axis-of ws ce cn counts .ends) e 0 ≡ end-at ws e
+  unfolding axis-of
+  axis-end e l = made-at (λ e. getD ws e 0) (counts .edges .bound) e 0 l
+
+  pub axis-nodes : length (axis-of ws ce cn counts .nodes) ≡ counts .nodes .bound
+  unfolding axis-of
+  axis-nodes = made-length (adjacency-in ws ce cn counts) (counts .nodes .bound)
+
+  pub axis-adjacency : (x : ℕ) → x < counts .nodes .bound → getD (axis-of ws ce cn counts .nodes) x no-adjacency ≡ adjacency-in ws ce cn counts x
+  unfolding axis-of
+  axis-adjacency x l = made-at (adjacency-in ws ce cn counts) (counts .nodes .bound) x no-adjacency l
+
+module _ (w : Words) where
+  -- a node's adjacency in the shape is the one that the words of its axis have
+  pub shape-adjacency : (d : TraversalDirection) (x : ℕ) → x < w .counts .nodes .bound
+      → adjacency-of d (shape-of w) x ≡ adjacency-in (axis-words d w) (length (w .edges)) (length (w .nodes)) (w .counts) x
+  shape-adjacency d x l =
+      ap (λ (a : Axis). getD (a .nodes) x no-adjacency) (axis-is w d) ∙ axis-adjacency (axis-words d w) (length (w .edges)) (length (w .nodes)) (w .counts) x l
+
+  -- the ends in the plain lists are those that the words of the axis have
+  pub plain-ends : (d : TraversalDirection) → incidence d (plain-of (shape-of w)) .ends ≡ axis-of (axis-words d w) (length (w .edges)) (length (w .nodes)) (w .counts) .ends
+  plain-ends d = ends-of (shape-of w) d ∙ ap (λ (a : Axis). a .ends) (axis-is w d)
+
+  pub plain-end : (d : TraversalDirection) (e : ℕ) → e < w .counts .edges .bound → end-of d (plain-of (shape-of w)) e ≡ end-at (axis-words d w) e
+  plain-end d e l =
+      ap (λ (k : List ℕ). getD k e 0) (plain-ends d) ∙ axis-end (axis-words d w) (length (w .edges)) (length (w .nodes)) (w .counts) e l

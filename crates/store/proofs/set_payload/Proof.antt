@@ -1,0 +1,11 @@
+-- `store::set_payload` meets its contract: what it writes is what `payload-acted` asks.
+use borrow.Author.Needs.{needs}
+use Rattle.store.specs.Editing.{payload-acted}
+use Rattle.store.proofs.set_payload.Statement.{statement}
+use Rattle.store.proofs.set_payload.Tie as tie
+
+returns : tie.Need-returns
+returns c = payload-acted (c .pre) (c .args .payload) (c .fits .payload .fits)
+
+pub set-payload-spec : {M : Type 1} → statement M
+set-payload-spec = tie.close (tie.spec (λ c. search needs) (λ c. search needs) (λ c. search needs) returns)

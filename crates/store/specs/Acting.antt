@@ -1,0 +1,85 @@
+-- What every operation on a store rests on: the walks are well formed again because the shape's own step keeps them so, and live counts follow the flags. And
+-- what callers conclude from an operation that was done: the shape and the plain lists are those of the step.
+use Prim.Native.Nat.{ℕ, _+_, _≤_, _<_}
+use native.Mathlib.Omega.{arith}
+use mathlib.Core.Path.{_≡_, sym, ap, _∙_}
+use mathlib.Core.Bool.{Bool, true, false}
+use mathlib.Core.List.{List}
+use lib.ListN.{getD}
+use Rattle.plain.specs.declared.Operation.{Operation}
+use Rattle.plain.specs.declared.Slots.{Slots}
+use Rattle.plain.specs.Step.{Outcome, step}
+use Rattle.plain.specs.Laws.Rank.{live-count-removed, live-count-pushed}
+use Rattle.plain.specs.Laws.Stepping.{Fitting}
+use Rattle.plain.specs.Laws.WellFormed.{WellFormed}
+use Rattle.liveness.specs.Flags.{live-flags}
+use Rattle.liveness.specs.WordFlags.{count-le}
+use Rattle.liveness.specs.Calls.{Pushed, Cleared}
+use Rattle.shape.specs.Shape.{Words, Shape, capacities, shape-of, plain-of}
+use Rattle.shape.specs.Checked.{LiveRight, Checked}
+use Rattle.shape.specs.Steps.{acted, acts, shape-step}
+use Rattle.shape.specs.Laws.CheckedShape.{checked-proper}
+use Rattle.shape.specs.Laws.Stepping.{step-refines}
+use Rattle.shape.specs.Laws.Keeping.{step-proper}
+use Rattle.store.specs.Operations.{lists, SameLengths, Acted, one-more, fewer}
+
+-- two shapes with the same parts
+pub shape-ext : {s t : Shape} → s .nodes ≡ t .nodes → s .edges ≡ t .edges → s .base-nodes ≡ t .base-nodes → s .base-edges ≡ t .base-edges
+    → s .outgoing ≡ t .outgoing → s .incoming ≡ t .incoming → s ≡ t
+shape-ext a b c d e f = λ i. record { nodes = a i; edges = b i; base-nodes = c i; base-edges = d i; outgoing = e i; incoming = f i }
+
+-- an operation that changes a checked store, by its outcome in document 01
+module _
+    {w : Words}
+    (checked : Checked w)
+    (operation : Operation)
+    {o : Outcome}
+    (comes : step (capacities w) (lists w) operation ≡ o)
+    (acting : acts operation o ≡ true)
+  where
+    -- it is what the shape's step does
+    step-is : shape-step (capacities w) (shape-of w) operation ≡ acted operation (shape-of w)
+    unfolding shape-step
+    step-is = rw (comes, acting)
+
+    -- after it the walks are well formed, where the shape is what it makes of the shape
+    pub acted-walks : (v : Words) → Fitting operation → SameLengths w v → shape-of v ≡ acted operation (shape-of w) → WellFormed (capacities v) (lists v)
+    acted-walks v fits same shape =
+        rw (same .nodes, same .edges, shape, ← step-is) (step-proper (checked-proper w checked) operation fits .walks)
+
+    -- where it was done, the shape is that of the shape's step
+    pub acted-steps : {v : Words} → Acted operation w v → shape-of v ≡ shape-step (capacities w) (shape-of w) operation
+    acted-steps done = done .shape ∙ sym step-is
+
+    -- and the plain lists are those of document 01
+    pub acted-lists : {v : Words} → Acted operation w v → lists v ≡ o .lists
+    acted-lists done =
+        ap plain-of (acted-steps done) ∙ step-refines (checked-proper w checked) operation ∙ ap (λ (q : Outcome). q .lists) comes
+
+-- no more slots are live than there are
+pub live-within : {words : List ℕ} {s : Slots} → LiveRight words (live-flags words (s .bound)) s → s .live ≤ s .bound
+live-within {words} {s} right = omega (arith, right .live-right, count-le words (s .bound))
+
+-- a live slot more
+pub pushed-right : {words after : List ℕ} {s : Slots} → LiveRight words (live-flags words (s .bound)) s → Pushed words (s .bound) after
+    → LiveRight after (live-flags after (s .bound + 1)) (one-more s)
+pushed-right {words} {s = s} right p =
+    record {
+      unused-clear = p .packs (right .unused-clear);
+      live-right = rw (p .flags) (omega (arith, right .live-right, live-count-pushed (live-flags words (s .bound))));
+    }
+
+-- where a slot is live, some are counted
+pub some-live : {words : List ℕ} {s : Slots} (slot : ℕ) → LiveRight words (live-flags words (s .bound)) s → getD (live-flags words (s .bound)) slot false ≡ true
+    → 0 < s .live
+some-live {words} {s} slot right live = omega (arith, right .live-right, live-count-removed (live-flags words (s .bound)) slot live)
+
+-- a live slot removed
+pub cleared-right : {words after : List ℕ} {s : Slots} {slot : ℕ} {answer : Bool} → LiveRight words (live-flags words (s .bound)) s
+    → Cleared words (s .bound) slot answer after → getD (live-flags words (s .bound)) slot false ≡ true
+    → LiveRight after (live-flags after (s .bound)) (fewer 1 s)
+cleared-right {words} {s = s} {slot = slot} right p live =
+    record {
+      unused-clear = p .packs (right .unused-clear);
+      live-right = rw (p .flags) (omega (arith, right .live-right, live-count-removed (live-flags words (s .bound)) slot live));
+    }

@@ -1,0 +1,208 @@
+-- A store after a node or an edge was added: from what the liveness words and the two directions became, the shape and the check of the whole.
+use Prim.Native.Nat.{ℕ, _<_, _^_}
+use native.Mathlib.Omega.{arith}
+use mathlib.Core.Path.{_≡_, refl, sym, ap, _∙_}
+use mathlib.Core.Bool.{true, false}
+use mathlib.Core.List.{List}
+use lib.ListN.{length, getD, set, length-set}
+use Rattle.plain.specs.declared.TraversalDirection.{TraversalDirection}
+use Rattle.plain.specs.declared.TraversalDirection.the-variants.{Outgoing, Incoming}
+use Rattle.plain.specs.declared.Operation.the-variants.{AddNode, AddEdge}
+use Rattle.plain.specs.Plain.{node-added, edge-added}
+use Rattle.plain.specs.Step.{changed, step}
+use Rattle.plain.specs.Laws.Cases.{comes-to, add-node, add-edge}
+use Rattle.plain.specs.Laws.Rank.{live-below}
+use Rattle.liveness.specs.Calls.{Pushed}
+use Rattle.liveness.specs.FlagLaws.{length-flags}
+use Rattle.shape.specs.Shape.{Words, capacities, node-live, edge-live, axis-words, axis-of, shape-of, plain-of}
+use Rattle.shape.specs.Checked.{AxisChecked}
+use Rattle.shape.specs.Steps.{appended, acted}
+use Rattle.shape.specs.Laws.Reading.{node-bound-is, edge-bound-is, node-flags-are}
+use Rattle.adjacency.specs.Rings.{Openable, Opened, Appendable, Appended}
+use Rattle.store.specs.Made.{slots-more}
+use Rattle.store.specs.Operations.{store, lists, SameLengths, Acted, one-more, with-nodes, with-edges, Raisable, NodeAddable, EdgeAddable}
+use Rattle.store.specs.Axes.{opened-axis, opened-checked, appended-axis, appended-checked}
+use Rattle.store.specs.Acting.{shape-ext, acted-walks, live-within, pushed-right}
+
+-- ---- a node
+
+module _ {w : Words} (pre : NodeAddable w) where
+  -- the counts stay words
+  pub node-raisable : Raisable (w .counts .nodes)
+  node-raisable = record {
+    bound-below = omega (arith, pre .room, pre .checked .axis Outgoing .sized .nodes-within);
+    live-within = live-within (pre .checked .nodes-live);
+  }
+
+  -- both directions have the words of the slot
+  pub node-openable : (d : TraversalDirection) → Openable (axis-words d w) (length (w .edges)) (length (w .nodes)) (w .counts .nodes .bound)
+  node-openable d = record { sized = pre .checked .axis d .sized; room = pre .room }
+
+  -- the step of document 01 adds a node; its value is the slot
+  pub node-comes : (payload : ℕ) → step (capacities w) (lists w) (AddNode payload) ≡ changed (w .counts .nodes .bound) (node-added payload (lists w))
+  unfolding plain-of
+  node-comes payload =
+      comes-to (add-node (rw (node-bound-is w) (pre .room))) ∙ ap (λ (n : ℕ). changed n (node-added payload (lists w))) (node-bound-is w)
+
+  -- the store with its node, from what was written
+  module _
+      (payload : ℕ)
+      (fits : payload < 2 ^ 32)
+      {live outgoing incoming : List ℕ}
+      (pushed : Pushed (w .live-nodes) (w .counts .nodes .bound) live)
+      (out : Opened (w .outgoing) outgoing (length (w .edges)) (length (w .nodes)) (w .counts .nodes .bound))
+      (inc : Opened (w .incoming) incoming (length (w .edges)) (length (w .nodes)) (w .counts .nodes .bound))
+      (live-long : length live ≡ length (w .live-nodes))
+      (out-long : length outgoing ≡ length (w .outgoing))
+      (inc-long : length incoming ≡ length (w .incoming))
+    where
+      -- the store afterwards
+      abbrev with-node : Words
+      with-node =
+          store (with-nodes (one-more (w .counts .nodes)) (w .counts)) (set (w .nodes) (w .counts .nodes .bound) payload) (w .edges) live (w .live-edges) outgoing incoming
+
+      -- no slice grows or shrinks
+      node-lengths : SameLengths w with-node
+      node-lengths = record {
+        nodes = length-set (w .nodes) (w .counts .nodes .bound) payload;
+        edges = refl;
+        live-nodes = live-long;
+        live-edges = refl;
+        outgoing = out-long;
+        incoming = inc-long;
+      }
+
+      -- its shape is what the operation makes of the shape
+      node-shape : shape-of with-node ≡ acted (AddNode payload) (shape-of w)
+      unfolding shape-of acted
+      node-shape =
+          rw (length-set (w .nodes) (w .counts .nodes .bound) payload, pushed .flags)
+          (shape-ext
+          (slots-more (λ v b. record { payload = v; live = b }) (w .nodes) (node-live w) (w .counts .nodes .bound)
+          (length-flags (w .live-nodes) (w .counts .nodes .bound)) (pre .checked .nodes .bound-within) payload (pre .room))
+          refl refl refl (opened-axis (pre .checked) Outgoing outgoing out-long out (pre .room))
+          (opened-axis (pre .checked) Incoming incoming inc-long inc (pre .room)))
+
+      -- the node was added
+      pub node-acted : Acted (AddNode payload) w with-node
+      node-acted = record {
+        shape = node-shape;
+        checked = record {
+          nodes = record { bound-within = rw (node-lengths .nodes) (omega (arith, pre .room)); base-within = omega (arith, pre .checked .nodes .base-within) };
+          edges = pre .checked .edges;
+          live-nodes-long = rw (node-lengths .nodes, live-long) (pre .checked .live-nodes-long);
+          live-edges-long = pre .checked .live-edges-long;
+          nodes-live = pushed-right (pre .checked .nodes-live) pushed;
+          edges-live = pre .checked .edges-live;
+          axis = directions;
+          walks = acted-walks (pre .checked) (AddNode payload) (node-comes payload) refl with-node fits node-lengths node-shape;
+        };
+        lengths = node-lengths;
+      }
+        where
+          directions : (d : TraversalDirection)
+              → AxisChecked (axis-words d with-node) (length (w .edges)) (length (with-node .nodes)) (with-node .counts) (node-live with-node) (edge-live w)
+          directions Outgoing = rw (node-lengths .nodes, pushed .flags) (opened-checked (pre .checked) Outgoing outgoing out-long out (pre .room))
+          directions Incoming = rw (node-lengths .nodes, pushed .flags) (opened-checked (pre .checked) Incoming incoming inc-long inc (pre .room))
+
+-- ---- an edge
+
+module _ {w : Words} {source target : ℕ} (pre : EdgeAddable w source target) where
+  -- the counts stay words
+  pub edge-raisable : Raisable (w .counts .edges)
+  edge-raisable = record {
+    bound-below = omega (arith, pre .room, pre .checked .axis Outgoing .sized .edges-within);
+    live-within = live-within (pre .checked .edges-live);
+  }
+
+  -- a live node is below the bound
+  end-below : (x : ℕ) → getD (node-live w) x false ≡ true → x < w .counts .nodes .bound
+  end-below x live = rw (← length-flags (w .live-nodes) (w .counts .nodes .bound)) (live-below (node-live w) x live)
+
+  -- in a direction the edge can be appended at a live node
+  pub edge-appendable : (d : TraversalDirection) (x : ℕ) → getD (node-live w) x false ≡ true
+      → Appendable (axis-words d w) (length (w .edges)) (length (w .nodes)) (w .counts .nodes .bound) (w .counts .edges .base) x (w .counts .edges .bound)
+  edge-appendable d x live = record {
+    sized = pre .checked .axis d .sized;
+    rings = pre .checked .axis d .rings;
+    node-below = end-below x live;
+    nodes-within = pre .checked .nodes .bound-within;
+    base-within = pre .checked .edges .base-within;
+    room = pre .room;
+  }
+
+  -- the step of document 01 adds an edge; its value is the slot
+  pub edge-comes : (payload : ℕ)
+      → step (capacities w) (lists w) (AddEdge source target payload) ≡ changed (w .counts .edges .bound) (edge-added source target payload (lists w))
+  unfolding plain-of
+  edge-comes payload =
+      comes-to (add-edge (rw (node-flags-are w) (pre .source-live)) (rw (node-flags-are w) (pre .target-live)) (rw (edge-bound-is w) (pre .room)))
+      ∙ ap (λ (n : ℕ). changed n (edge-added source target payload (lists w))) (edge-bound-is w)
+
+  -- the store with its edge, from what was written
+  module _
+      (payload : ℕ)
+      (fits : payload < 2 ^ 32)
+      {live outgoing incoming : List ℕ}
+      (pushed : Pushed (w .live-edges) (w .counts .edges .bound) live)
+      (out : Appended (w .outgoing) outgoing (length (w .edges)) (w .counts .nodes .bound) (w .counts .edges .base) source (w .counts .edges .bound))
+      (inc : Appended (w .incoming) incoming (length (w .edges)) (w .counts .nodes .bound) (w .counts .edges .base) target (w .counts .edges .bound))
+      (live-long : length live ≡ length (w .live-edges))
+      (out-long : length outgoing ≡ length (w .outgoing))
+      (inc-long : length incoming ≡ length (w .incoming))
+    where
+      -- the store afterwards
+      abbrev with-edge : Words
+      with-edge =
+          store (with-edges (one-more (w .counts .edges)) (w .counts)) (w .nodes) (set (w .edges) (w .counts .edges .bound) payload) (w .live-nodes) live outgoing incoming
+
+      -- no slice grows or shrinks
+      edge-lengths : SameLengths w with-edge
+      edge-lengths = record {
+        nodes = refl;
+        edges = length-set (w .edges) (w .counts .edges .bound) payload;
+        live-nodes = refl;
+        live-edges = live-long;
+        outgoing = out-long;
+        incoming = inc-long;
+      }
+
+      -- its shape is what the operation makes of the shape
+      edge-shape : shape-of with-edge ≡ acted (AddEdge source target payload) (shape-of w)
+      unfolding shape-of acted
+      edge-shape =
+          rw (length-set (w .edges) (w .counts .edges .bound) payload, pushed .flags)
+          (shape-ext refl
+          (slots-more (λ v b. record { payload = v; live = b }) (w .edges) (edge-live w) (w .counts .edges .bound)
+          (length-flags (w .live-edges) (w .counts .edges .bound)) (pre .checked .edges .bound-within) payload (pre .room))
+          refl refl
+          (appended-axis (pre .checked) Outgoing outgoing out-long source out (pre .room) (end-below source (pre .source-live))
+          ∙ ap (λ (e : ℕ). appended e source (axis-of (w .outgoing) (length (w .edges)) (length (w .nodes)) (w .counts))) (sym (edge-bound-is w)))
+          (appended-axis (pre .checked) Incoming incoming inc-long target inc (pre .room) (end-below target (pre .target-live))
+          ∙ ap (λ (e : ℕ). appended e target (axis-of (w .incoming) (length (w .edges)) (length (w .nodes)) (w .counts))) (sym (edge-bound-is w))))
+
+      -- the edge was added
+      pub edge-acted : Acted (AddEdge source target payload) w with-edge
+      edge-acted = record {
+        shape = edge-shape;
+        checked = record {
+          nodes = pre .checked .nodes;
+          edges = record { bound-within = rw (edge-lengths .edges) (omega (arith, pre .room)); base-within = omega (arith, pre .checked .edges .base-within) };
+          live-nodes-long = pre .checked .live-nodes-long;
+          live-edges-long = rw (edge-lengths .edges, live-long) (pre .checked .live-edges-long);
+          nodes-live = pre .checked .nodes-live;
+          edges-live = pushed-right (pre .checked .edges-live) pushed;
+          axis = directions;
+          walks = acted-walks (pre .checked) (AddEdge source target payload) (edge-comes payload) refl with-edge fits edge-lengths edge-shape;
+        };
+        lengths = edge-lengths;
+      }
+        where
+          directions : (d : TraversalDirection)
+              → AxisChecked (axis-words d with-edge) (length (with-edge .edges)) (length (w .nodes)) (with-edge .counts) (node-live w) (edge-live with-edge)
+          directions Outgoing =
+              rw (edge-lengths .edges, pushed .flags)
+              (appended-checked (pre .checked) Outgoing outgoing out-long source out (pre .room) (end-below source (pre .source-live)))
+          directions Incoming =
+              rw (edge-lengths .edges, pushed .flags)
+              (appended-checked (pre .checked) Incoming incoming inc-long target inc (pre .room) (end-below target (pre .target-live)))

@@ -1,0 +1,205 @@
+-- A store after a node was removed: its slot is dead, the edges of both its walks are dead, and no list is edited.
+use Prim.Native.Nat.{ℕ, _+_, _≤_, _<_}
+use native.Mathlib.Omega.{arith}
+use mathlib.Core.Path.{_≡_, refl, sym, ap, _∙_}
+use mathlib.Core.Bool.{Bool, true, false}
+use mathlib.Core.List.{List, _++_, map}
+use lib.ListN.{length, getD, set}
+use lib.Seq.{set-getD}
+use lib.Dec.{eqb}
+use borrow.Author.Tests.{eqb-true}
+use Rattle.plain.specs.declared.TraversalDirection.{TraversalDirection}
+use Rattle.plain.specs.declared.TraversalDirection.the-variants.{Outgoing, Incoming}
+use Rattle.plain.specs.declared.Operation.the-variants.{RemoveNode}
+use Rattle.plain.specs.Numbers.{LIMIT}
+use Rattle.plain.specs.Lists.{member, from}
+use Rattle.plain.specs.Plain.{NodeSlot, killed-node, no-node}
+use Rattle.plain.specs.Laws.Booleans.{by-test, true-false, and-false, or-true}
+use Rattle.plain.specs.Laws.Cases.{comes-to, remove-node}
+use Rattle.plain.specs.Laws.Deleting.{getD-set}
+use Rattle.plain.specs.Laws.ListLaws.{member-append, member-keep}
+use Rattle.plain.specs.Laws.Rank.{live-below}
+use Rattle.liveness.specs.Calls.{Cleared}
+use Rattle.liveness.specs.FlagLaws.{length-flags}
+use Rattle.shape.specs.Columns.{mark-at}
+use Rattle.shape.specs.Chains.{In}
+use Rattle.shape.specs.Shape.{Words, node-live, edge-live, axis-words, axis-of, run-list, run-of, live-in, raw, adjacency-in, shape-of, plain-of}
+use Rattle.shape.specs.Checked.{AxisChecked, Checked}
+use Rattle.shape.specs.Steps.{acted, walk-in as walk-of-shape}
+use Rattle.shape.specs.Laws.Chains.{in-front, in-none}
+use Rattle.shape.specs.Laws.Reading.{made-at, node-flags-are}
+use Rattle.adjacency.specs.Walk.{walk-in}
+use Rattle.adjacency.specs.StoreWalks.{shape-walk}
+use Rattle.adjacency.specs.Clear.{Retired, Clearable}
+use Rattle.adjacency.specs.StoreClears.{checked-clearable, retired-slots, retired-within, retired-right, node-retired}
+use Rattle.store.specs.Made.{slots-set}
+use Rattle.store.specs.Operations.{store, SameLengths, Acted, RemovedNode, fewer}
+use Rattle.store.specs.Acting.{shape-ext, acted-walks, live-within, some-live, cleared-right}
+
+-- a node slot by its payload and its flag
+abbrev node-slot : ℕ → Bool → NodeSlot
+node-slot v b = record { payload = v; live = b }
+
+-- a live entry of a live node's run is in its walk
+run-walked : (w : Words) (d : TraversalDirection) (x e : ℕ) → In e (run-list (axis-words d w) (length (w .edges)) (length (w .nodes)) x)
+    → getD (edge-live w) e false ≡ true → In e (walk-in (axis-words d w) (length (w .edges)) (length (w .nodes)) (w .counts) (w .live-edges) x true)
+unfolding run-list run-of
+run-walked w d x e m live =
+    let a = adjacency-in (axis-words d w) (length (w .edges)) (length (w .nodes)) (w .counts) x in
+    by-test (eqb (mark-at (axis-words d w) (length (w .edges)) (length (w .nodes)) x) 0)
+    (λ t. in-none e (rw t at m))
+    (λ t. rw (member-keep (live-in (edge-live w)) e (raw a), live, t, in-front e _ (a .ring) (rw t at m)))
+
+module _ {w : Words} (checked : Checked w) (node : ℕ) (live : getD (node-live w) node false ≡ true) where
+  node-below : node < w .counts .nodes .bound
+  node-below = rw (← length-flags (w .live-nodes) (w .counts .nodes .bound)) (live-below (node-live w) node live)
+
+  -- the edges of both walks
+  abbrev incident : List ℕ
+  incident = walk-of-shape Outgoing (shape-of w) node ++ walk-of-shape Incoming (shape-of w) node
+
+  -- a live entry of the node's own runs is one of them
+  run-incident : (d : TraversalDirection) (e : ℕ) → In e (run-list (axis-words d w) (length (w .edges)) (length (w .nodes)) node) → getD (edge-live w) e false ≡ true
+      → In e incident
+  run-incident Outgoing e m on =
+      in-front e (walk-of-shape Outgoing (shape-of w) node) (walk-of-shape Incoming (shape-of w) node)
+      (rw (shape-walk w Outgoing node node-below, live) (run-walked w Outgoing node e m on))
+  run-incident Incoming e m on =
+      rw (member-append e (walk-of-shape Outgoing (shape-of w) node) (walk-of-shape Incoming (shape-of w) node), shape-walk w Incoming node node-below, live,
+      run-walked w Incoming node e m on)
+      (or-true (member e (walk-of-shape Outgoing (shape-of w) node)))
+
+  -- the store without it, from what was written
+  module _
+      {nodes-after edges-after : List ℕ}
+      {answer : Bool}
+      {n : ℕ}
+      (cleared : Cleared (w .live-nodes) (w .counts .nodes .bound) node answer nodes-after)
+      (long : length nodes-after ≡ length (w .live-nodes))
+      (gone : Retired (w .counts .edges .bound) incident (w .live-edges) edges-after n)
+    where
+      abbrev without-node : Words
+      without-node = record {
+        counts = record { nodes = fewer 1 (w .counts .nodes); edges = fewer n (w .counts .edges) };
+        nodes = w .nodes;
+        edges = w .edges;
+        live-nodes = nodes-after;
+        live-edges = edges-after;
+        outgoing = w .outgoing;
+        incoming = w .incoming;
+      }
+
+      clear-lengths : SameLengths w without-node
+      clear-lengths = record { nodes = refl; edges = refl; live-nodes = long; live-edges = gone .long; outgoing = refl; incoming = refl }
+
+      -- a direction passes the check without it: a live edge of the node's run went with it
+      clear-direction : (d : TraversalDirection)
+          → AxisChecked (axis-words d w) (length (w .edges)) (length (w .nodes)) (without-node .counts) (node-live without-node) (edge-live without-node)
+      clear-direction d =
+          let old = checked .axis d in
+          record {
+            sized = old .sized;
+            ends-below = old .ends-below;
+            index = old .index;
+            rings = old .rings;
+            runs = old .runs;
+            removed-runs = λ x e l dead m. gone .flags e ∙ by-test (getD (edge-live w) e false)
+            (λ on. by-test (eqb x node)
+            (λ t. rw (run-incident d e (rw (eqb-true x node t) at m) on) (and-false (getD (edge-live w) e false)))
+            (λ t. true-false on (old .removed-runs x e l (sym (rw t at (getD-set (node-live w) node x false false (live-below (node-live w) node live))) ∙ ap (λ (f : List Bool). getD f x false) (sym (cleared .flags)) ∙ dead) m)))
+            (λ off. rw off);
+          }
+
+      clear-shape : shape-of without-node ≡ acted (RemoveNode node) (shape-of w)
+      unfolding shape-of acted axis-of
+      clear-shape =
+          let slots = from 0 (w .counts .nodes .bound) in
+          let old : ℕ → NodeSlot = λ x. record { payload = getD (w .nodes) x 0; live = getD (node-live w) x false } in
+          let payload = getD (w .nodes) node 0 in
+          shape-ext
+          (rw (cleared .flags)
+          (ap (λ (ps : List ℕ). map (λ x. node-slot (getD ps x 0) (getD (set (node-live w) node false) x false)) slots) (sym (set-getD (w .nodes) node 0))
+          ∙ slots-set node-slot (w .nodes) (node-live w) (w .counts .nodes .bound) (length-flags (w .live-nodes) (w .counts .nodes .bound))
+          (checked .nodes .bound-within) node payload false node-below
+          ∙ ap (λ (s : NodeSlot). set (map old slots) node (killed-node s)) (sym (made-at old (w .counts .nodes .bound) node no-node node-below))))
+          (retired-slots w without-node refl refl gone) refl refl refl refl
+
+      -- the node was removed
+      pub cleared-acted : Acted (RemoveNode node) w without-node
+      unfolding plain-of
+      cleared-acted = record {
+        shape = clear-shape;
+        checked = record {
+          nodes = record { bound-within = checked .nodes .bound-within; base-within = checked .nodes .base-within };
+          edges = record { bound-within = checked .edges .bound-within; base-within = checked .edges .base-within };
+          live-nodes-long = rw long (checked .live-nodes-long);
+          live-edges-long = rw (gone .long) (checked .live-edges-long);
+          nodes-live = cleared-right (checked .nodes-live) cleared live;
+          edges-live = retired-right (checked .edges-live) gone;
+          axis = directions;
+          walks = acted-walks checked (RemoveNode node) (comes-to (remove-node (rw (node-flags-are w) live))) refl without-node tt clear-lengths clear-shape;
+        };
+        lengths = clear-lengths;
+      }
+        where
+          directions : (d : TraversalDirection)
+              → AxisChecked (axis-words d without-node) (length (w .edges)) (length (w .nodes)) (without-node .counts) (node-live without-node) (edge-live without-node)
+          directions Outgoing = clear-direction Outgoing
+          directions Incoming = clear-direction Incoming
+
+-- what was found and cleared, in the order of the program
+module _
+    {w : Words}
+    (checked : Checked w)
+    (node : ℕ)
+    {nodes-after : List ℕ}
+    {answer : Bool}
+    (cleared : Cleared (w .live-nodes) (w .counts .nodes .bound) node answer nodes-after)
+  where
+    -- nothing live was there
+    pub clearing-none : answer ≡ false
+        → RemovedNode node w false (store (w .counts) (w .nodes) (w .edges) nodes-after (w .live-edges) (w .outgoing) (w .incoming))
+    clearing-none none = record {
+      answers = sym none ∙ cleared .answers;
+      acts = λ q. true-false q refl;
+      keeps = λ _. ap (λ (l : List ℕ). store (w .counts) (w .nodes) (w .edges) l (w .live-edges) (w .outgoing) (w .incoming)) (cleared .keeps none);
+    }
+
+    module _ (found : answer ≡ true) where
+      pub was-live : getD (node-live w) node false ≡ true
+      was-live = sym (cleared .answers) ∙ found
+
+      -- so a live node can be counted off
+      pub node-counted : 0 < w .counts .nodes .live
+      node-counted = some-live node (checked .nodes-live) was-live
+
+      -- and its walks can be cleared, the second after the first
+      pub node-clearable : (d : TraversalDirection) {live-edges : List ℕ} → length live-edges ≡ length (w .live-edges)
+          → Clearable (axis-words d w) (length (w .edges)) (length (w .nodes)) (w .counts) live-edges node
+      node-clearable d long = checked-clearable checked d node (node-below checked node was-live) long
+
+      module _
+          {mid edges-after : List ℕ}
+          {n m : ℕ}
+          (first : Retired (w .counts .edges .bound) (walk-in (w .outgoing) (length (w .edges)) (length (w .nodes)) (w .counts) (w .live-edges) node true) (w .live-edges) mid n)
+          (second : Retired (w .counts .edges .bound) (walk-in (w .incoming) (length (w .edges)) (length (w .nodes)) (w .counts) mid node true) mid edges-after m)
+        where
+          pub both-gone : Retired (w .counts .edges .bound) (incident checked node was-live) (w .live-edges) edges-after (n + m)
+          both-gone = node-retired w node (node-below checked node was-live) {mid = mid} {after = edges-after} {n = n} {m = m} (rw was-live first) (rw was-live second)
+
+          -- as many live edges are counted
+          pub edges-counted : n + m ≤ w .counts .edges .live
+          edges-counted = retired-within (checked .edges-live) both-gone
+
+          -- which is a small number
+          pub edges-few : n + m ≤ LIMIT
+          edges-few =
+              omega (arith, edges-counted, live-within (checked .edges-live), checked .edges .bound-within, checked .axis Outgoing .sized .edges-within)
+
+          pub clearing-live : (long : length nodes-after ≡ length (w .live-nodes))
+              → RemovedNode node w true (without-node checked node was-live cleared long both-gone)
+          clearing-live long = record {
+            answers = sym found ∙ cleared .answers;
+            acts = λ _. cleared-acted checked node was-live cleared long both-gone;
+            keeps = λ q. true-false refl q;
+          }

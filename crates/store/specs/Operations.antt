@@ -1,0 +1,102 @@
+-- What the operations on a checked store ask and promise, of the store at entry, w, and at exit, v. Every operation promises the same: the shape is what the
+-- shape's own step makes of it, the store is checked again, and every slice is as long as it was. That the plain lists are then those of document 01 is
+-- `step-refines` of crate `shape`.
+use Prim.Native.Nat.{ℕ, _+_, _-_, _≤_, _<_}
+use mathlib.Core.Path.{_≡_}
+use mathlib.Core.Bool.{Bool, true, false}
+use mathlib.Core.List.{List}
+use lib.ListN.{length, getD}
+use Rattle.plain.specs.declared.Operation.{Operation}
+use Rattle.plain.specs.declared.Operation.the-variants.{RemoveEdge, RemoveNode}
+use Rattle.plain.specs.declared.Slots.{Slots}
+use Rattle.plain.specs.declared.Counts.{Counts}
+use Rattle.plain.specs.Plain.{Plain}
+use Rattle.plain.specs.Numbers.{LIMIT}
+use Rattle.shape.specs.Shape.{Words, node-live, edge-live, shape-of, plain-of}
+use Rattle.shape.specs.Checked.{Checked}
+use Rattle.shape.specs.Steps.{acted}
+
+-- a store from its counts and its six slices, in parameter order
+abbrev pub store : Counts → List ℕ → List ℕ → List ℕ → List ℕ → List ℕ → List ℕ → Words
+store counts nodes edges live-nodes live-edges outgoing incoming = record {
+  counts = counts;
+  nodes = nodes;
+  edges = edges;
+  live-nodes = live-nodes;
+  live-edges = live-edges;
+  outgoing = outgoing;
+  incoming = incoming;
+}
+
+-- the plain lists of a store
+abbrev pub lists : Words → Plain
+lists w = plain-of (shape-of w)
+
+-- Every slice is as long as it was.
+pub record SameLengths (w v : Words) : Type 0 where
+  pub nodes : length (v .nodes) ≡ length (w .nodes)
+  pub edges : length (v .edges) ≡ length (w .edges)
+  pub live-nodes : length (v .live-nodes) ≡ length (w .live-nodes)
+  pub live-edges : length (v .live-edges) ≡ length (w .live-edges)
+  pub outgoing : length (v .outgoing) ≡ length (w .outgoing)
+  pub incoming : length (v .incoming) ≡ length (w .incoming)
+
+-- The operation was done.
+pub record Acted (operation : Operation) (w v : Words) : Type 0 where
+  pub shape : shape-of v ≡ acted operation (shape-of w)
+  pub checked : Checked v
+  pub lengths : SameLengths w v
+
+-- The operation was done if something live was there, which is the answer; else nothing changed.
+pub record Removing (operation : Operation) (live : Bool) (w : Words) (answer : Bool) (v : Words) : Type 0 where
+  pub answers : answer ≡ live
+  pub acts : answer ≡ true → Acted operation w v
+  pub keeps : answer ≡ false → v ≡ w
+
+-- An edge was removed, if it was live.
+abbrev pub RemovedEdge : ℕ → Words → Bool → Words → Type 0
+RemovedEdge edge w answer v = Removing (RemoveEdge edge) (getD (edge-live w) edge false) w answer v
+
+-- A node was removed, if it was live, and its edges with it.
+abbrev pub RemovedNode : ℕ → Words → Bool → Words → Type 0
+RemovedNode node w answer v = Removing (RemoveNode node) (getD (node-live w) node false) w answer v
+
+-- ---- the counts
+
+-- a live slot more
+abbrev pub one-more : Slots → Slots
+one-more s = record { bound = s .bound + 1; base = s .base; live = s .live + 1 }
+
+-- What it takes to count one more: the counts stay words.
+pub record Raisable (s : Slots) : Type 0 where
+  pub bound-below : s .bound < LIMIT
+  pub live-within : s .live ≤ s .bound
+
+-- n live slots removed
+abbrev pub fewer : ℕ → Slots → Slots
+fewer n s = record { bound = s .bound; base = s .base; live = s .live - n }
+
+abbrev pub with-nodes : Slots → Counts → Counts
+with-nodes s counts = record { nodes = s; edges = counts .edges }
+
+abbrev pub with-edges : Slots → Counts → Counts
+with-edges s counts = record { nodes = counts .nodes; edges = s }
+
+-- ---- what each operation asks
+
+-- What it takes to add a node: a slot below the capacity.
+pub record NodeAddable (w : Words) : Type 0 where
+  pub checked : Checked w
+  pub room : w .counts .nodes .bound < length (w .nodes)
+
+-- What it takes to add an edge: both ends are live, and a slot below the capacity.
+pub record EdgeAddable (w : Words) (source target : ℕ) : Type 0 where
+  pub checked : Checked w
+  pub source-live : getD (node-live w) source false ≡ true
+  pub target-live : getD (node-live w) target false ≡ true
+  pub room : w .counts .edges .bound < length (w .edges)
+
+-- What it takes to set an edge's payload: the slot is below the bound; the edge may be removed.
+pub record PayloadSettable (w : Words) (edge : ℕ) : Type 0 where
+  pub checked : Checked w
+  pub below : edge < w .counts .edges .bound

@@ -1,0 +1,241 @@
+// The store: operations on a checked store, and the reads of a record and a payload. Port of store.rs, edge.rs and view.rs. All functions are internal: they
+// require a checked store, by its name in crate `shape`, and what an operation's refusals leave. What they promise is a record of specs/Operations.antt.
+
+pub mod reads;
+
+use adjacency::clear;
+use adjacency::rings;
+use liveness;
+use plain::Counts;
+use plain::Slots;
+ghost use Prim.Native.Nat.{_≤_};
+ghost use mathlib.Core.Path.{_≡_};
+ghost use Rattle.plain.specs.declared.Operation.the-variants.{AddNode, AddEdge, SetPayload};
+ghost use Rattle.shape.specs.Checked.{Checked};
+ghost use Rattle.store.specs.Operations.{store, Acted, RemovedEdge, RemovedNode, Raisable, one-more as raised, fewer as lowered, NodeAddable, EdgeAddable, PayloadSettable};
+
+// What removing answers: the counts, and whether something live was there.
+pub struct Removal {
+    pub counts: Counts,
+    pub removed: bool,
+}
+
+// The counts of a kind of slot with a live one more.
+fn one_more(slots: Slots) -> Slots
+    requires { ⌜ Raisable slots ⌝ }
+    ensures { λ r. ⌜ r ≡ raised slots ⌝ }
+{
+    Slots {
+        bound: slots.bound + 1,
+        base: slots.base,
+        live: slots.live + 1,
+    }
+}
+
+// The counts of a kind of slot with n live ones less.
+fn fewer(slots: Slots, n: u32) -> Slots
+    requires { ⌜ n ≤ slots .live ⌝ }
+    ensures { λ r. ⌜ r ≡ lowered n slots ⌝ }
+{
+    Slots {
+        bound: slots.bound,
+        base: slots.base,
+        live: slots.live - n,
+    }
+}
+
+// Adds a node: the slot is the bound, which rises by one.
+pub fn add_node(
+    counts: Counts,
+    nodes: &mut [u32],
+    edges: &[u32],
+    live_nodes: &mut [u64],
+    live_edges: &[u64],
+    outgoing: &mut [u32],
+    incoming: &mut [u32],
+    payload: u32,
+) -> Counts
+    requires { ⌜ NodeAddable (store counts (now nodes) (now edges) (now «live_nodes») (now «live_edges») (now outgoing) (now incoming)) ⌝ }
+    ensures { λ r. ⌜ Acted (AddNode payload)
+        (store counts (now (nodes .entry)) (now (edges .entry)) (now («live_nodes» .entry)) (now («live_edges» .entry)) (now (outgoing .entry)) (now (incoming .entry)))
+        (store r (now (nodes .exit)) (now (edges .exit)) (now («live_nodes» .exit)) (now («live_edges» .exit)) (now (outgoing .exit)) (now (incoming .exit))) ⌝ }
+{
+    let slots = counts.nodes;
+    let others = counts.edges;
+    let slot = slots.bound as usize;
+    let capacity = nodes.len();
+    let more = one_more(slots);
+    nodes[slot] = payload;
+    liveness::push_live(live_nodes, slot);
+    rings::open_node(outgoing, edges.len(), capacity, slot);
+    rings::open_node(incoming, edges.len(), capacity, slot);
+    Counts {
+        nodes: more,
+        edges: others,
+    }
+}
+
+// Adds an edge: the slot is the bound, which rises by one; the edge is appended to its source's out-list and its target's in-list.
+pub fn add_edge(
+    counts: Counts,
+    nodes: &[u32],
+    edges: &mut [u32],
+    live_nodes: &[u64],
+    live_edges: &mut [u64],
+    outgoing: &mut [u32],
+    incoming: &mut [u32],
+    source: u32,
+    target: u32,
+    payload: u32,
+) -> Counts
+    requires { ⌜ EdgeAddable (store counts (now nodes) (now edges) (now «live_nodes») (now «live_edges») (now outgoing) (now incoming)) source target ⌝ }
+    ensures { λ r. ⌜ Acted (AddEdge source target payload)
+        (store counts (now (nodes .entry)) (now (edges .entry)) (now («live_nodes» .entry)) (now («live_edges» .entry)) (now (outgoing .entry)) (now (incoming .entry)))
+        (store r (now (nodes .exit)) (now (edges .exit)) (now («live_nodes» .exit)) (now («live_edges» .exit)) (now (outgoing .exit)) (now (incoming .exit))) ⌝ }
+{
+    let others = counts.nodes;
+    let slots = counts.edges;
+    let slot = slots.bound;
+    let at = slot as usize;
+    let bound = others.bound as usize;
+    let base = slots.base as usize;
+    let capacity = edges.len();
+    let more = one_more(slots);
+    edges[at] = payload;
+    liveness::push_live(live_edges, at);
+    rings::append(
+        outgoing,
+        capacity,
+        nodes.len(),
+        bound,
+        base,
+        source as usize,
+        slot,
+    );
+    rings::append(
+        incoming,
+        capacity,
+        nodes.len(),
+        bound,
+        base,
+        target as usize,
+        slot,
+    );
+    Counts {
+        nodes: others,
+        edges: more,
+    }
+}
+
+// Removes an edge, if it is live. No list is edited.
+pub fn remove_edge(
+    counts: Counts,
+    nodes: &[u32],
+    edges: &[u32],
+    live_nodes: &[u64],
+    live_edges: &mut [u64],
+    outgoing: &[u32],
+    incoming: &[u32],
+    edge: u32,
+) -> Removal
+    requires { ⌜ Checked (store counts (now nodes) (now edges) (now «live_nodes») (now «live_edges») (now outgoing) (now incoming)) ⌝ }
+    ensures { λ r. ⌜ RemovedEdge edge
+        (store counts (now (nodes .entry)) (now (edges .entry)) (now («live_nodes» .entry)) (now («live_edges» .entry)) (now (outgoing .entry)) (now (incoming .entry)))
+        (r .removed)
+        (store (r .counts) (now (nodes .exit)) (now (edges .exit)) (now («live_nodes» .exit)) (now («live_edges» .exit)) (now (outgoing .exit)) (now (incoming .exit))) ⌝ }
+{
+    let others = counts.nodes;
+    let slots = counts.edges;
+    let bound = slots.bound as usize;
+    if liveness::clear(live_edges, bound, edge as usize) {
+        let less = fewer(slots, 1);
+        return Removal {
+            counts: Counts {
+                nodes: others,
+                edges: less,
+            },
+            removed: true,
+        };
+    }
+    Removal {
+        counts: counts,
+        removed: false,
+    }
+}
+
+// Removes a node, if it is live, and the edges of both its walks. A self-loop stands in both walks and is counted once, since the first clearing leaves it dead.
+// No list is edited.
+pub fn remove_node(
+    counts: Counts,
+    nodes: &[u32],
+    edges: &[u32],
+    live_nodes: &mut [u64],
+    live_edges: &mut [u64],
+    outgoing: &[u32],
+    incoming: &[u32],
+    node: u32,
+) -> Removal
+    requires { ⌜ Checked (store counts (now nodes) (now edges) (now «live_nodes») (now «live_edges») (now outgoing) (now incoming)) ⌝ }
+    ensures { λ r. ⌜ RemovedNode node
+        (store counts (now (nodes .entry)) (now (edges .entry)) (now («live_nodes» .entry)) (now («live_edges» .entry)) (now (outgoing .entry)) (now (incoming .entry)))
+        (r .removed)
+        (store (r .counts) (now (nodes .exit)) (now (edges .exit)) (now («live_nodes» .exit)) (now («live_edges» .exit)) (now (outgoing .exit)) (now (incoming .exit))) ⌝ }
+{
+    let slots = counts.nodes;
+    let others = counts.edges;
+    let bound = slots.bound as usize;
+    let at = node as usize;
+    if liveness::clear(live_nodes, bound, at) {
+        let out = clear::clear_adjacency(
+            outgoing,
+            edges.len(),
+            nodes.len(),
+            counts,
+            live_edges,
+            at,
+            true,
+        );
+        let back = clear::clear_adjacency(
+            incoming,
+            edges.len(),
+            nodes.len(),
+            counts,
+            live_edges,
+            at,
+            true,
+        );
+        let less = fewer(slots, 1);
+        let rest = fewer(others, out + back);
+        return Removal {
+            counts: Counts {
+                nodes: less,
+                edges: rest,
+            },
+            removed: true,
+        };
+    }
+    Removal {
+        counts: counts,
+        removed: false,
+    }
+}
+
+// Sets the payload of an edge, also of a removed one. The counts stay.
+pub fn set_payload(
+    counts: Counts,
+    nodes: &[u32],
+    edges: &mut [u32],
+    live_nodes: &[u64],
+    live_edges: &[u64],
+    outgoing: &[u32],
+    incoming: &[u32],
+    edge: u32,
+    payload: u32,
+)
+    requires { ⌜ PayloadSettable (store counts (now nodes) (now edges) (now «live_nodes») (now «live_edges») (now outgoing) (now incoming)) edge ⌝ }
+    ensures { λ _. ⌜ Acted (SetPayload edge payload)
+        (store counts (now (nodes .entry)) (now (edges .entry)) (now («live_nodes» .entry)) (now («live_edges» .entry)) (now (outgoing .entry)) (now (incoming .entry)))
+        (store counts (now (nodes .exit)) (now (edges .exit)) (now («live_nodes» .exit)) (now («live_edges» .exit)) (now (outgoing .exit)) (now (incoming .exit))) ⌝ }
+{
+    edges[edge as usize] = payload;
+}

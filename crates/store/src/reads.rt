@@ -1,0 +1,182 @@
+// Reads of a slot: payloads, records and whether it is live. Each answers what its definition says of the store's plain lists (crate `plain`, Reads.antt).
+
+use liveness;
+use plain::Answer;
+use plain::Counts;
+use plain::NONE;
+use plain::Record;
+ghost use mathlib.Core.Path.{_≡_};
+ghost use Rattle.plain.specs.Numbers.{NONE as none};
+ghost use Rattle.plain.specs.Reads.{no-record, node-payload, edge-record, live-edge-record, contains-node, contains-edge, yes-or-no as answer-of};
+ghost use Rattle.shape.specs.Checked.{Checked};
+ghost use Rattle.store.specs.Operations.{store, lists};
+
+// The numbers of document 01's table that these reads answer.
+const OUT_OF_RANGE_NODE: u32 = 5;
+
+const OUT_OF_RANGE_EDGE: u32 = 7;
+
+const REMOVED_EDGE: u32 = 8;
+
+// A yes or no as an answer: 1 or 0.
+fn yes_or_no(test: bool) -> Answer
+    ensures { λ r. ⌜ r ≡ answer-of test ⌝ }
+{
+    if test {
+        return Answer {
+            number: 0,
+            value: 1,
+        };
+    }
+    Answer {
+        number: 0,
+        value: 0,
+    }
+}
+
+// A refused record.
+fn refused(number: u32) -> Record
+    ensures { λ r. ⌜ r ≡ no-record number none ⌝ }
+{
+    Record {
+        number: number,
+        value: NONE as u64,
+        source: 0,
+        target: 0,
+        payload: 0,
+    }
+}
+
+// The payload of a node slot, also of a removed one.
+pub fn node_payload(
+    counts: Counts,
+    nodes: &[u32],
+    edges: &[u32],
+    live_nodes: &[u64],
+    live_edges: &[u64],
+    outgoing: &[u32],
+    incoming: &[u32],
+    node: u32,
+) -> Answer
+    requires { ⌜ Checked (store counts (now nodes) (now edges) (now «live_nodes») (now «live_edges») (now outgoing) (now incoming)) ⌝ }
+    ensures { λ r. ⌜ r ≡ node-payload (lists
+        (store counts (now (nodes .entry)) (now (edges .entry)) (now («live_nodes» .entry)) (now («live_edges» .entry)) (now (outgoing .entry)) (now (incoming .entry)))) node ⌝ }
+{
+    let slots = counts.nodes;
+    let at = node as usize;
+    if node < slots.bound {
+        return Answer {
+            number: 0,
+            value: nodes[at] as u64,
+        };
+    }
+    Answer {
+        number: OUT_OF_RANGE_NODE,
+        value: NONE as u64,
+    }
+}
+
+// The record of an edge slot, also of a removed one: source, target and payload.
+pub fn edge_record(
+    counts: Counts,
+    nodes: &[u32],
+    edges: &[u32],
+    live_nodes: &[u64],
+    live_edges: &[u64],
+    outgoing: &[u32],
+    incoming: &[u32],
+    edge: u32,
+) -> Record
+    requires { ⌜ Checked (store counts (now nodes) (now edges) (now «live_nodes») (now «live_edges») (now outgoing) (now incoming)) ⌝ }
+    ensures { λ r. ⌜ r ≡ edge-record (lists
+        (store counts (now (nodes .entry)) (now (edges .entry)) (now («live_nodes» .entry)) (now («live_edges» .entry)) (now (outgoing .entry)) (now (incoming .entry)))) edge ⌝ }
+{
+    let slots = counts.edges;
+    let at = edge as usize;
+    if edge < slots.bound {
+        return Record {
+            number: 0,
+            value: 0,
+            source: outgoing[at],
+            target: incoming[at],
+            payload: edges[at],
+        };
+    }
+    refused(OUT_OF_RANGE_EDGE)
+}
+
+// The record of a live edge.
+pub fn live_edge_record(
+    counts: Counts,
+    nodes: &[u32],
+    edges: &[u32],
+    live_nodes: &[u64],
+    live_edges: &[u64],
+    outgoing: &[u32],
+    incoming: &[u32],
+    edge: u32,
+) -> Record
+    requires { ⌜ Checked (store counts (now nodes) (now edges) (now «live_nodes») (now «live_edges») (now outgoing) (now incoming)) ⌝ }
+    ensures { λ r. ⌜ r ≡ live-edge-record (lists
+        (store counts (now (nodes .entry)) (now (edges .entry)) (now («live_nodes» .entry)) (now («live_edges» .entry)) (now (outgoing .entry)) (now (incoming .entry)))) edge ⌝ }
+{
+    let slots = counts.edges;
+    let bound = slots.bound as usize;
+    let at = edge as usize;
+    if bound <= at {
+        return refused(OUT_OF_RANGE_EDGE);
+    }
+    if liveness::is_live(live_edges, bound, at) {
+        return edge_record(
+            counts,
+            nodes,
+            edges,
+            live_nodes,
+            live_edges,
+            outgoing,
+            incoming,
+            edge,
+        );
+    }
+    refused(REMOVED_EDGE)
+}
+
+// Whether a node slot is live; one at or above the bound is not.
+pub fn contains_node(
+    counts: Counts,
+    nodes: &[u32],
+    edges: &[u32],
+    live_nodes: &[u64],
+    live_edges: &[u64],
+    outgoing: &[u32],
+    incoming: &[u32],
+    node: u32,
+) -> Answer
+    requires { ⌜ Checked (store counts (now nodes) (now edges) (now «live_nodes») (now «live_edges») (now outgoing) (now incoming)) ⌝ }
+    ensures { λ r. ⌜ r ≡ contains-node (lists
+        (store counts (now (nodes .entry)) (now (edges .entry)) (now («live_nodes» .entry)) (now («live_edges» .entry)) (now (outgoing .entry)) (now (incoming .entry)))) node ⌝ }
+{
+    let slots = counts.nodes;
+    let bound = slots.bound as usize;
+    yes_or_no(liveness::is_live(live_nodes, bound, node as usize))
+}
+
+// Whether an edge slot is live; one at or above the bound is not.
+pub fn contains_edge(
+    counts: Counts,
+    nodes: &[u32],
+    edges: &[u32],
+    live_nodes: &[u64],
+    live_edges: &[u64],
+    outgoing: &[u32],
+    incoming: &[u32],
+    edge: u32,
+) -> Answer
+    requires { ⌜ Checked (store counts (now nodes) (now edges) (now «live_nodes») (now «live_edges») (now outgoing) (now incoming)) ⌝ }
+    ensures { λ r. ⌜ r ≡ contains-edge (lists
+        (store counts (now (nodes .entry)) (now (edges .entry)) (now («live_nodes» .entry)) (now («live_edges» .entry)) (now (outgoing .entry)) (now (incoming .entry)))) edge ⌝ }
+{
+    let slots = counts.edges;
+    let bound = slots.bound as usize;
+    yes_or_no(liveness::is_live(live_edges, bound, edge as usize))
+}

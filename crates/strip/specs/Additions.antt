@@ -1,0 +1,92 @@
+-- The ways that additions, removals and a new payload end, each by what the program has tested.
+use Prim.Native.Nat.{ℕ, _≤_, _<_}
+use mathlib.Core.Path.{_≡_, refl, sym, subst, _∙_}
+use mathlib.Core.Bool.{Bool, true, false}
+use lib.ListN.{length, getD}
+use Rattle.plain.specs.declared.Operation.the-variants.{AddNode, AddEdge, RemoveEdge, RemoveNode, SetPayload}
+use Rattle.plain.specs.declared.Slots.{Slots}
+use Rattle.plain.specs.declared.Counts.{Counts}
+use Rattle.plain.specs.Numbers.{NONE}
+use Rattle.plain.specs.Laws.Cases.{add-node-full, add-node, add-edge-source-absent, add-edge-source-removed, add-edge-target-absent, add-edge-target-removed, add-edge-full, add-edge, remove-edge-absent, remove-edge-removed, remove-edge, remove-node-absent, remove-node-removed, remove-node, set-payload-absent, set-payload}
+use Rattle.plain.specs.Laws.Booleans.{by-test, below-or-not}
+use mathlib.Core.Logic.{⊎-elim}
+use Rattle.shape.specs.Shape.{Words, node-live, edge-live}
+use Rattle.shape.specs.Checked.{Checked}
+use Rattle.store.specs.Operations.{Acted, RemovedEdge, RemovedNode}
+use Rattle.strip.specs.Faults.{fault-of, by-fault}
+use Rattle.strip.specs.Step.{StepOf, absent-node, live-node, removed-node, absent-edge, live-edge, removed-edge, node-bound-of, edge-bound-of, stays, done}
+
+module _ {w : Words} (c : Checked w) where
+  -- ---- add node
+
+  pub node-full : (v : ℕ) → length (w .nodes) ≤ w .counts .nodes .bound → StepOf (AddNode v) w w 10 NONE
+  node-full v h = stays c (add-node-full (rw (node-bound-of w) h)) refl
+
+  pub node-added : {v : Words} (payload : ℕ) → w .counts .nodes .bound < length (w .nodes) → Acted (AddNode payload) w v
+      → StepOf (AddNode payload) w v 0 (w .counts .nodes .bound)
+  node-added {v} payload room a =
+      subst (λ (n : ℕ). StepOf (AddNode payload) w v 0 n) (node-bound-of w) (done (add-node (rw (node-bound-of w) room)) refl refl a)
+
+  -- ---- add edge
+
+  module _ (source target payload : ℕ) where
+    pub source-absent : w .counts .nodes .bound ≤ source → StepOf (AddEdge source target payload) w w 5 NONE
+    source-absent h = stays c (add-edge-source-absent (absent-node w source h)) refl
+
+    pub source-removed : source < w .counts .nodes .bound → getD (node-live w) source false ≡ false → StepOf (AddEdge source target payload) w w 6 NONE
+    source-removed l h = stays c (add-edge-source-removed (removed-node w source l h)) refl
+
+    pub target-absent : getD (node-live w) source false ≡ true → w .counts .nodes .bound ≤ target → StepOf (AddEdge source target payload) w w 5 NONE
+    target-absent s h = stays c (add-edge-target-absent (live-node w source s) (absent-node w target h)) refl
+
+    pub target-removed : getD (node-live w) source false ≡ true → target < w .counts .nodes .bound → getD (node-live w) target false ≡ false
+        → StepOf (AddEdge source target payload) w w 6 NONE
+    target-removed s l h = stays c (add-edge-target-removed (live-node w source s) (removed-node w target l h)) refl
+
+    pub source-fault : let number = fault-of (node-live w) (w .counts .nodes .bound) source 5 6 in (number ≡ 0 → ⊥) → StepOf (AddEdge source target payload) w w number NONE
+    source-fault = by-fault (node-live w) (w .counts .nodes .bound) source 5 6 (λ n. StepOf (AddEdge source target payload) w w n NONE) source-absent source-removed
+
+    pub target-fault : getD (node-live w) source false ≡ true
+        → let number = fault-of (node-live w) (w .counts .nodes .bound) target 5 6 in (number ≡ 0 → ⊥) → StepOf (AddEdge source target payload) w w number NONE
+    target-fault s =
+        by-fault (node-live w) (w .counts .nodes .bound) target 5 6 (λ n. StepOf (AddEdge source target payload) w w n NONE) (target-absent s) (target-removed s)
+
+    pub edge-full : getD (node-live w) source false ≡ true → getD (node-live w) target false ≡ true → length (w .edges) ≤ w .counts .edges .bound
+        → StepOf (AddEdge source target payload) w w 10 NONE
+    edge-full s t h = stays c (add-edge-full (live-node w source s) (live-node w target t) (rw (edge-bound-of w) h)) refl
+
+    pub edge-added : {v : Words} → getD (node-live w) source false ≡ true → getD (node-live w) target false ≡ true → w .counts .edges .bound < length (w .edges)
+        → Acted (AddEdge source target payload) w v → StepOf (AddEdge source target payload) w v 0 (w .counts .edges .bound)
+    edge-added {v} s t room a =
+        subst (λ (n : ℕ). StepOf (AddEdge source target payload) w v 0 n) (edge-bound-of w)
+        (done (add-edge (live-node w source s) (live-node w target t) (rw (edge-bound-of w) room)) refl refl a)
+
+  -- ---- removals: 1, or 0 where nothing live was there
+
+  pub node-removed : {v : Words} {answer : Bool} (x : ℕ) → answer ≡ true → RemovedNode x w answer v → StepOf (RemoveNode x) w v 0 1
+  node-removed x was r = done (remove-node (live-node w x (sym (r .answers) ∙ was))) refl refl (r .acts was)
+
+  pub no-node-removed : {v : Words} {answer : Bool} (x : ℕ) → answer ≡ false → RemovedNode x w answer v → StepOf (RemoveNode x) w v 0 0
+  no-node-removed {v} x was-not r =
+      let dead = sym (r .answers) ∙ was-not in
+      subst (λ (u : Words). StepOf (RemoveNode x) w u 0 0) (sym (r .keeps was-not))
+      (⊎-elim (λ l. stays c (remove-node-removed (removed-node w x l dead)) refl) (λ l. stays c (remove-node-absent (absent-node w x l)) refl)
+      (below-or-not x (w .counts .nodes .bound)))
+
+  pub edge-removed : {v : Words} {answer : Bool} (e : ℕ) → answer ≡ true → RemovedEdge e w answer v → StepOf (RemoveEdge e) w v 0 1
+  edge-removed e was r = done (remove-edge (live-edge w e (sym (r .answers) ∙ was))) refl refl (r .acts was)
+
+  pub no-edge-removed : {v : Words} {answer : Bool} (e : ℕ) → answer ≡ false → RemovedEdge e w answer v → StepOf (RemoveEdge e) w v 0 0
+  no-edge-removed {v} e was-not r =
+      let dead = sym (r .answers) ∙ was-not in
+      subst (λ (u : Words). StepOf (RemoveEdge e) w u 0 0) (sym (r .keeps was-not))
+      (⊎-elim (λ l. stays c (remove-edge-removed (removed-edge w e l dead)) refl) (λ l. stays c (remove-edge-absent (absent-edge w e l)) refl)
+      (below-or-not e (w .counts .edges .bound)))
+
+  -- ---- set payload, of removed edges too
+
+  pub payload-absent : (e v : ℕ) → w .counts .edges .bound ≤ e → StepOf (SetPayload e v) w w 7 NONE
+  payload-absent e v h = stays c (set-payload-absent (absent-edge w e h)) refl
+
+  pub payload-set : {u : Words} (e v : ℕ) → e < w .counts .edges .bound → Acted (SetPayload e v) w u → StepOf (SetPayload e v) w u 0 0
+  payload-set e v l a = done (set-payload (rw (edge-bound-of w) l)) refl refl a

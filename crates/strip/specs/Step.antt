@@ -1,0 +1,110 @@
+-- What one operation of a strip comes to on a checked store: number and value of document 01's table, the shape's own step, the store checked again; a refused
+-- operation leaves every word. The laws say it case by case.
+use Prim.Native.Nat.{ℕ, _≤_, _<_}
+use mathlib.Core.Path.{_≡_, refl, sym, ap, subst, _∙_}
+use mathlib.Core.Bool.{Bool, true, false, cond}
+use mathlib.Core.List.{List}
+use native.Mathlib.Omega.{arith}
+use lib.ListN.{length, getD}
+use lib.Dec.{eqb}
+use Rattle.plain.specs.declared.Operation.{Operation}
+use Rattle.plain.specs.declared.Slots.{Slots}
+use Rattle.plain.specs.declared.Counts.{Counts}
+use Rattle.plain.specs.Numbers.{NONE}
+use Rattle.plain.specs.Plain.{Plain, node-flags, edge-flags, node-bound, edge-bound}
+use Rattle.plain.specs.Step.{Capacities, Outcome, refused, unchanged, step}
+use Rattle.plain.specs.Laws.Cases.{Absent, Removed, Live, Case, comes-to}
+use Rattle.liveness.specs.FlagLaws.{length-flags}
+use Rattle.shape.specs.Shape.{Words, capacities, node-live, edge-live, shape-of, plain-of, node-flags-of, edge-flags-of}
+use Rattle.shape.specs.Checked.{Checked}
+use Rattle.shape.specs.Steps.{acted, acts, shape-step}
+use Rattle.shape.specs.Laws.Reading.{node-flags-are, edge-flags-are, node-bound-is, edge-bound-is}
+use Rattle.store.specs.Operations.{Acted, SameLengths}
+
+-- the plain lists of a store
+abbrev pub lists : Words → Plain
+lists w = plain-of (shape-of w)
+
+-- what document 01 says of an operation on a store
+abbrev pub outcome : Words → Operation → Outcome
+outcome w operation = step (capacities w) (lists w) operation
+
+pub record StepOf (operation : Operation) (w v : Words) (number value : ℕ) : Type 0 where
+  pub numbered : number ≡ outcome w operation .number
+  pub valued : value ≡ outcome w operation .value
+  -- run contents and compactness are fixed, not only the lists
+  pub shaped : shape-of v ≡ shape-step (capacities w) (shape-of w) operation
+  pub checked : Checked v
+  pub lengths : SameLengths w v
+  -- "A refused operation changes nothing": not a word
+  pub refused-keeps : (number ≡ 0 → ⊥) → v ≡ w
+
+-- ---- what the words tell of the plain lists
+
+module _ (w : Words) (x : ℕ) where
+  pub absent-node : w .counts .nodes .bound ≤ x → Absent (node-flags (lists w)) x
+  unfolding plain-of
+  absent-node h = rw (node-flags-are w, length-flags (w .live-nodes) (w .counts .nodes .bound)) h
+
+  pub live-node : getD (node-live w) x false ≡ true → Live (node-flags (lists w)) x
+  unfolding plain-of
+  live-node h = rw (node-flags-are w) h
+
+  pub removed-node : x < w .counts .nodes .bound → getD (node-live w) x false ≡ false → Removed (node-flags (lists w)) x
+  unfolding plain-of
+  removed-node l h = record { below = rw (node-flags-are w, length-flags (w .live-nodes) (w .counts .nodes .bound)) l; dead = rw (node-flags-are w) h }
+
+  pub absent-edge : w .counts .edges .bound ≤ x → Absent (edge-flags (lists w)) x
+  unfolding plain-of
+  absent-edge h = rw (edge-flags-are w, length-flags (w .live-edges) (w .counts .edges .bound)) h
+
+  pub live-edge : getD (edge-live w) x false ≡ true → Live (edge-flags (lists w)) x
+  unfolding plain-of
+  live-edge h = rw (edge-flags-are w) h
+
+  pub removed-edge : x < w .counts .edges .bound → getD (edge-live w) x false ≡ false → Removed (edge-flags (lists w)) x
+  unfolding plain-of
+  removed-edge l h = record { below = rw (edge-flags-are w, length-flags (w .live-edges) (w .counts .edges .bound)) l; dead = rw (edge-flags-are w) h }
+
+pub node-bound-of : (w : Words) → node-bound (lists w) ≡ w .counts .nodes .bound
+unfolding plain-of
+node-bound-of w = node-bound-is w
+
+pub edge-bound-of : (w : Words) → edge-bound (lists w) ≡ w .counts .edges .bound
+unfolding plain-of
+edge-bound-of w = edge-bound-is w
+
+-- ---- the two ways an operation ends
+
+same-lengths : (w : Words) → SameLengths w w
+same-lengths w = record { nodes = refl; edges = refl; live-nodes = refl; live-edges = refl; outgoing = refl; incoming = refl }
+
+-- it is refused, or done with nothing to change: every word stays
+pub stays : {operation : Operation} {w : Words} {o : Outcome} → Checked w → Case (capacities w) (lists w) operation o → acts operation o ≡ false
+    → StepOf operation w w (o .number) (o .value)
+unfolding shape-step
+stays {operation} {w} c case idle =
+    let same = comes-to case in
+    record {
+      numbered = ap (λ (o : Outcome). o .number) (sym same);
+      valued = ap (λ (o : Outcome). o .value) (sym same);
+      shaped = sym (ap (λ (b : Bool). cond b (acted operation (shape-of w)) (shape-of w)) (ap (acts operation) same ∙ idle));
+      checked = c;
+      lengths = same-lengths w;
+      refused-keeps = λ h. refl;
+    }
+
+-- it is done and changes the store
+pub done : {operation : Operation} {w v : Words} {o : Outcome} → Case (capacities w) (lists w) operation o → acts operation o ≡ true → o .number ≡ 0
+    → Acted operation w v → StepOf operation w v (o .number) (o .value)
+unfolding shape-step
+done {operation} {w} case busy zero a =
+    let same = comes-to case in
+    record {
+      numbered = ap (λ (o : Outcome). o .number) (sym same);
+      valued = ap (λ (o : Outcome). o .value) (sym same);
+      shaped = a .shape ∙ sym (ap (λ (b : Bool). cond b (acted operation (shape-of w)) (shape-of w)) (ap (acts operation) same ∙ busy));
+      checked = a .checked;
+      lengths = a .lengths;
+      refused-keeps = λ h. absurd (h zero);
+    }
