@@ -6,3 +6,4 @@ pub mod Fresh
 pub mod Following
 pub mod Running
 pub mod Walking
+pub mod Deciding

@@ -14,17 +14,10 @@ use Rattle.plain.specs.Laws.ListLaws.{all-of, all-member}
 use Rattle.liveness.specs.Flags.{live-flags}
 use Rattle.liveness.specs.FlagLaws.{flag-at}
 use Rattle.shape.specs.Columns.{end-at}
-use Rattle.shape.specs.Laws.Checking.{all-below, below-all}
 use Rattle.adjacency.specs.Walk.{walk-in}
-use Rattle.validate.specs.Passing.{rest, rest-first, rest-more, rest-fails, rest-none}
+use Rattle.validate.specs.Passing.{slots-agree, rest, rest-first, rest-more, rest-fails, rest-none}
 use Rattle.validate.specs.Marks.{marked, fresh, passes, Followed}
 use Rattle.validate.specs.Walks.{marked-if-live, node-walk, walk-test, listed-test, walks-test}
-
--- tests that agree on all slots
-all-agree : (f g : ℕ → Bool) (n : ℕ) → ((e : ℕ) → e < n → f e ≡ g e) → all f (from 0 n) ≡ all g (from 0 n)
-all-agree f g n same =
-    same-truth (all f (from 0 n)) (all g (from 0 n)) (λ h. below-all g n (λ e l. sym (same e l) ∙ all-below f n h e l))
-    (λ h. below-all f n (λ e l. same e l ∙ all-below g n h e l))
 
 module _ (ws : List ℕ) (ce cn : ℕ) (counts : Counts) (live-nodes live-edges : List ℕ) where
   abbrev walk : ℕ → List ℕ
@@ -130,7 +123,7 @@ module _ (ws : List ℕ) (ce cn : ℕ) (counts : Counts) (live-nodes live-edges 
     walking-done l below =
         let eb = counts .edges .bound in
         rw (w .answers ∙ rest-none test x (counts .nodes .bound) l)
-        (all-agree (marked-if-live (live-flags live-edges eb) (live-flags seen eb)) (listed-test ws ce cn counts live-nodes live-edges) eb
+        (slots-agree (marked-if-live (live-flags live-edges eb) (live-flags seen eb)) (listed-test ws ce cn counts live-nodes live-edges) eb
         (λ e k. let b = below e k in
         ap (λ (m : Bool). not (getD (live-flags live-edges eb) e false) || m)
         (flag-at seen eb e k ∙ w .marks e ∙ rw (lt-ltb (end-at ws e) x (omega arith)) (sym (dead-walk (end-at ws e) e)))))

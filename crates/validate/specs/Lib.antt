@@ -4,3 +4,4 @@ pub mod Rings
 pub mod Marks
 pub mod Runs
 pub mod Walks
+pub mod Broken

@@ -4,8 +4,11 @@ use mathlib.Core.Path.{_≡_, refl, sym, ap, _∙_}
 use mathlib.Core.Bool.{Bool, true, false, _&&_, not}
 use mathlib.Core.List.{List, _∷_, []}
 use native.Mathlib.Omega.{arith}
-use borrow.Author.Tests.{not-true, not-false}
-use Rattle.plain.specs.Lists.{all, from}
+use lib.Dec.{ltb}
+use borrow.Author.Tests.{not-true, not-false, ltb-true}
+use Rattle.plain.specs.Lists.{member, all, from}
+use Rattle.plain.specs.Laws.Booleans.{same-truth}
+use Rattle.plain.specs.Laws.ListLaws.{all-of, all-member, member-below}
 
 -- a test passed: what follows decides
 pub passed : {a b r : Bool} → a ≡ true → r ≡ b → r ≡ (a && b)
@@ -58,3 +61,12 @@ module _ (test : ℕ → Bool) where
   pub rest-none : (i n : ℕ) → n ≤ i → rest i n ≡ true
   unfolding all
   rest-none i n l = rw (slots-none i n l)
+
+-- tests that agree on the entries of a list, and on all slots
+module _ (f g : ℕ → Bool) where
+  pub entries-agree : (l : List ℕ) → ((e : ℕ) → member e l ≡ true → f e ≡ g e) → all f l ≡ all g l
+  entries-agree l same =
+      same-truth (all f l) (all g l) (λ h. all-of g l (λ e m. sym (same e m) ∙ all-member f l h e m)) (λ h. all-of f l (λ e m. same e m ∙ all-member g l h e m))
+
+  pub slots-agree : (n : ℕ) → ((e : ℕ) → e < n → f e ≡ g e) → all f (from 0 n) ≡ all g (from 0 n)
+  slots-agree n same = entries-agree (from 0 n) (λ e m. same e (ltb-true e n (sym (member-below e n) ∙ m)))

@@ -7,7 +7,8 @@ use borrow.Author.Needs.{needs}
 use borrow.Author.Tests.{le-leb, lt-leb}
 use Rattle.plain.specs.Numbers.{LIMIT}
 use Rattle.shape.specs.Rules.{slots-right}
-use Rattle.validate.specs.Sizes.{sizes-test, slots-sized}
+use Rattle.shape.specs.Laws.Judging.{slots-sound}
+use Rattle.validate.specs.Sizes.{sizes-test}
 use Rattle.validate.specs.Passing.{passed}
 use Rattle.validate.proofs.counts.sizes_right.Statement.{statement}
 use Rattle.validate.proofs.counts.sizes_right.Tie as tie
@@ -26,7 +27,7 @@ edges-right c = sym (c .before .slots-right2 .ensures) ∙ c .if2 .taken
 within : (c : tie.Then2) → let a = c .before .before .before .before .before .before .args in (a .nodes ≤ LIMIT) × (a .edges ≤ LIMIT)
 within c =
     let a = c .before .before .before .before .before .before .args in
-    (slots-sized _ _ (a .counts .nodes) (nodes-right (c .before .before)) .within, slots-sized _ _ (a .counts .edges) (edges-right c) .within)
+    (slots-sound _ _ (a .counts .nodes) (nodes-right (c .before .before)) .within, slots-sound _ _ (a .counts .edges) (edges-right c) .within)
 
 returns : tie.Need-returns
 unfolding sizes-test
