@@ -125,7 +125,7 @@ node-retired w x node first second =
     (adjacency-in (w .incoming) (length (w .edges)) (length (w .nodes)) (w .counts) x) first second)
 
 -- an entry of a node's run is an entry of its adjacency
-pub run-raw : (ws : List ℕ) (ce cn : ℕ) (counts : Counts) (x e : ℕ) → In e (run-list ws ce cn x) → In e (raw (adjacency-in ws ce cn counts x))
+run-raw : (ws : List ℕ) (ce cn : ℕ) (counts : Counts) (x e : ℕ) → In e (run-list ws ce cn x) → In e (raw (adjacency-in ws ce cn counts x))
 unfolding run-list run-of
 run-raw ws ce cn counts x e m =
     by-test (eqb (mark-at ws ce cn x) 0) (λ q. in-none e (rw q at m))

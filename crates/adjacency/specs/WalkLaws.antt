@@ -235,7 +235,7 @@ module _ {ws : List ℕ} {ce cn : ℕ} {counts : Counts} {x : ℕ} {live : Bool}
   started-seekable are-entries is-next long = rw (are-entries, is-next) (record { ready = t .ready; live-long = long })
 
 -- all flags are set where as many are as there are
-pub flag-set : (flags : List Bool) (i : ℕ) → live-count flags ≡ length flags → i < length flags → live-in flags i ≡ true
+flag-set : (flags : List Bool) (i : ℕ) → live-count flags ≡ length flags → i < length flags → live-in flags i ≡ true
 unfolding count
 flag-set [] i full h = absurd (not-suc-le-zero h)
 flag-set (true ∷ flags) zero full h = refl

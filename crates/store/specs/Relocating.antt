@@ -12,125 +12,45 @@ use Rattle.plain.specs.declared.TraversalDirection.{TraversalDirection}
 use Rattle.plain.specs.declared.TraversalDirection.the-variants.{Outgoing, Incoming}
 use Rattle.plain.specs.declared.Operation.{Operation}
 use Rattle.plain.specs.declared.Operation.the-variants.{Redirect, Move}
-use Rattle.plain.specs.Lists.{distinct}
-use Rattle.plain.specs.Plain.{edge-flags, list-of, end-of}
+use Rattle.plain.specs.Plain.{list-of, end-of}
 use Rattle.plain.specs.Step.{Outcome, step}
-use Rattle.plain.specs.Laws.Booleans.{by-test, true-false, and-right}
+use Rattle.plain.specs.Laws.Booleans.{by-test, true-false}
 use Rattle.plain.specs.Laws.Cases.{comes-to, redirect, move}
-use Rattle.plain.specs.Laws.ListLaws.{member-keep}
-use Rattle.plain.specs.Laws.Operating.{incident}
 use Rattle.plain.specs.Laws.Rank.{live-below}
 use Rattle.plain.specs.Laws.Stepping.{Fitting}
 use Rattle.liveness.specs.FlagLaws.{length-flags}
 use Rattle.shape.specs.Columns.{end-at}
-use Rattle.shape.specs.Chains.{In}
 use Rattle.shape.specs.Shape.{Words, Axis, capacities, node-live, edge-live, axis-words, axis-of, axis-in, edge-flags-of, live-in, raw, walk-of, adjacency-in, shape-of, plain-of}
 use Rattle.shape.specs.Checked.{AxisChecked, Checked}
 use Rattle.shape.specs.Steps.{live-entries, acted, acts, with-axis, redirected-axis, moved-axis}
 use Rattle.shape.specs.Laws.Reading.{node-bound-is, node-flags-are, edge-flags-are, plain-end}
 use Rattle.shape.specs.Laws.Taking.{live-taken}
 use Rattle.adjacency.specs.Walk.{tombstoned-in}
-use Rattle.adjacency.specs.WalkLaws.{flag-set}
 use Rattle.adjacency.specs.StoreWalks.{list-is-walk}
-use Rattle.adjacency.specs.StoreClears.{run-raw}
-use Rattle.relocate.specs.Redirects.{Relocatable, Placed, Redirectable, Redirected}
+use Rattle.relocate.specs.Redirects.{Redirectable, Redirected}
+use Rattle.relocate.specs.Redirects.Laws.{alive-below}
 use Rattle.relocate.specs.Moves.{Movable, Moved}
+use Rattle.relocate.specs.Stores.{checked-redirectable, checked-movable, checked-end, checked-all-live}
 use Rattle.store.specs.Operations.{lists, SameLengths, Acted, RedirectedEdge, MovedEdges, EdgeRedirectable, EdgesMovable}
 use Rattle.store.specs.Acting.{shape-ext, acted-walks}
 
 -- ---- what crate `relocate` asks
 
-module _ {w : Words} (k : Checked w) where
-  edge-below : (e : ℕ) → getD (edge-live w) e false ≡ true → e < w .counts .edges .bound
-  edge-below e alive = rw (← length-flags (w .live-edges) (w .counts .edges .bound)) (live-below (edge-live w) e alive)
-
-  node-below : (x : ℕ) → getD (node-live w) x false ≡ true → x < w .counts .nodes .bound
-  node-below x on = rw (← length-flags (w .live-nodes) (w .counts .nodes .bound)) (live-below (node-live w) x on)
-
-  -- where no edge is removed, all are live
-  pub all-live : tombstoned-in (w .counts) ≡ false → (e : ℕ) → e < w .counts .edges .bound → live-in (edge-live w) e ≡ true
-  all-live none e l =
-      by-test (eqb (w .counts .edges .live) (w .counts .edges .bound))
-      (λ q. flag-set (edge-live w) e
-      (sym (k .edges-live .live-right) ∙ eqb-true (w .counts .edges .live) (w .counts .edges .bound) q ∙ sym (length-flags (w .live-edges) (w .counts .edges .bound)))
-      (rw (length-flags (w .live-edges) (w .counts .edges .bound)) l))
-      (λ q. true-false (ap not q) none)
-
-  module _ (d : TraversalDirection) where
-    -- the end of a live edge is live
-    pub end-live : (e : ℕ) → getD (edge-live w) e false ≡ true → getD (node-live w) (end-at (axis-words d w) e) false ≡ true
-    unfolding plain-of
-    end-live e alive =
-        rw (← plain-end w d e (edge-below e alive), ← node-flags-are w) (k .walks .ends-live d e (rw (edge-flags-are w) alive))
-
-    -- a live edge in a live node's adjacency ends at the node
-    raw-ends : (x e : ℕ) → getD (node-live w) x false ≡ true → getD (edge-live w) e false ≡ true
-        → In e (raw (adjacency-in (axis-words d w) (length (w .edges)) (length (w .nodes)) (w .counts) x)) → end-at (axis-words d w) e ≡ x
-    raw-ends x e on alive m =
-        let p = lists w in
-        let adjacency = adjacency-in (axis-words d w) (length (w .edges)) (length (w .nodes)) (w .counts) x in
-        let listed : In e (list-of d p x) = rw (list-is-walk w d x (node-below x on), on) (member-keep (live-in (edge-live w)) e (raw adjacency) ∙ rw (m, alive)) in
-        sym (plain-end w d e (edge-below e alive))
-        ∙ eqb-true (end-of d p e) x
-        (and-right (getD (edge-flags p) e false) (eqb (end-of d p e) x) (sym (incident (k .walks) d .listed x e) ∙ listed))
-
-    -- the axis can be relocated
-    pub relocatable : Relocatable (axis-words d w) (length (w .edges)) (length (w .nodes)) (w .counts) (w .live-edges)
-    relocatable =
-        let axis = k .axis d in
-        let long = k .live-edges-long in
-        let bounded = k .edges in
-        record {
-          linked = record {
-            sized = axis .sized;
-            index = axis .index;
-            rings = axis .rings;
-            runs = axis .runs;
-            nodes-within = k .nodes .bound-within;
-            edges-within = k .edges .bound-within;
-            nodes-based = k .nodes .base-within;
-            edges-based = k .edges .base-within;
-          };
-          live-long = omega arith;
-          run-ends = λ x e l alive m. by-test (getD (node-live w) x false)
-          (λ on. raw-ends x e on alive (run-raw (axis-words d w) (length (w .edges)) (length (w .nodes)) (w .counts) x e m))
-          (λ off. true-false alive (axis .removed-runs x e l off m));
-        }
-
-    -- and a live node stands as rule 7 asks
-    pub placed : (x : ℕ) → getD (node-live w) x false ≡ true → Placed (axis-words d w) (length (w .edges)) (length (w .nodes)) (w .counts) (w .live-edges) x
-    placed x on =
-        let adjacency = adjacency-in (axis-words d w) (length (w .edges)) (length (w .nodes)) (w .counts) x in
-        record {
-          below = node-below x on;
-          own = λ e alive m. raw-ends x e on alive m;
-          once = ap distinct (sym (list-is-walk w d x (node-below x on) ∙ ap (λ (b : Bool). walk-of (edge-live w) b adjacency) on)) ∙ incident (k .walks) d .once x;
-        }
+-- where no edge is counted as removed, all are live
+all-live : {w : Words} → Checked w → TraversalDirection → tombstoned-in (w .counts) ≡ false → (e : ℕ) → e < w .counts .edges .bound → live-in (edge-live w) e ≡ true
+all-live {w} k d none =
+    by-test (eqb (w .counts .edges .live) (w .counts .edges .bound))
+    (λ q. checked-all-live k d (eqb-true (w .counts .edges .live) (w .counts .edges .bound) q)) (λ q. true-false (ap not q) none)
 
 pub redirectable : {w : Words} {edge new : ℕ} → EdgeRedirectable w edge new → (d : TraversalDirection)
     → Redirectable (axis-words d w) (length (w .edges)) (length (w .nodes)) (w .counts) (w .live-edges) (tombstoned-in (w .counts)) edge new
 redirectable {w} {edge} {new} pre d =
-    let k = pre .checked in
-    record {
-      axis = relocatable k d;
-      old-placed = placed k d (end-at (axis-words d w) edge) (end-live k d edge (pre .alive));
-      new-placed = placed k d new (pre .new-live);
-      edge-below = edge-below k edge (pre .alive);
-      edge-live = pre .alive;
-      all-live = all-live k;
-    }
+    checked-redirectable (pre .checked) d (tombstoned-in (w .counts)) (all-live (pre .checked) d) edge new (pre .alive) (pre .new-live)
 
 pub movable : {d : TraversalDirection} {w : Words} {old new : ℕ} → EdgesMovable d w old new
     → Movable (axis-words d w) (length (w .edges)) (length (w .nodes)) (w .counts) (w .live-edges) (tombstoned-in (w .counts)) old new
 movable {d} {w} {old} {new} pre =
-    let k = pre .checked in
-    record {
-      axis = relocatable k d;
-      old-placed = placed k d old (pre .old-live);
-      new-placed = placed k d new (pre .new-live);
-      apart = pre .apart;
-      all-live = all-live k;
-    }
+    checked-movable (pre .checked) d (tombstoned-in (w .counts)) (all-live (pre .checked) d) old new (pre .apart) (pre .old-live) (pre .new-live)
 
 -- once the direction is told
 pub told-movable : {d told : TraversalDirection} {w : Words} {old new : ℕ} → d ≡ told → EdgesMovable d w old new → EdgesMovable told w old new
@@ -233,10 +153,10 @@ redirecting {w} {edge} {new} pre d vs done long =
     record {
       previous = done .previous;
       acts = λ other. let moved : end-at (axis-words d w) edge ≢ new = λ q. other (done .previous ∙ q) in
-      let away : end-of d (lists w) edge ≢ new = λ q. moved (sym (plain-end w d edge (edge-below k edge (pre .alive))) ∙ q) in
+      let away : end-of d (lists w) edge ≢ new = λ q. moved (sym (plain-end w d edge (alive-below (w .live-edges) (w .counts) edge (pre .alive))) ∙ q) in
       relocated-acted k d vs (Redirect d edge new) (comes-to (redirect (rw (edge-flags-are w) (pre .alive)) (rw (node-flags-are w) (pre .new-live)) away))
       (rw (ne-eqb (end-of d (lists w) edge) new away)) tt long (axis-shape w d vs (λ f a. redirected-axis f edge new a) (done .changed moved))
-      (done .checked (node-live w) (end-live k d edge (pre .alive)) (pre .new-live) (k .axis d));
+      (done .checked (node-live w) (checked-end k d edge (pre .alive)) (pre .new-live) (k .axis d));
       keeps = λ same. same-words w d vs (done .unchanged (sym (done .previous) ∙ same));
     }
 
@@ -253,7 +173,7 @@ unfolding acted plain-of
 moving {w} {old} {new} d pre vs done long =
     let k = pre .checked in
     let adjacency = adjacency-in (axis-words d w) (length (w .edges)) (length (w .nodes)) (w .counts) old in
-    let below = node-below k old (pre .old-live) in
+    let below : old < w .counts .nodes .bound = rw (← length-flags (w .live-nodes) (w .counts .nodes .bound)) (live-below (node-live w) old (pre .old-live)) in
     let walked : list-of d (lists w) old ≡ live-entries (edge-live w) (raw adjacency) =
     list-is-walk w d old below ∙ ap (λ (b : Bool). walk-of (edge-live w) b adjacency) (pre .old-live) in
     record {

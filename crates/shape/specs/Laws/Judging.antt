@@ -18,7 +18,7 @@ use Rattle.plain.specs.Memory.{live-words}
 use Rattle.plain.specs.Laws.Booleans.{and-left, and-right, both-true, true-false}
 use Rattle.plain.specs.Laws.ListLaws.{member-keep, getD-map-each}
 use Rattle.liveness.specs.Flags.{packed}
-use Rattle.shape.specs.Columns.{end-at}
+use Rattle.shape.specs.Columns.{Sized, end-at}
 use Rattle.shape.specs.Chains.{In}
 use Rattle.shape.specs.Shape.{Words, Axis, node-live, edge-live, axis-words, raw, live-in, adjacency-of, node-flags-of, edge-flags-of, shape-of, plain-of}
 use Rattle.shape.specs.Checked.{Bounded, LiveRight, AxisChecked, Checked}
@@ -32,14 +32,18 @@ pub record Payloads (w : Words) : Type 0 where
   pub nodes : (x : ℕ) → getD (w .nodes) x 0 < 2 ^ 32
   pub edges : (e : ℕ) → getD (w .edges) e 0 < 2 ^ 32
 
--- every rule holds
-pub record Passes (w : Words) : Type 0 where
+-- every rule before the last holds: reads stay inside the words, and walks end
+pub record Structured (w : Words) : Type 0 where
   pub r1 : rule-1 w ≡ true
   pub r2 : rule-2 w ≡ true
   pub r3 : rule-3 w ≡ true
   pub r4 : rule-4 w ≡ true
   pub r5 : rule-5 w ≡ true
   pub r6 : rule-6 w ≡ true
+
+-- every rule holds
+pub record Passes (w : Words) : Type 0 where
+  pub structured : Structured w
   pub r7 : rule-7 w ≡ true
 
 -- one of both directions
@@ -52,12 +56,13 @@ axes-pass test w h = both-true (h Outgoing) (h Incoming)
 
 -- ---- one kind of slot
 
-record SlotsRight (capacity live-length : ℕ) (s : Slots) : Type 0 where
-  within : capacity ≤ LIMIT
-  bounded : Bounded capacity s
-  long : live-words capacity ≤ live-length
+-- what rule 1 says of it
+pub record SlotsRight (capacity live-length : ℕ) (s : Slots) : Type 0 where
+  pub within : capacity ≤ LIMIT
+  pub bounded : Bounded capacity s
+  pub long : live-words capacity ≤ live-length
 
-slots-sound : (capacity live-length : ℕ) (s : Slots) → slots-right capacity live-length s ≡ true → SlotsRight capacity live-length s
+pub slots-sound : (capacity live-length : ℕ) (s : Slots) → slots-right capacity live-length s ≡ true → SlotsRight capacity live-length s
 slots-sound capacity live-length s h =
     let a = leb capacity LIMIT in
     let b = leb (s .bound) capacity in
@@ -74,7 +79,7 @@ slots-sound capacity live-length s h =
       long = leb-true (live-words capacity) live-length (and-right c e last);
     }
 
-live-sound : (words : List ℕ) (flags : List Bool) (s : Slots) → live-agrees words flags s ≡ true → LiveRight words flags s
+pub live-sound : (words : List ℕ) (flags : List Bool) (s : Slots) → live-agrees words flags s ≡ true → LiveRight words flags s
 live-sound words flags s h = record {
   unused-clear = and-left (packed words (s .bound)) (eqb (s .live) (live-count flags)) h;
   live-right = eqb-true (s .live) (live-count flags) (and-right (packed words (s .bound)) (eqb (s .live) (live-count flags)) h);
@@ -103,19 +108,50 @@ module _ (w : Words) where
 
 -- ---- from the tests to the store
 
-module _ (w : Words) (p : Passes w) where
-  sizes : (SlotsRight (length (w .nodes)) (length (w .live-nodes)) (w .counts .nodes)) × (SlotsRight (length (w .edges)) (length (w .live-edges)) (w .counts .edges))
-      × ((d : TraversalDirection) → 4 * length (w .edges) + 6 * length (w .nodes) + 1 ≤ length (axis-words d w))
+-- what rule 1 says of a store
+pub record SizesRight (w : Words) : Type 0 where
+  pub nodes : SlotsRight (length (w .nodes)) (length (w .live-nodes)) (w .counts .nodes)
+  pub edges : SlotsRight (length (w .edges)) (length (w .live-edges)) (w .counts .edges)
+  pub sized : (d : TraversalDirection) → Sized (axis-words d w) (length (w .edges)) (length (w .nodes))
+
+module _ (w : Words) where
+  pub sizes-sound : rule-1 w ≡ true → SizesRight w
   unfolding rule-1
-  sizes =
-      let long : List ℕ → Bool = λ ws. leb (4 * length (w .edges) + 6 * length (w .nodes) + 1) (length ws) in
-      let a = slots-right (length (w .nodes)) (length (w .live-nodes)) (w .counts .nodes) in
-      let b = slots-right (length (w .edges)) (length (w .live-edges)) (w .counts .edges) in
-      let rest = and-right a (b && both-axes long w) (p .r1) in (
-        slots-sound (length (w .nodes)) (length (w .live-nodes)) (w .counts .nodes) (and-left a (b && both-axes long w) (p .r1)),
-        slots-sound (length (w .edges)) (length (w .live-edges)) (w .counts .edges) (and-left b (both-axes long w) rest),
-        λ d. leb-true (4 * length (w .edges) + 6 * length (w .nodes) + 1) (length (axis-words d w)) (axis-passes long w (and-right b (both-axes long w) rest) d),
-      )
+  sizes-sound h =
+      let ce = length (w .edges) in
+      let cn = length (w .nodes) in
+      let long : List ℕ → Bool = λ ws. leb (4 * ce + 6 * cn + 1) (length ws) in
+      let a = slots-right cn (length (w .live-nodes)) (w .counts .nodes) in
+      let b = slots-right ce (length (w .live-edges)) (w .counts .edges) in
+      let rest = and-right a (b && both-axes long w) h in
+      let n = slots-sound cn (length (w .live-nodes)) (w .counts .nodes) (and-left a (b && both-axes long w) h) in
+      let e = slots-sound ce (length (w .live-edges)) (w .counts .edges) (and-left b (both-axes long w) rest) in
+      record {
+        nodes = n;
+        edges = e;
+        sized = λ d. record {
+          edges-within = e .within;
+          nodes-within = n .within;
+          room = leb-true (4 * ce + 6 * cn + 1) (length (axis-words d w)) (axis-passes long w (and-right b (both-axes long w) rest) d);
+        };
+      }
+
+  -- what rule 2 says of the nodes and of the edges
+  pub nodes-live-sound : rule-2 w ≡ true → LiveRight (w .live-nodes) (node-live w) (w .counts .nodes)
+  unfolding rule-2
+  nodes-live-sound h =
+      live-sound (w .live-nodes) (node-live w) (w .counts .nodes)
+      (and-left (live-agrees (w .live-nodes) (node-live w) (w .counts .nodes)) (live-agrees (w .live-edges) (edge-live w) (w .counts .edges)) h)
+
+  pub edges-live-sound : rule-2 w ≡ true → LiveRight (w .live-edges) (edge-live w) (w .counts .edges)
+  unfolding rule-2
+  edges-live-sound h =
+      live-sound (w .live-edges) (edge-live w) (w .counts .edges)
+      (and-right (live-agrees (w .live-nodes) (node-live w) (w .counts .nodes)) (live-agrees (w .live-edges) (edge-live w) (w .counts .edges)) h)
+
+module _ (w : Words) (p : Structured w) where
+  sizes : SizesRight w
+  sizes = sizes-sound w (p .r1)
 
   ends-low : (d : TraversalDirection) (e : ℕ) → e < w .counts .edges .bound → end-at (axis-words d w) e < w .counts .nodes .bound
   unfolding rule-3
@@ -130,7 +166,8 @@ module _ (w : Words) (p : Passes w) where
       let test : List ℕ → ℕ → Bool = ring-right (length (w .edges)) (w .counts .edges .base) (w .counts .edges .bound) in
       all-below (test (axis-words d w)) (w .counts .nodes .bound) (axis-passes (λ ws. all (test ws) (from 0 (w .counts .nodes .bound))) w (p .r5) d)
 
-  axis-sound : (d : TraversalDirection) → AxisChecked (axis-words d w) (length (w .edges)) (length (w .nodes)) (w .counts) (node-live w) (edge-live w)
+  -- rules 3 to 6 of one direction
+  pub axis-sound : (d : TraversalDirection) → AxisChecked (axis-words d w) (length (w .edges)) (length (w .nodes)) (w .counts) (node-live w) (edge-live w)
   unfolding rule-4 rule-6
   axis-sound d =
       let ce = length (w .edges) in
@@ -139,7 +176,7 @@ module _ (w : Words) (p : Passes w) where
       let eb = w .counts .edges .bound in
       let six = axis-passes (runs-right ce cn (w .counts) (node-live w) (edge-live w)) w (p .r6) d in
       record {
-        sized = record { edges-within = sizes .1 .within; nodes-within = sizes .0 .within; room = sizes .2 d };
+        sized = sizes .sized d;
         ends-below = ends-low d;
         index = index-sound ce cn (w .counts .nodes .base) be (axis-words d w) (axis-passes (index-right ce cn (w .counts .nodes .base) be) w (p .r4) d);
         rings = record {
@@ -165,6 +202,7 @@ module _ (w : Words) (p : Passes w) where
             (ap (member e) (sym (list-is-walk (shape-of w) d x)) ∙ m);
       }
 
+module _ (w : Words) (p : Passes w) where
   walks-of : (d : TraversalDirection) → walks-right (plain-of (shape-of w)) d ≡ true
   unfolding rule-7
   walks-of Outgoing = and-left (walks-right (plain-of (shape-of w)) Outgoing) (walks-right (plain-of (shape-of w)) Incoming) (p .r7)
@@ -172,23 +210,23 @@ module _ (w : Words) (p : Passes w) where
 
   -- words that pass every rule, with payloads of 32 bits, are a checked store
   pub passes-checked : Payloads w → Checked w
-  unfolding rule-2 plain-of shape-of
+  unfolding plain-of shape-of
   passes-checked pay =
-      let a = live-agrees (w .live-nodes) (node-live w) (w .counts .nodes) in
-      let b = live-agrees (w .live-edges) (edge-live w) (w .counts .edges) in
+      let t = p .structured in
+      let sizes = sizes-sound w (t .r1) in
       record {
-        nodes = sizes .0 .bounded;
-        edges = sizes .1 .bounded;
-        live-nodes-long = sizes .0 .long;
-        live-edges-long = sizes .1 .long;
-        nodes-live = live-sound (w .live-nodes) (node-live w) (w .counts .nodes) (and-left a b (p .r2));
-        edges-live = live-sound (w .live-edges) (edge-live w) (w .counts .edges) (and-right a b (p .r2));
-        axis = axis-sound;
+        nodes = sizes .nodes .bounded;
+        edges = sizes .edges .bounded;
+        live-nodes-long = sizes .nodes .long;
+        live-edges-long = sizes .edges .long;
+        nodes-live = nodes-live-sound w (t .r2);
+        edges-live = edges-live-sound w (t .r2);
+        axis = axis-sound w t;
         walks = record {
-          nodes-within = rw (node-bound-is w) (sizes .0 .bounded .bound-within);
-          edges-within = rw (edge-bound-is w) (sizes .1 .bounded .bound-within);
-          outgoing = walks-sound (plain-of (shape-of w)) Outgoing (walks-of Outgoing) (framed Outgoing);
-          incoming = walks-sound (plain-of (shape-of w)) Incoming (walks-of Incoming) (framed Incoming);
+          nodes-within = rw (node-bound-is w) (sizes .nodes .bounded .bound-within);
+          edges-within = rw (edge-bound-is w) (sizes .edges .bounded .bound-within);
+          outgoing = walks-sound (plain-of (shape-of w)) Outgoing (walks-of Outgoing) (framed w t Outgoing);
+          incoming = walks-sound (plain-of (shape-of w)) Incoming (walks-of Incoming) (framed w t Incoming);
           ends-live = λ d. walks-live (plain-of (shape-of w)) d (walks-of d);
           node-payloads = getD-map-each (λ (n : NodeSlot). n .payload < 2 ^ 32) (λ x. record { payload = getD (w .nodes) x 0; live = getD (node-live w) x false })
               (from 0 (w .counts .nodes .bound)) no-node (lit< tt) (pay .nodes);
@@ -216,19 +254,21 @@ checked-passes w c =
     let nb = w .counts .nodes .bound in
     let p = plain-of (shape-of w) in
     record {
-      r1 = both-true (slots-complete cn (length (w .live-nodes)) (w .counts .nodes) (c .axis Outgoing .sized .nodes-within) (c .nodes) (c .live-nodes-long))
-          (both-true (slots-complete ce (length (w .live-edges)) (w .counts .edges) (c .axis Outgoing .sized .edges-within) (c .edges) (c .live-edges-long))
-          (axes-pass (λ ws. leb (4 * ce + 6 * cn + 1) (length ws)) w (λ d. le-leb (4 * ce + 6 * cn + 1) (length (axis-words d w)) (c .axis d .sized .room))));
-      r2 = both-true (live-complete (w .live-nodes) (node-live w) (w .counts .nodes) (c .nodes-live))
-          (live-complete (w .live-edges) (edge-live w) (w .counts .edges) (c .edges-live));
-      r3 = axes-pass (ends-right (w .counts)) w
-          (λ d. below-all (λ e. ltb (end-at (axis-words d w) e) nb) eb (λ e l. lt-ltb (end-at (axis-words d w) e) nb (c .axis d .ends-below e l)));
-      r4 = axes-pass (index-right ce cn (w .counts .nodes .base) be) w (λ d. index-complete ce cn (w .counts .nodes .base) be (axis-words d w) (c .axis d .index));
-      r5 = axes-pass (λ ws. all (ring-right ce be eb ws) (from 0 nb)) w
-          (λ d. below-all (ring-right ce be eb (axis-words d w)) nb
-          (λ x l. ring-complete ce be eb (axis-words d w) x (c .axis d .rings .ring x l) (λ e m. c .axis d .rings .own x e l m)));
-      r6 = axes-pass (runs-right ce cn (w .counts) (node-live w) (edge-live w)) w
-          (λ d. runs-complete (axis-words d w) ce cn (w .counts) (node-live w) (edge-live w) (c .axis d .runs) (c .axis d .removed-runs));
+      structured = record {
+        r1 = both-true (slots-complete cn (length (w .live-nodes)) (w .counts .nodes) (c .axis Outgoing .sized .nodes-within) (c .nodes) (c .live-nodes-long))
+            (both-true (slots-complete ce (length (w .live-edges)) (w .counts .edges) (c .axis Outgoing .sized .edges-within) (c .edges) (c .live-edges-long))
+            (axes-pass (λ ws. leb (4 * ce + 6 * cn + 1) (length ws)) w (λ d. le-leb (4 * ce + 6 * cn + 1) (length (axis-words d w)) (c .axis d .sized .room))));
+        r2 = both-true (live-complete (w .live-nodes) (node-live w) (w .counts .nodes) (c .nodes-live))
+            (live-complete (w .live-edges) (edge-live w) (w .counts .edges) (c .edges-live));
+        r3 = axes-pass (ends-right (w .counts)) w
+            (λ d. below-all (λ e. ltb (end-at (axis-words d w) e) nb) eb (λ e l. lt-ltb (end-at (axis-words d w) e) nb (c .axis d .ends-below e l)));
+        r4 = axes-pass (index-right ce cn (w .counts .nodes .base) be) w (λ d. index-complete ce cn (w .counts .nodes .base) be (axis-words d w) (c .axis d .index));
+        r5 = axes-pass (λ ws. all (ring-right ce be eb ws) (from 0 nb)) w
+            (λ d. below-all (ring-right ce be eb (axis-words d w)) nb
+            (λ x l. ring-complete ce be eb (axis-words d w) x (c .axis d .rings .ring x l) (λ e m. c .axis d .rings .own x e l m)));
+        r6 = axes-pass (runs-right ce cn (w .counts) (node-live w) (edge-live w)) w
+            (λ d. runs-complete (axis-words d w) ce cn (w .counts) (node-live w) (edge-live w) (c .axis d .runs) (c .axis d .removed-runs));
+      };
       r7 = both-true (walks-complete p Outgoing (c .walks)) (walks-complete p Incoming (c .walks));
     }
 
@@ -249,14 +289,15 @@ broken-passes w h =
     let e = first-rule (rule-5 w) 4 _ (d .1) in
     let f = first-rule (rule-6 w) 5 _ (e .1) in
     let g = first-rule (rule-7 w) 6 0 (f .1) in
-    record { r1 = a .0; r2 = b .0; r3 = c .0; r4 = d .0; r5 = e .0; r6 = f .0; r7 = g .0 }
+    record { structured = record { r1 = a .0; r2 = b .0; r3 = c .0; r4 = d .0; r5 = e .0; r6 = f .0 }; r7 = g .0 }
 
 -- no rule is broken in a checked store
 pub checked-sound : (w : Words) → Checked w → broken w ≡ 0
 unfolding broken
 checked-sound w c =
     let p = checked-passes w c in
-    rw (p .r1, p .r2, p .r3, p .r4, p .r5, p .r6, p .r7)
+    let t = p .structured in
+    rw (t .r1, t .r2, t .r3, t .r4, t .r5, t .r6, p .r7)
 
 -- words of which no rule is broken, with payloads of 32 bits, are a checked store
 pub unbroken-checked : (w : Words) → Payloads w → broken w ≡ 0 → Checked w

@@ -1,0 +1,134 @@
+-- What each rule takes from the rules before it, and rule 7 by the words of each direction.
+use Prim.Native.Nat.{ℕ, zero, suc, _<_}
+use mathlib.Core.Path.{_≡_, refl, sym, ap, ap₂, _∙_}
+use mathlib.Core.Bool.{Bool, true, false, _&&_, _||_, not}
+use mathlib.Core.List.{List}
+use native.Mathlib.Omega.{arith}
+use lib.ListN.{length, getD}
+use lib.Dec.{eqb}
+use Rattle.plain.specs.declared.Answer.{Answer}
+use Rattle.plain.specs.declared.TraversalDirection.{TraversalDirection}
+use Rattle.plain.specs.Calls.{check}
+use Rattle.plain.specs.Lists.{member, distinct, all, from}
+use Rattle.plain.specs.Plain.{Plain, node-bound, edge-bound, node-flags, edge-flags, list-of, end-of}
+use Rattle.shape.specs.Columns.{end-at}
+use Rattle.shape.specs.Shape.{Words, node-live, edge-live, axis-words, shape-of, plain-of}
+use Rattle.shape.specs.Rules.{walks-right, rule-1}
+use Rattle.shape.specs.Laws.Judging.{Structured, sizes-sound, edges-live-sound, axis-sound}
+use Rattle.shape.specs.Laws.Reading.{node-bound-is, edge-bound-is, node-flags-are, edge-flags-are, plain-end}
+use Rattle.adjacency.specs.Walk.{Walkable}
+use Rattle.adjacency.specs.WalkLaws.{walk-below}
+use Rattle.adjacency.specs.StoreWalks.{list-is-walk}
+use Rattle.validate.specs.Passing.{entries-agree, slots-agree}
+use Rattle.validate.specs.Sizes.{axis-sized, live-there}
+use Rattle.validate.specs.Runs.{RunsReadable}
+use Rattle.validate.specs.Walks.{WalksReadable, node-walk, walk-test, listed-test, walks-test}
+
+-- Rule 7 of plain lists by what they are read from: the walks, the ends and the flags.
+walks-read : (p : Plain) (d : TraversalDirection) (walk : ℕ → List ℕ) (ends : ℕ → ℕ) (nodes edges : List Bool) (nb eb : ℕ)
+    → node-bound p ≡ nb → edge-bound p ≡ eb → node-flags p ≡ nodes → edge-flags p ≡ edges
+    → ((x : ℕ) → x < nb → list-of d p x ≡ walk x) → ((e : ℕ) → e < eb → end-of d p e ≡ ends e)
+    → ((x e : ℕ) → x < nb → member e (walk x) ≡ true → e < eb) → ((e : ℕ) → e < eb → ends e < nb)
+    → walks-right p d
+    ≡ (all (λ x. distinct (walk x) && all (λ e. eqb (ends e) x) (walk x)) (from 0 nb)
+    && all (λ e. not (getD edges e false) || (member e (walk (ends e)) && getD nodes (ends e) false)) (from 0 eb))
+unfolding walks-right
+walks-read p d walk ends nodes edges nb eb node-size edge-size node-live edge-live lists ends-are below low =
+    ap₂ _&&_
+    (ap (λ (n : ℕ). all of-node (from 0 n)) node-size ∙ slots-agree of-node (λ x. distinct (walk x) && all (λ e. eqb (ends e) x) (walk x)) nb node-agrees)
+    (ap (λ (n : ℕ). all of-edge (from 0 n)) edge-size
+    ∙ slots-agree of-edge (λ e. not (getD edges e false) || (member e (walk (ends e)) && getD nodes (ends e) false)) eb
+    (λ e l. rw (node-live, edge-live, ends-are e l, lists (ends e) (low e l))))
+  where
+    of-node : ℕ → Bool
+    of-node x = distinct (list-of d p x) && all (λ e. eqb (end-of d p e) x) (list-of d p x)
+
+    of-edge : ℕ → Bool
+    of-edge e = not (getD (edge-flags p) e false) || (member e (list-of d p (end-of d p e)) && getD (node-flags p) (end-of d p e) false)
+
+    node-agrees : (x : ℕ) → x < nb → of-node x ≡ (distinct (walk x) && all (λ e. eqb (ends e) x) (walk x))
+    node-agrees x l =
+        rw (lists x l)
+        (ap (λ (b : Bool). distinct (walk x) && b)
+        (entries-agree (λ e. eqb (end-of d p e) x) (λ e. eqb (ends e) x) (walk x) (λ e m. ap (λ (y : ℕ). eqb y x) (ends-are e (below x e l m)))))
+
+-- bounds and flags of a store's plain lists
+module _ (w : Words) where
+  plain-nodes : node-bound (plain-of (shape-of w)) ≡ w .counts .nodes .bound
+  unfolding plain-of
+  plain-nodes = node-bound-is w
+
+  plain-edges : edge-bound (plain-of (shape-of w)) ≡ w .counts .edges .bound
+  unfolding plain-of
+  plain-edges = edge-bound-is w
+
+  plain-node-flags : node-flags (plain-of (shape-of w)) ≡ node-live w
+  unfolding plain-of
+  plain-node-flags = node-flags-are w
+
+  plain-edge-flags : edge-flags (plain-of (shape-of w)) ≡ edge-live w
+  unfolding plain-of
+  plain-edge-flags = edge-flags-are w
+
+module _ (w : Words) (d : TraversalDirection) where
+  abbrev ws : List ℕ
+  ws = axis-words d w
+
+  abbrev ce : ℕ
+  ce = length (w .edges)
+
+  abbrev cn : ℕ
+  cn = length (w .nodes)
+
+  -- rule 6 can be tested after rule 1
+  pub runs-readable : rule-1 w ≡ true → RunsReadable ws ce cn (w .counts) (w .live-nodes) (w .live-edges)
+  runs-readable h =
+      let s = sizes-sound w h in
+      record { axis = axis-sized w h d; nodes-long = live-there (s .nodes); edges-long = live-there (s .edges) }
+
+  module _ (t : Structured w) where
+    -- every node can be walked after rule 6
+    walkable : (x : ℕ) → x < w .counts .nodes .bound → Walkable ws ce cn (w .counts) (w .live-edges) x
+    walkable x l =
+        let s = sizes-sound w (t .r1) in
+        let a = axis-sound w t d in
+        record {
+          readable = record { sized = a .sized; nodes = s .nodes .bounded; edges = s .edges .bounded; index = a .index; rings = a .rings; runs = a .runs; node = l };
+          live-long = live-there (s .edges);
+          live-right = edges-live-sound w (t .r2);
+        }
+
+    -- rule 7 can be tested
+    pub walks-readable : WalksReadable ws ce cn (w .counts) (w .live-nodes) (w .live-edges)
+    walks-readable =
+        let s = sizes-sound w (t .r1) in
+        let few = s .edges .within in
+        let within = s .edges .bounded .bound-within in
+        record {
+          edges-few = omega arith;
+          nodes-long = live-there (s .nodes);
+          edges-long = live-there (s .edges);
+          walkable = walkable;
+          ends-below = axis-sound w t d .ends-below;
+        }
+
+    -- rule 7 of the plain lists is the test of the words
+    pub walks-rule : walks-test ws ce cn (w .counts) (w .live-nodes) (w .live-edges) ≡ walks-right (plain-of (shape-of w)) d
+    unfolding walks-test walk-test listed-test node-walk
+    walks-rule =
+        sym (walks-read (plain-of (shape-of w)) d (node-walk ws ce cn (w .counts) (w .live-nodes) (w .live-edges)) (end-at ws) (node-live w) (edge-live w)
+        (w .counts .nodes .bound) (w .counts .edges .bound) (plain-nodes w) (plain-edges w) (plain-node-flags w) (plain-edge-flags w) (list-is-walk w d) (plain-end w d)
+        (λ x e l m. walk-below (walkable x l) (getD (node-live w) x false) e m) (axis-sound w t d .ends-below))
+
+-- ---- the answer
+
+-- no rule is broken
+pub answer-done : (rule : ℕ) → rule ≡ 0 → _≡_ {A = Answer} (record { number = 0; value = 0 }) (check rule)
+unfolding check
+answer-done rule q = rw q
+
+-- one is
+pub answer-broken : (rule : ℕ) → (rule ≡ 0 → ⊥) → _≡_ {A = Answer} (record { number = 1; value = rule }) (check rule)
+unfolding check
+answer-broken zero n = absurd (n refl)
+answer-broken (suc rule) n = refl

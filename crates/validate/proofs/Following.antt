@@ -1,0 +1,82 @@
+-- Following a list of entries and marking each, up to the first that does not pass.
+use Prim.Native.Nat.{ℕ}
+use mathlib.Core.Path.{_≡_, refl, sym, ap, _∙_}
+use mathlib.Core.Bool.{Bool, true, false, _&&_, _||_, false≢true}
+use mathlib.Core.List.{List, [], _∷_}
+use lib.ListN.{length}
+use lib.Dec.{eqb}
+use borrow.Author.Tests.{not-true, not-false}
+use Rattle.plain.specs.Lists.{member, distinct, all}
+use Rattle.plain.specs.Laws.Booleans.{and-false, or-false}
+use Rattle.validate.specs.Passing.{passed}
+use Rattle.validate.specs.Marks.{marked, Marked, fresh, passes, Followed}
+use Rattle.validate.proofs.Fresh.{or-swap, fresh-more, fresh-marked}
+
+module _ (test marks : ℕ → Bool) where
+  -- nothing is left
+  passes-none : passes test marks [] ≡ true
+  unfolding passes all fresh distinct
+  passes-none = refl
+
+  module _ (e : ℕ) (l : List ℕ) where
+    -- an entry fails
+    passes-fails : test e ≡ false → passes test marks (e ∷ l) ≡ false
+    unfolding passes all
+    passes-fails h = rw h
+
+    -- an entry is marked
+    passes-marked : marks e ≡ true → passes test marks (e ∷ l) ≡ false
+    unfolding passes
+    passes-marked h = rw (fresh-marked marks e l h, and-false (all test (e ∷ l)))
+
+    -- an entry passes
+    passes-more : (more : ℕ → Bool) → ((i : ℕ) → more i ≡ (eqb i e || marks i)) → test e ≡ true → marks e ≡ false → passes test marks (e ∷ l) ≡ passes test more l
+    unfolding passes all
+    passes-more more step h new = rw (h, fresh-more marks more e l step new)
+
+-- Of a list of entries the rest is still to be followed; those before are marked.
+pub record Following (test : ℕ → Bool) (l seen₀ seen rest : List ℕ) : Type 0 where
+  pub answers : passes test (marked seen₀) l ≡ passes test (marked seen) rest
+  pub marks : (i : ℕ) → (marked seen i || member i rest) ≡ (marked seen₀ i || member i l)
+  pub long : length seen ≡ length seen₀
+
+-- at the start
+pub follow-start : (test : ℕ → Bool) (l seen : List ℕ) → Following test l seen seen l
+follow-start test l seen = record { answers = refl; marks = λ i. refl; long = refl }
+
+module _ {test : ℕ → Bool} {l seen₀ seen rest : List ℕ} (f : Following test l seen₀ seen rest) where
+  -- at the end the last test decides
+  pub follow-done : (final : Bool) → rest ≡ [] → Followed test final l seen₀ final seen
+  unfolding member
+  follow-done final q = record {
+    answers = passed (f .answers ∙ ap (passes test (marked seen)) q ∙ passes-none test (marked seen)) refl;
+    marks = λ _ i. sym (or-false (marked seen i)) ∙ ap (λ (r : List ℕ). marked seen i || member i r) (sym q) ∙ f .marks i;
+  }
+
+  module _ {e : ℕ} {later : List ℕ} (q : rest ≡ e ∷ later) (final : Bool) where
+    -- what the entry and those after it decide
+    at-entry : passes test (marked seen₀) l ≡ passes test (marked seen) (e ∷ later)
+    at-entry = f .answers ∙ ap (passes test (marked seen)) q
+
+    -- an entry that does not pass
+    fails : (exit : List ℕ) → passes test (marked seen) (e ∷ later) ≡ false → Followed test final l seen₀ false exit
+    fails exit h = record { answers = rw (at-entry ∙ h); marks = λ q. absurd (false≢true q) }
+
+    -- the entry fails
+    pub follow-fails : (exit : List ℕ) → test e ≡ false → Followed test final l seen₀ false exit
+    follow-fails exit h = fails exit (passes-fails test (marked seen) e later h)
+
+    -- the entry is marked already
+    pub follow-marked : {exit : List ℕ} {answer : Bool} → Marked seen e answer exit → answer ≡ false → Followed test final l seen₀ false exit
+    follow-marked {exit} m h = fails exit (passes-marked test (marked seen) e later (not-false (marked seen e) (sym (m .answers) ∙ h)))
+
+  -- the entry passes
+  pub follow-more : {e : ℕ} {later exit : List ℕ} {answer : Bool} → rest ≡ e ∷ later → test e ≡ true → Marked seen e answer exit → answer ≡ true
+      → length exit ≡ length seen → Following test l seen₀ exit later
+  unfolding member
+  follow-more {e} {later} {exit} q h m a long = record {
+    answers = f .answers ∙ ap (passes test (marked seen)) q ∙ passes-more test (marked seen) e later (marked exit) (m .marks) h (not-true (marked seen e) (sym (m .answers) ∙ a));
+    marks = λ i. ap (λ (b : Bool). b || member i later) (m .marks i) ∙ sym (or-swap (eqb i e) (marked seen i) (member i later))
+        ∙ ap (λ (r : List ℕ). marked seen i || member i r) (sym q) ∙ f .marks i;
+    long = long ∙ f .long;
+  }

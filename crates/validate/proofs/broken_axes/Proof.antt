@@ -1,0 +1,116 @@
+-- `validate::broken_axes` meets its contract: the ends, the index and the rings of both directions, and then what is left.
+use mathlib.Core.Path.{_≡_, _∙_}
+use mathlib.Core.Bool.{true}
+use lib.ListN.{length}
+use Rattle.plain.specs.declared.TraversalDirection.{TraversalDirection}
+use Rattle.plain.specs.declared.TraversalDirection.the-variants.{Outgoing, Incoming}
+use Rattle.plain.specs.Lists.{all, from}
+use Rattle.plain.specs.Laws.Booleans.{both-true}
+use Rattle.shape.specs.Shape.{Words, axis-words}
+use Rattle.shape.specs.Rules.{ends-right, rule-3, index-right, rule-4, ring-right, rule-5}
+use Rattle.validate.specs.Passing.{refused, accepted}
+use Rattle.validate.specs.Sizes.{AxisSized, axis-sized}
+use Rattle.validate.specs.Broken.{store, Threaded, broken-axes}
+use Rattle.validate.proofs.broken_axes.Statement.{statement}
+use Rattle.validate.proofs.broken_axes.Tie as tie
+
+-- the store that is lent
+abbrev lent : tie.Start → Words
+lent s = let a = s .args in store (a .counts) (a .nodes .now) (a .edges .now) (a .live-nodes .now) (a .live-edges .now) (a .outgoing .now) (a .incoming .now)
+
+abbrev start : tie.After-ends-right → tie.Start
+start r = r .before .before .before .before .before .before .before
+
+-- each direction has its words
+sized : (s : tie.Start) (d : TraversalDirection) → let w = lent s in AxisSized (axis-words d w) (length (w .edges)) (length (w .nodes)) (w .counts)
+sized s d = axis-sized (lent s) (s .pre .r1) d
+
+-- rule 3 of one direction, and of both
+ends-out : (c : tie.Else1) → let w = lent (start (c .before)) in ends-right (w .counts) (w .outgoing) ≡ true
+ends-out c = accepted (c .before .ends-right .ensures) (c .if1 .left)
+
+three : (c : tie.Else2) → rule-3 (lent (start (c .before .before .before))) ≡ true
+unfolding rule-3
+three c = both-true (ends-out (c .before .before)) (accepted (c .before .ends-right2 .ensures) (c .if2 .left))
+
+-- rule 4
+index-out : (c : tie.Else3)
+    → let w = lent (start (c .before .before .before .before .before)) in
+    index-right (length (w .edges)) (length (w .nodes)) (w .counts .nodes .base) (w .counts .edges .base) (w .outgoing) ≡ true
+index-out c = accepted (c .before .index-right .ensures) (c .if3 .left)
+
+four : (c : tie.Else4) → rule-4 (lent (start (c .before .before .before .before .before .before .before))) ≡ true
+unfolding rule-4
+four c = both-true (index-out (c .before .before)) (accepted (c .before .index-right2 .ensures) (c .if4 .left))
+
+-- rule 5
+rings-out : (c : tie.Else5)
+    → let w = lent (start (c .before .before .before .before .before .before .before .before .before)) in
+    all (ring-right (length (w .edges)) (w .counts .edges .base) (w .counts .edges .bound) (w .outgoing)) (from 0 (w .counts .nodes .bound)) ≡ true
+rings-out c = accepted (c .before .rings-right .ensures) (c .if5 .left)
+
+threaded : (c : tie.Else6) → Threaded (lent (start (c .before .before .before .before .before .before .before .before .before .before .before)))
+unfolding rule-5
+threaded c =
+    let h = c .before .before in
+    let k = h .before .before in
+    record {
+      counted = start (k .before .before .before .before .before .before .before) .pre;
+      r3 = three (k .before .before .before .before);
+      r4 = four k;
+      r5 = both-true (rings-out h) (accepted (c .before .rings-right2 .ensures) (c .if6 .left));
+    }
+
+returns : tie.Need-returns
+unfolding broken-axes rule-3
+returns c = rw (refused (c .before .ends-right .ensures) (c .if1 .taken))
+
+returns-2 : tie.Need-returns-2
+unfolding broken-axes rule-3
+returns-2 c = rw (ends-out (c .before .before), refused (c .before .ends-right2 .ensures) (c .if2 .taken))
+
+returns-3 : tie.Need-returns-3
+unfolding broken-axes rule-4
+returns-3 c = rw (three (c .before .before), refused (c .before .index-right .ensures) (c .if3 .taken))
+
+returns-4 : tie.Need-returns-4
+unfolding broken-axes rule-4
+returns-4 c =
+    let h = c .before .before in
+    rw (three (h .before .before), index-out h, refused (c .before .index-right2 .ensures) (c .if4 .taken))
+
+returns-5 : tie.Need-returns-5
+unfolding broken-axes rule-5
+returns-5 c =
+    let k = c .before .before in
+    rw (three (k .before .before .before .before), four k, refused (c .before .rings-right .ensures) (c .if5 .taken))
+
+returns-6 : tie.Need-returns-6
+unfolding broken-axes rule-5
+returns-6 c =
+    let h = c .before .before in
+    let k = h .before .before in
+    rw (three (k .before .before .before .before), four k, rings-out h, refused (c .before .rings-right2 .ensures) (c .if6 .taken))
+
+returns-7 : tie.Need-returns-7
+unfolding broken-axes
+returns-7 c = let t = threaded (c .before) in rw (t .r3, t .r4, t .r5) (c .broken-lists .ensures)
+
+pub broken-axes-spec : {M : Type 1} → statement M
+broken-axes-spec =
+    tie.close
+    (tie.spec
+    (λ c κs. sized (c .before .before .before .before .before .before) Outgoing)
+    returns
+    (λ c κs. sized (start (c .before)) Incoming)
+    returns-2
+    (λ c κs. sized (start (c .before .before .before)) Outgoing)
+    returns-3
+    (λ c κs. sized (start (c .before .before .before .before .before)) Incoming)
+    returns-4
+    (λ c κs. sized (start (c .before .before .before .before .before .before .before)) Outgoing)
+    returns-5
+    (λ c κs. sized (start (c .before .before .before .before .before .before .before .before .before)) Incoming)
+    returns-6
+    (λ c κs. threaded c)
+    returns-7)

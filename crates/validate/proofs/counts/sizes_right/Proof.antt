@@ -1,0 +1,61 @@
+-- `validate::counts::sizes_right` meets its contract: the tests one after the other. The lengths fit, since the capacities are within the limit.
+use Prim.Native.Nat.{_≤_}
+use mathlib.Core.Path.{_≡_, refl, sym, _∙_}
+use mathlib.Core.Bool.{true}
+use native.Mathlib.Omega.{arith}
+use borrow.Author.Needs.{needs}
+use borrow.Author.Tests.{le-leb, lt-leb}
+use Rattle.plain.specs.Numbers.{LIMIT}
+use Rattle.shape.specs.Rules.{slots-right}
+use Rattle.shape.specs.Laws.Judging.{slots-sound}
+use Rattle.validate.specs.Sizes.{sizes-test}
+use Rattle.validate.specs.Passing.{passed}
+use Rattle.validate.proofs.counts.sizes_right.Statement.{statement}
+use Rattle.validate.proofs.counts.sizes_right.Tie as tie
+
+-- the node slots pass
+nodes-right : (c : tie.Then1)
+    → let a = c .before .before .before .before .args in slots-right (a .nodes) (a .live-nodes) (a .counts .nodes) ≡ true
+nodes-right c = sym (c .before .slots-right .ensures) ∙ c .if1 .taken
+
+-- and the edge slots
+edges-right : (c : tie.Then2)
+    → let a = c .before .before .before .before .before .before .args in slots-right (a .edges) (a .live-edges) (a .counts .edges) ≡ true
+edges-right c = sym (c .before .slots-right2 .ensures) ∙ c .if2 .taken
+
+-- so the capacities are within the limit
+within : (c : tie.Then2) → let a = c .before .before .before .before .before .before .args in (a .nodes ≤ LIMIT) × (a .edges ≤ LIMIT)
+within c =
+    let a = c .before .before .before .before .before .before .args in
+    (slots-sound _ _ (a .counts .nodes) (nodes-right (c .before .before)) .within, slots-sound _ _ (a .counts .edges) (edges-right c) .within)
+
+returns : tie.Need-returns
+unfolding sizes-test
+returns c = passed (nodes-right (c .before .before .before)) (passed (edges-right (c .before)) (passed (le-leb _ _ (c .if3 .taken)) refl))
+
+returns-2 : tie.Need-returns-2
+unfolding sizes-test
+returns-2 c = passed (nodes-right (c .before .before .before)) (passed (edges-right (c .before)) (rw (lt-leb _ _ (c .if3 .left))))
+
+returns-3 : tie.Need-returns-3
+unfolding sizes-test
+returns-3 c = passed (nodes-right (c .before .before)) (rw (sym (c .before .slots-right2 .ensures) ∙ c .if2 .left))
+
+returns-4 : tie.Need-returns-4
+unfolding sizes-test
+returns-4 c = rw (sym (c .before .slots-right .ensures) ∙ c .if1 .left)
+
+pub sizes-right-spec : {M : Type 1} → statement M
+sizes-right-spec =
+    tie.close
+    (tie.spec
+    (λ c κs. search needs)
+    (λ c κs. search needs)
+    (λ c. omega (arith, within c))
+    (λ c. omega (arith, within c))
+    (λ c. omega (arith, within c))
+    (λ c. omega (arith, within c))
+    returns
+    returns-2
+    returns-3
+    returns-4)

@@ -1,0 +1,66 @@
+-- `validate::walks::walks_right` meets its contract. The loop's invariant: the walks of the nodes from x on decide, the entries of those before are marked. The measure
+-- is the number of nodes left.
+use Prim.Native.Nat.{_-_}
+use mathlib.Core.Path.{refl, _∙_}
+use native.Mathlib.Omega.{arith}
+use borrow.Author.Needs.{needs}
+use borrow.Author.Tests.{not-true, not-false}
+use lib.ListN.{replicate}
+use Rattle.validate.proofs.Marking.{clear-map}
+use Rattle.validate.proofs.Walking.{Walking, walking-start, walking-on, walking-fails, walking-done}
+use Rattle.validate.proofs.walks.walks_right.Statement.{statement}
+use Rattle.validate.proofs.walks.walks_right.Tie as tie
+
+abbrev Inv-loop : tie.InvT-loop
+Inv-loop axis edges nodes counts live-nodes live-edges slots node-bound seen₀ x₀ seen x = Walking axis edges nodes counts live-nodes live-edges x seen
+
+abbrev μ-loop : tie.MeasureT-loop
+μ-loop axis edges nodes counts live-nodes live-edges slots node-bound seen₀ x₀ seen x = node-bound - x
+
+loop-holds : tie.Need-loop-holds Inv-loop μ-loop
+loop-holds c = walking-start _ _ _ _ _ _ (replicate 512 0) (clear-map 512) refl
+
+walk-right-requires : tie.Need-walk-right-requires Inv-loop μ-loop
+walk-right-requires c κs =
+    let k = c .before .before in
+    let s = k .before .before .before .before .before .before in
+    record { walkable = s .pre .walkable _ (k .loop-test .taken); marks-long = omega (arith, k .before .loop .inv .long) }
+
+returns : tie.Need-returns Inv-loop μ-loop
+returns c =
+    let r = c .before .before in
+    let k = r .before .before .before in
+    walking-fails _ _ _ _ _ _ (k .before .loop .inv) (r .before .before .is-live .ensures) (r .walk-right .ensures) (k .loop-test .taken) (not-true _ (c .if1 .taken))
+
+loop-again : tie.Need-loop-again Inv-loop μ-loop
+loop-again c =
+    let r = c .before .before in
+    let k = r .before .before .before in
+    walking-on _ _ _ _ _ _ (k .before .loop .inv) (r .before .before .is-live .ensures) (r .walk-right .ensures) (k .loop-test .taken) (not-false _ (c .if1 .left))
+    (r .walk-right .kept .1 .1 .1 .1 .1 .1 .1 .0)
+
+returns-2 : tie.Need-returns-2 Inv-loop μ-loop
+returns-2 c =
+    let k = c .before .before in
+    c .live-marked .ensures ∙ walking-done _ _ _ _ _ _ (k .before .loop .inv) (k .loop-test .left) (k .before .before .before .before .before .before .pre .ends-below)
+
+pub walks-right-spec : {M : Type 1} → statement M
+walks-right-spec =
+    tie.close
+    (tie.spec
+    Inv-loop
+    μ-loop
+    (λ c. omega arith)
+    loop-holds
+    (λ c. omega arith)
+    (λ c. omega arith)
+    (λ c κs. search needs)
+    (λ c. omega arith)
+    walk-right-requires
+    returns
+    (λ c. omega arith)
+    (λ c. omega arith)
+    loop-again
+    (λ c. omega arith)
+    (λ c κs. search needs)
+    returns-2)

@@ -1,0 +1,7 @@
+pub mod Sizes
+pub mod Passing
+pub mod Rings
+pub mod Marks
+pub mod Runs
+pub mod Walks
+pub mod Broken

@@ -1,0 +1,144 @@
+// Rule 7 for one direction: the walks, on a store that the rules before it have passed. Every entry is marked as it is passed, so that a walk that lists an edge
+// twice, or one that does not end at its node, ends the check; the live edges that no walk has listed are those that are not marked in the end.
+
+use crate::marks::mark;
+use adjacency::cursor::AdjacencyCursor;
+use adjacency::cursor::Found;
+use adjacency::walk;
+use liveness::is_live;
+use plain::Counts;
+ghost use mathlib.Core.Path.{_≡_};
+ghost use mathlib.Core.Bool.{true};
+ghost use Prim.Native.Nat.{_*_, _≤_};
+ghost use lib.ListN.{length};
+ghost use lib.Dec.{eqb};
+ghost use Rattle.plain.specs.Lists.{all, from};
+ghost use Rattle.liveness.specs.Flags.{live-flags};
+ghost use Rattle.shape.specs.Columns.{end-at};
+ghost use Rattle.adjacency.specs.Cursor.{listed-left};
+ghost use Rattle.adjacency.specs.Walk.{walk-in};
+ghost use Rattle.validate.specs.Marks.{Followed};
+ghost use Rattle.validate.specs.Walks.{ListReadable, WalkReadable, WalksReadable, marked-if-live, walks-test};
+
+// The listed entries that a cursor has left: each ends at the node, by the column `ends`, and none is marked. Marks them.
+fn list_right(
+    start: AdjacencyCursor,
+    linked: bool,
+    entries: &[u32],
+    next: &[u32],
+    tombstoned: bool,
+    live: &[u64],
+    slots: usize,
+    ends: &[u32],
+    node: u32,
+    seen: &mut [u64],
+) -> bool
+    requires { ⌜ ListReadable linked (now entries) (now next) (now live) slots start (now ends) (now seen) ⌝ }
+    ensures { λ r. ⌜ Followed (λ e. eqb (end-at (now (ends .entry)) e) node) true (listed-left linked (now (entries .entry)) (now (next .entry)) tombstoned (now (live .entry)) slots start) (now (seen .entry)) r (now (seen .exit)) ⌝ }
+{
+    let mut cursor = start;
+    loop {
+        let step = cursor.seek(linked, entries, next, tombstoned, live, slots);
+        let found = step.found;
+        match found {
+            Found::Edge(edge) => {
+                if ends[edge as usize] != node {
+                    return false;
+                }
+                if !mark(seen, edge as usize) {
+                    return false;
+                }
+            }
+            Found::Done => {
+                return true;
+            }
+        }
+        cursor = step.cursor;
+    }
+}
+
+// The walk of one node, whose live flag is `live`.
+fn walk_right(
+    axis: &[u32],
+    edges: usize,
+    nodes: usize,
+    counts: Counts,
+    words: &[u64],
+    node: u32,
+    live: bool,
+    seen: &mut [u64],
+) -> bool
+    requires { ⌜ WalkReadable (now axis) edges nodes counts (now words) node (now seen) ⌝ }
+    ensures { λ r. ⌜ Followed (λ e. eqb (end-at (now (axis .entry)) e) node) true (walk-in (now (axis .entry)) edges nodes counts (now (words .entry)) node live) (now (seen .entry)) r (now (seen .exit)) ⌝ }
+{
+    let start = walk::start(axis, edges, nodes, counts, node as usize, live);
+    let linked = start.linked;
+    let slots = counts.edges.bound as usize;
+    let entries = walk::entries_of(axis, edges, linked);
+    let next = walk::next_of(axis, edges);
+    let tombstoned = walk::tombstoned(counts);
+    list_right(
+        start.cursor,
+        linked,
+        entries,
+        next,
+        tombstoned,
+        words,
+        slots,
+        axis,
+        node,
+        seen,
+    )
+}
+
+// A slot is marked if it is live.
+fn marked_if_live(words: &[u64], seen: &[u64], slots: usize, slot: usize) -> bool
+    requires { ⌜ (slots ≤ 64 * length (now words)) × (slots ≤ 64 * length (now seen)) ⌝ }
+    ensures { λ r. ⌜ r ≡ marked-if-live (live-flags (now (words .entry)) slots) (live-flags (now (seen .entry)) slots) slot ⌝ }
+{
+    if is_live(words, slots, slot) {
+        return is_live(seen, slots, slot);
+    }
+    true
+}
+
+// Every live slot is marked.
+fn live_marked(words: &[u64], seen: &[u64], slots: usize) -> bool
+    requires { ⌜ (slots ≤ 64 * length (now words)) × (slots ≤ 64 * length (now seen)) ⌝ }
+    ensures { λ r. ⌜ r ≡ all (marked-if-live (live-flags (now (words .entry)) slots) (live-flags (now (seen .entry)) slots)) (from 0 slots) ⌝ }
+{
+    let mut e: usize = 0;
+    while e < slots {
+        if !marked_if_live(words, seen, slots, e) {
+            return false;
+        }
+        e += 1;
+    }
+    true
+}
+
+// Rule 7: the walks of all nodes list each live edge once, at its end, and nothing else.
+pub fn walks_right(
+    axis: &[u32],
+    edges: usize,
+    nodes: usize,
+    counts: Counts,
+    live_nodes: &[u64],
+    live_edges: &[u64],
+) -> bool
+    requires { ⌜ WalksReadable (now axis) edges nodes counts (now «live_nodes») (now «live_edges») ⌝ }
+    ensures { λ r. ⌜ r ≡ walks-test (now (axis .entry)) edges nodes counts (now («live_nodes» .entry)) (now («live_edges» .entry)) ⌝ }
+{
+    let slots = counts.edges.bound as usize;
+    let node_bound = counts.nodes.bound;
+    let mut seen = [0u64; 512];
+    let mut x: u32 = 0;
+    while x < node_bound {
+        let live = is_live(live_nodes, node_bound as usize, x as usize);
+        if !walk_right(axis, edges, nodes, counts, live_edges, x, live, &mut seen) {
+            return false;
+        }
+        x += 1;
+    }
+    live_marked(live_edges, &seen, slots)
+}
