@@ -3,30 +3,30 @@ use Prim.Native.Nat.{ℕ, suc, _+_, _-_, _*_, _≤_, _<_}
 use native.Mathlib.Nat.{le-trans, le-refl}
 use native.Mathlib.Omega.{arith}
 use mathlib.Core.Path.{_≡_, refl, sym, ap, _∙_, subst}
-use mathlib.Core.Bool.{Bool, true, false}
-use mathlib.Core.Logic.{_⊎_, inl, inr, ⊎-elim, _≢_}
+use mathlib.Core.Bool.{Bool, true}
+use mathlib.Core.Logic.{_⊎_, ⊎-elim, _≢_}
 use mathlib.Core.List.{List, [], _∷_, _++_, append-nil, append-assoc}
 use lib.ListN.{length, getD, length-append}
 use lib.Seq.{append-snoc}
 use Rattle.plain.specs.declared.Counts.{Counts}
-use Rattle.plain.specs.Numbers.{NONE, LIMIT}
+use Rattle.plain.specs.Numbers.{NONE}
 use Rattle.plain.specs.Lists.{member, distinct, keep}
 use Rattle.plain.specs.Laws.Booleans.{true-false, both-true, refuted}
-use Rattle.plain.specs.Laws.ListLaws.{member-first, member-later, member-keep, distinct-apart}
-use Rattle.shape.specs.Columns.{cell, next-at, last-at, mark-at}
+use Rattle.plain.specs.Laws.ListLaws.{member-first, member-keep, distinct-apart}
+use Rattle.shape.specs.Columns.{cell, next-at}
 use Rattle.shape.specs.Chains.{In, Line, until}
 use Rattle.shape.specs.Shape.{adjacency-in, raw, hiding, live-in, run-list, run-of, ring-of, base-of}
 use Rattle.shape.specs.Steps.{live-entries}
-use Rattle.shape.specs.Laws.Chains.{in-front, line-stop, line-step, line-first, line-short, ring-once, until-is}
+use Rattle.shape.specs.Laws.Chains.{line-stop, line-step, line-first, line-short, ring-once, until-is}
 use Rattle.shape.specs.Laws.Frames.{base-kept, index-kept, run-kept, runs-kept, ring-of-none}
 use Rattle.shape.specs.Checked.{Rings, Index}
 use Rattle.shape.specs.Laws.Taking.{keep-append}
 use Rattle.shape.specs.Laws.Keeping.{in-keep, in-either, in-second}
 use Rattle.adjacency.specs.declared.rings.RingEnds.{RingEnds}
-use Rattle.adjacency.specs.Rings.{EndsReadable, ring-ends, Detachable, Detached}
+use Rattle.adjacency.specs.Rings.{EndsReadable, ring-ends, Detached}
 use Rattle.adjacency.specs.Rings.Laws.{ends-readable, ends-ring}
-use Rattle.relocate.specs.Runs.{Editable, Edited, Grown, Keepable}
-use Rattle.relocate.specs.Runs.Laws.{run-of-marked, edited-none, edited-again, edited-list, edited-mark, edited-new, edited-ring, edited-rings}
+use Rattle.relocate.specs.Runs.{Edited, Grown, Keepable}
+use Rattle.relocate.specs.Runs.Laws.{run-of-marked, edited-none, edited-again, edited-list, edited-mark, edited-new, edited-rings}
 use Rattle.relocate.specs.Overlay.{flags-of, Ready, Remade, Drainable, Drained}
 use Rattle.relocate.specs.Overlay.Laws.{node-same, edited-base, edited-index, edited-node, remade-run}
 

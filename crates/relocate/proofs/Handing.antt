@@ -1,9 +1,9 @@
 -- What handing a run over does: the stores of its ways, and both runs after them.
-use Prim.Native.Nat.{ℕ, _+_, _-_, _*_, _≤_, _<_, zero-le}
+use Prim.Native.Nat.{ℕ, _+_, _-_, _*_, _≤_, _<_}
 use native.Mathlib.Omega.{arith}
-use mathlib.Core.Path.{_≡_, refl, sym, ap, _∙_, subst}
-use mathlib.Core.Bool.{Bool, true, false}
-use mathlib.Core.Logic.{_⊎_, inl, inr, ⊎-elim, _≢_}
+use mathlib.Core.Path.{_≡_, refl, sym, ap, _∙_}
+use mathlib.Core.Bool.{true, false}
+use mathlib.Core.Logic.{inl, inr, _≢_}
 use mathlib.Core.List.{List, [], _∷_, _++_, append-nil, append-assoc}
 use lib.ListN.{length, getD, set, length-set, length-append}
 use lib.Seq.{getD-set-same, getD-set-other}
@@ -14,12 +14,12 @@ use Rattle.plain.specs.Lists.{member, distinct}
 use Rattle.plain.specs.Laws.Booleans.{by-test, true-false, refuted}
 use Rattle.plain.specs.Laws.ListLaws.{member-first, distinct-apart}
 use Rattle.plain.specs.Laws.Deleting.{distinct-appended}
-use Rattle.shape.specs.Columns.{cell, link-at, first-at, tail-at, count-at, mark-at}
+use Rattle.shape.specs.Columns.{cell, link-at, first-at, tail-at, count-at}
 use Rattle.shape.specs.Chains.{In, Seg, Line, Run}
 use Rattle.shape.specs.Shape.{run-list}
-use Rattle.shape.specs.Laws.Chains.{in-front, in-none, seg-append, seg-agree, line-last, line-agree, run-empty, run-line, run-short, run-below}
+use Rattle.shape.specs.Laws.Chains.{in-front, in-none, seg-append, seg-agree, line-last, line-agree, run-empty, run-line, run-short}
 use Rattle.shape.specs.Laws.Frames.{run-list-below}
-use Rattle.shape.specs.Laws.Keeping.{in-either, in-second}
+use Rattle.shape.specs.Laws.Keeping.{in-either}
 use Rattle.relocate.specs.Runs.{Editable, Edited}
 use Rattle.relocate.specs.Runs.Laws.{edited, edited-none, edited-list, edited-other}
 use Rattle.relocate.specs.Moves.{HandableOver, HandedOver}

@@ -3,7 +3,7 @@ use Prim.Native.Nat.{ℕ, _+_, _-_, _*_, _≤_, _<_}
 use native.Mathlib.Omega.{arith}
 use mathlib.Core.Path.{_≡_, refl, sym, ap, ap₂, _∙_, subst}
 use mathlib.Core.Bool.{Bool, true, false}
-use mathlib.Core.Logic.{_⊎_, inl, inr, ⊎-elim, _≢_}
+use mathlib.Core.Logic.{_⊎_, ⊎-elim, _≢_}
 use mathlib.Core.List.{List, [], _∷_, _++_, append-nil}
 use lib.ListN.{length, getD, set, length-set}
 use lib.Seq.{getD-set-same, getD-set-other, append-snoc}
@@ -13,20 +13,20 @@ use Rattle.plain.specs.declared.Counts.{Counts}
 use Rattle.plain.specs.Lists.{member, set-all}
 use Rattle.plain.specs.Laws.Booleans.{by-test, and-right}
 use Rattle.plain.specs.Laws.ListLaws.{member-first, member-keep}
-use Rattle.shape.specs.Columns.{cell, end-at, link-at, first-at, count-at, mark-at}
-use Rattle.shape.specs.Chains.{In, Run, chain}
-use Rattle.shape.specs.Shape.{adjacency-in, Adjacency, Axis, raw, live-in, run-list, ring-of, axis-of, no-adjacency}
+use Rattle.shape.specs.Columns.{cell, end-at, link-at, first-at, count-at}
+use Rattle.shape.specs.Chains.{In, chain}
+use Rattle.shape.specs.Shape.{adjacency-in, Adjacency, Axis, live-in, run-list, ring-of, axis-of, no-adjacency}
 use Rattle.shape.specs.Steps.{live-entries, taken, swept, with-run, moved-axis}
-use Rattle.shape.specs.Laws.Chains.{in-front, in-none, in-last, in-snoc, chain-none, chain-some, chain-agree, run-is}
+use Rattle.shape.specs.Laws.Chains.{in-front, in-none, in-last, in-snoc, chain-none, chain-some, run-is}
 use Rattle.shape.specs.Laws.Frames.{run-list-below}
 use Rattle.shape.specs.Laws.Taking.{keep-passing}
-use Rattle.shape.specs.Laws.Keeping.{in-keep, in-taken, in-either, in-second}
+use Rattle.shape.specs.Laws.Keeping.{in-keep, in-taken, in-second}
 use Rattle.shape.specs.Laws.Reading.{axis-adjacency}
-use Rattle.relocate.specs.Runs.{Editable, Edited, Cuttable, Retainable, Retained}
+use Rattle.relocate.specs.Runs.{Editable, Cuttable, Retainable, Retained}
 use Rattle.relocate.specs.Runs.Laws.{list-of-run, mark-of-run}
-use Rattle.relocate.specs.Overlay.{flags-of, Remade, TakenOver, Preparable, Prepared}
-use Rattle.relocate.specs.Overlay.Laws.{remade-edited, remade-run, remade-list, remade-mark, remade-other}
-use Rattle.relocate.specs.Redirects.{Linked, Relocatable, Placed, Relabelled, Relocated}
+use Rattle.relocate.specs.Overlay.{flags-of, Remade, TakenOver, Preparable}
+use Rattle.relocate.specs.Overlay.Laws.{remade-edited, remade-run, remade-list, remade-mark}
+use Rattle.relocate.specs.Redirects.{Linked, Relabelled, Relocated}
 use Rattle.relocate.specs.Redirects.Laws.{placed-ready, remade-linked, remade-axis, remade-placed, relocated-axis, relocated-checked, relabelled-node, relabelled-linked}
 use Rattle.relocate.specs.Moves.{Gathered, RunRelabelled, HandableOver, HandedOver, Movable, Met, Moved}
 use Rattle.relocate.proofs.Pushing.{run-before}

@@ -1,13 +1,13 @@
 -- The loop that finds the first power of two that is not below a number, and that it tells whether the number is one.
-use Prim.Native.Nat.{ℕ, suc, _+_, _*_, _≤_, _<_, _^_, zero-le}
+use Prim.Native.Nat.{ℕ, suc, _*_, _≤_, _<_, _^_, zero-le}
 use native.Mathlib.Nat.{two-pow-succ}
 use native.Mathlib.Omega.{arith}
 use mathlib.Core.Path.{_≡_, refl, sym, _∙_}
-use mathlib.Core.Bool.{true, false}
+use mathlib.Core.Bool.{true}
 use mathlib.Core.Logic.{⊎-elim}
 use mathlib.Core.List.{map}
 use lib.Dec.{eqb}
-use lib.Pow.{pow-mono, pow-lt}
+use lib.Pow.{pow-mono}
 use borrow.Author.Tests.{eq-eqb, eqb-true, lt-ltb}
 use Rattle.plain.specs.Numbers.{LIMIT}
 use Rattle.plain.specs.Lists.{member, from}

@@ -3,9 +3,8 @@ use Prim.Native.Nat.{ℕ}
 use mathlib.Core.Bool.{Bool}
 use mathlib.Core.List.{List}
 use Rattle.plain.specs.declared.Counts.{Counts}
-use Rattle.shape.specs.Steps.{swept}
 use Rattle.relocate.specs.Runs.{Sweepable, Swept}
-use Rattle.relocate.specs.Overlay.{flags-of, TakenOver, Preparable, Prepared}
+use Rattle.relocate.specs.Overlay.{TakenOver, Preparable, Prepared}
 use Rattle.relocate.specs.Overlay.Laws.{remade-edited, remade-list, remade-mark}
 
 module _

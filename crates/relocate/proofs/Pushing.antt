@@ -1,9 +1,9 @@
 -- What appending an entry to a run does: the stores of its two ways, and the runs after them; and appending where the entry is live.
 use Prim.Native.Nat.{ℕ, _+_, _*_, _≤_, _<_, zero-le}
 use native.Mathlib.Omega.{arith}
-use mathlib.Core.Path.{_≡_, refl, sym, ap, _∙_}
+use mathlib.Core.Path.{_≡_, refl, sym, _∙_}
 use mathlib.Core.Bool.{Bool, true, false}
-use mathlib.Core.Logic.{_⊎_, inl, inr, ⊎-elim, _≢_}
+use mathlib.Core.Logic.{_⊎_, inr, ⊎-elim, _≢_}
 use mathlib.Core.List.{List, [], _∷_, _++_, append-nil}
 use lib.ListN.{length, getD, set, length-set, length-append}
 use lib.Seq.{getD-set-same, getD-set-other}
@@ -17,7 +17,7 @@ use Rattle.shape.specs.Shape.{live-in, run-list}
 use Rattle.shape.specs.Steps.{live-entries}
 use Rattle.shape.specs.Laws.Chains.{in-snoc, line-one, line-more, line-last, run-short, run-empty, run-line}
 use Rattle.shape.specs.Laws.Frames.{run-list-below}
-use Rattle.relocate.specs.Runs.{Editable, Edited, Grown, Pushable, Keepable}
+use Rattle.relocate.specs.Runs.{Editable, Grown, Pushable, Keepable}
 use Rattle.relocate.specs.Runs.Laws.{edited, edited-none}
 
 -- the run of a node with a mark

@@ -1,32 +1,31 @@
 -- What redirecting an edge does, step by step: it leaves one run, joins another, and its end is stored.
-use Prim.Native.Nat.{ℕ, _+_, _*_, _≤_, _<_}
+use Prim.Native.Nat.{ℕ, _+_, _<_}
 use native.Mathlib.Omega.{arith}
-use mathlib.Core.Path.{_≡_, refl, sym, ap, ap₂, _∙_, subst}
-use mathlib.Core.Bool.{Bool, true, false}
-use mathlib.Core.Logic.{⊎-elim, _≢_}
+use mathlib.Core.Path.{_≡_, refl, sym, ap, _∙_, subst}
+use mathlib.Core.Bool.{Bool, true}
+use mathlib.Core.Logic.{_≢_}
 use mathlib.Core.List.{List, [], _∷_, _++_}
 use lib.ListN.{length, getD, set, length-set}
 use lib.Seq.{getD-set-same, getD-set-other}
 use lib.Dec.{eqb}
 use borrow.Author.Tests.{eqb-true, eqb-false}
 use Rattle.plain.specs.declared.Counts.{Counts}
-use Rattle.plain.specs.Lists.{member, without, set-all}
+use Rattle.plain.specs.Lists.{without, set-all}
 use Rattle.plain.specs.Laws.Booleans.{by-test, true-false}
 use Rattle.plain.specs.Laws.ListLaws.{member-first}
 use Rattle.plain.specs.Laws.Deleting.{member-gone}
 use Rattle.shape.specs.Columns.{end-at}
 use Rattle.shape.specs.Chains.{In}
-use Rattle.shape.specs.Shape.{adjacency-in, Adjacency, Axis, raw, live-in, run-list, ring-of, axis-of, no-adjacency}
-use Rattle.shape.specs.Steps.{live-entries, taken, swept, with-run, redirected-axis}
-use Rattle.shape.specs.Checked.{Rings, AxisChecked}
+use Rattle.shape.specs.Shape.{adjacency-in, Adjacency, Axis, live-in, ring-of, axis-of, no-adjacency}
+use Rattle.shape.specs.Steps.{taken, swept, with-run, redirected-axis}
 use Rattle.shape.specs.Laws.Chains.{in-none}
-use Rattle.shape.specs.Laws.Keeping.{in-either, in-edited, in-one, in-without}
+use Rattle.shape.specs.Laws.Keeping.{in-edited, in-one, in-without}
 use Rattle.shape.specs.Laws.Reading.{axis-end, axis-adjacency}
 use Rattle.relocate.specs.Runs.{Cuttable, TakenOut, Pushable, Grown}
-use Rattle.relocate.specs.Overlay.{flags-of, Ready, Remade, Preparable, Prepared}
-use Rattle.relocate.specs.Overlay.Laws.{node-same, remade-edited, remade-list, remade-mark, remade-new}
+use Rattle.relocate.specs.Overlay.{flags-of, Preparable, Prepared}
+use Rattle.relocate.specs.Overlay.Laws.{remade-edited, remade-list, remade-mark, remade-new}
 use Rattle.relocate.specs.Redirects.{Relocatable, Placed, Relabelled, Relocated, Left, Arrivable, Arrived, Redirectable, Redirected}
-use Rattle.relocate.specs.Redirects.Laws.{alive-below, placed-ready, remade-axis, remade-placed, relocated-axis, relocated-checked, remade-linked, relabelled-node, relabelled-linked}
+use Rattle.relocate.specs.Redirects.Laws.{placed-ready, remade-axis, remade-placed, relocated-axis, relocated-checked, remade-linked, relabelled-node, relabelled-linked}
 
 -- ---- leaving
 

@@ -1,27 +1,27 @@
 -- The loop that takes the dead entries out of a run: it empties the run and appends each entry again where it is live.
 use Prim.Native.Nat.{ℕ, _+_, _-_, _*_, _≤_, _<_}
 use native.Mathlib.Omega.{arith}
-use mathlib.Core.Path.{_≡_, refl, sym, ap, _∙_, subst}
+use mathlib.Core.Path.{_≡_, refl, sym, ap, _∙_}
 use mathlib.Core.Bool.{Bool, true, false}
-use mathlib.Core.Logic.{_⊎_, inl, inr, ⊎-elim, _≢_}
-use mathlib.Core.List.{List, [], _∷_, _++_, append-nil, append-assoc}
+use mathlib.Core.Logic.{inl, _≢_}
+use mathlib.Core.List.{List, [], _∷_, _++_, append-nil}
 use lib.ListN.{length, getD, set, length-set}
 use lib.Seq.{getD-set-same, getD-set-other, append-snoc}
 use Rattle.plain.specs.declared.Counts.{Counts}
-use Rattle.plain.specs.Lists.{member, distinct, keep}
+use Rattle.plain.specs.Lists.{distinct, keep}
 use Rattle.plain.specs.Laws.Booleans.{true-false}
 use Rattle.plain.specs.Laws.ListLaws.{member-first, member-later, distinct-apart}
 use Rattle.liveness.specs.Flags.{live-flags}
-use Rattle.shape.specs.Columns.{Sized, cell, link-at, first-at, count-at, mark-at}
+use Rattle.shape.specs.Columns.{cell, link-at, first-at, count-at}
 use Rattle.shape.specs.Chains.{In, chain}
 use Rattle.shape.specs.Shape.{live-in, run-list}
 use Rattle.shape.specs.Steps.{live-entries, swept, power-of-two}
-use Rattle.shape.specs.Laws.Chains.{in-none, in-front, chain-none, chain-some, chain-agree, run-is, run-once, run-short}
+use Rattle.shape.specs.Laws.Chains.{in-none, chain-none, chain-some, chain-agree, run-is, run-once, run-short}
 use Rattle.shape.specs.Laws.Frames.{run-list-below}
 use Rattle.shape.specs.Laws.Taking.{keep-append, swept-power, swept-other, swept-all}
 use Rattle.shape.specs.Laws.Keeping.{in-keep, in-second}
-use Rattle.relocate.specs.Runs.{Editable, Edited, Grown, Keepable, Retainable, Retained, Sweepable, Swept}
-use Rattle.relocate.specs.Runs.Laws.{edited, edited-none, edited-again, edited-list, edited-mark, edited-other, edited-new}
+use Rattle.relocate.specs.Runs.{Edited, Grown, Keepable, Retainable, Retained, Sweepable, Swept}
+use Rattle.relocate.specs.Runs.Laws.{edited, edited-none, edited-again, edited-list, edited-mark, edited-new}
 use Rattle.relocate.proofs.Pushing.{run-before}
 
 -- `done` is what has been looked at, and `left` entries from p on are to come.

@@ -1,35 +1,32 @@
 -- The loop that copies the live entries of a base part to an empty run, and the start of a run.
 use Prim.Native.Nat.{ℕ, suc, _+_, _-_, _*_, _≤_, _<_}
-use native.Mathlib.Nat.{le-trans, le-refl}
-use native.Mathlib.Numerals.{add-one}
 use native.Mathlib.Omega.{arith}
 use mathlib.Core.Path.{_≡_, refl, sym, ap, _∙_, subst}
-use mathlib.Core.Bool.{Bool, true, false, cond}
-use mathlib.Core.Logic.{_⊎_, inl, inr, ⊎-elim, _≢_}
+use mathlib.Core.Bool.{Bool, true}
+use mathlib.Core.Logic.{_⊎_, inl, ⊎-elim, _≢_}
 use mathlib.Core.Option.{Option, none, some}
-use mathlib.Core.List.{List, [], _∷_, _++_, map, append-nil, append-assoc}
+use mathlib.Core.List.{List, [], _∷_, _++_, append-nil}
 use lib.ListN.{length, getD, set, length-set}
 use lib.Seq.{getD-set-same, getD-set-other, append-snoc}
-use lib.Dec.{ltb}
 use borrow.Author.Tests.{lt-ltb, le-ltb}
 use Rattle.plain.specs.declared.Counts.{Counts}
-use Rattle.plain.specs.Lists.{member, distinct, keep, from}
+use Rattle.plain.specs.Lists.{keep}
 use Rattle.plain.specs.Laws.Booleans.{true-false, both-true}
-use Rattle.plain.specs.Laws.ListLaws.{member-first, member-later, member-keep, distinct-left, distinct-apart}
+use Rattle.plain.specs.Laws.ListLaws.{member-first, member-keep, distinct-left, distinct-apart}
 use Rattle.shape.specs.Columns.{cell, adjacency-at, offset-at, mark-at}
 use Rattle.shape.specs.Chains.{In}
-use Rattle.shape.specs.Shape.{adjacency-in, raw, hiding, live-in, between, base-of, run-list, run-of, ring-of}
+use Rattle.shape.specs.Shape.{adjacency-in, raw, hiding, live-in, between, base-of, run-of, ring-of}
 use Rattle.shape.specs.Steps.{live-entries, run-or-base, taken}
-use Rattle.shape.specs.Checked.{Indexed, Index}
+use Rattle.shape.specs.Checked.{Indexed}
 use Rattle.shape.specs.Laws.Chains.{in-front, in-none}
-use Rattle.shape.specs.Laws.Frames.{run-list-below, run-list-unmarked, run-of-unmarked, offset-within}
+use Rattle.shape.specs.Laws.Frames.{run-list-below, run-of-unmarked, offset-within}
 use Rattle.shape.specs.Laws.Walking.{between-none, between-some}
 use Rattle.shape.specs.Laws.Taking.{keep-append, keep-again}
 use Rattle.shape.specs.Laws.Keeping.{in-keep, in-either, in-second}
-use Rattle.relocate.specs.Runs.{Editable, Edited, Grown, Keepable}
+use Rattle.relocate.specs.Runs.{Edited, Grown, Keepable}
 use Rattle.relocate.specs.Runs.Laws.{run-of-marked, edited, edited-none, edited-again, edited-list, edited-mark, edited-new, edited-other, edited-ring, edited-rings}
 use Rattle.relocate.specs.Overlay.{flags-of, Ready, Remade, Copyable, Copied, Started, Drainable, Drained, TakenOver}
-use Rattle.relocate.specs.Overlay.Laws.{node-same, edited-base, edited-index, edited-node, edited-remade}
+use Rattle.relocate.specs.Overlay.Laws.{edited-base, edited-index, edited-remade}
 
 -- ---- copying
 

@@ -1,11 +1,11 @@
 -- What taking an entry out of a run does: the stores of its ways, and the run after them.
-use Prim.Native.Nat.{ℕ, suc, _+_, _-_, _*_, _≤_, _<_, zero-le}
+use Prim.Native.Nat.{ℕ, _+_, _-_, _*_, _<_}
 use native.Mathlib.Omega.{arith}
 use mathlib.Core.Path.{_≡_, refl, sym, ap, _∙_, subst}
-use mathlib.Core.Bool.{Bool, true, false}
+use mathlib.Core.Bool.{true, false}
 use mathlib.Core.Logic.{_⊎_, inl, inr, ⊎-elim, _≢_}
 use mathlib.Core.List.{List, [], _∷_, _++_, append-assoc}
-use lib.ListN.{length, getD, set, length-set, length-append}
+use lib.ListN.{length, getD, set, length-set}
 use lib.Seq.{getD-set-same, getD-set-other, append-snoc}
 use lib.Dec.{eqb}
 use borrow.Author.Tests.{eq-eqb, eqb-true, eqb-false}
@@ -15,13 +15,13 @@ use Rattle.plain.specs.Lists.{member, without, distinct}
 use Rattle.plain.specs.Laws.Booleans.{by-test, true-false}
 use Rattle.plain.specs.Laws.ListLaws.{member-first, member-later, distinct-head, distinct-right, distinct-apart, distinct-without, without-absent}
 use Rattle.plain.specs.Laws.Deleting.{length-deleted}
-use Rattle.shape.specs.Columns.{cell, link-at, first-at, tail-at, count-at, mark-at}
-use Rattle.shape.specs.Chains.{In, Seg, Line, Run, chain}
+use Rattle.shape.specs.Columns.{cell, link-at, first-at, tail-at, count-at}
+use Rattle.shape.specs.Chains.{In, Seg, Line, chain}
 use Rattle.shape.specs.Shape.{run-list}
-use Rattle.shape.specs.Laws.Chains.{in-front, in-last, in-none, seg-append, seg-agree, line-last, line-first, line-stop, line-step, run-is, run-once, run-empty, run-line, chain-some, line-agree}
+use Rattle.shape.specs.Laws.Chains.{in-front, in-last, in-none, seg-append, seg-agree, line-first, line-stop, line-step, run-is, run-once, run-empty, run-line, chain-some, line-agree}
 use Rattle.shape.specs.Laws.Frames.{run-list-below}
 use Rattle.shape.specs.Laws.Keeping.{in-second, in-without}
-use Rattle.relocate.specs.Runs.{Editable, Edited, before-in, Searchable, Cuttable, Unlinkable, TakenOut}
+use Rattle.relocate.specs.Runs.{Editable, before-in, Searchable, Cuttable, Unlinkable, TakenOut}
 use Rattle.relocate.specs.Runs.Laws.{edited, edited-none}
 use Rattle.relocate.proofs.Pushing.{run-before}
 use Rattle.relocate.proofs.Searching.{before-none, Split, before-split, without-middle}

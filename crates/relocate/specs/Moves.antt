@@ -1,9 +1,9 @@
 -- What a move of a node's edges to another node asks and promises, of the words of one axis at entry, `ws`, and at exit, `vs`.
-use Prim.Native.Nat.{ℕ, _+_, _*_, _≤_, _<_}
+use Prim.Native.Nat.{ℕ, _+_, _<_}
 use mathlib.Core.Path.{_≡_}
 use mathlib.Core.Bool.{Bool, true, false}
 use mathlib.Core.Logic.{_≢_}
-use mathlib.Core.List.{List, [], _∷_, _++_}
+use mathlib.Core.List.{List, [], _++_}
 use lib.ListN.{length, getD}
 use Rattle.plain.specs.declared.Counts.{Counts}
 use Rattle.shape.specs.Columns.{mark-at}

@@ -12,7 +12,7 @@ use Rattle.plain.specs.Lists.{distinct}
 use Rattle.liveness.specs.Flags.{live-flags}
 use Rattle.shape.specs.Columns.{mark-at}
 use Rattle.shape.specs.Chains.{In}
-use Rattle.shape.specs.Shape.{adjacency-in, Adjacency, raw, live-in, base-of, run-list, run-of, ring-of}
+use Rattle.shape.specs.Shape.{adjacency-in, raw, live-in, base-of, run-list, run-of, ring-of}
 use Rattle.shape.specs.Steps.{live-entries, run-or-base, taken, swept, with-run}
 use Rattle.shape.specs.Checked.{Index, Rings}
 use Rattle.relocate.specs.Runs.{Editable, Edited}

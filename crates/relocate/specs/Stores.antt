@@ -1,10 +1,10 @@
 -- Redirections and moves of a checked store: what the functions over one axis ask holds of every checked store, dead edges in foreign places included. A live edge
 -- in a run is in the walk of the run's node, so it ends there by rule 7; a removed node's run has no live edge.
-use Prim.Native.Nat.{ℕ, zero, suc, _*_, _≤_, _<_}
+use Prim.Native.Nat.{ℕ, zero, suc, _<_}
 use native.Mathlib.Nat.{not-suc-le-zero, le-of-suc-le-suc}
 use native.Mathlib.Omega.{arith}
 use mathlib.Core.Path.{_≡_, refl, sym, ap, _∙_, subst}
-use mathlib.Core.Bool.{Bool, true, false, cond, _&&_}
+use mathlib.Core.Bool.{Bool, true, false}
 use mathlib.Core.Logic.{_≢_}
 use mathlib.Core.Option.{Option, none, some}
 use mathlib.Core.List.{List, [], _∷_}
@@ -12,7 +12,6 @@ use lib.ListN.{length, getD}
 use lib.Dec.{eqb}
 use borrow.Author.Tests.{eqb-true}
 use Rattle.plain.specs.declared.TraversalDirection.{TraversalDirection}
-use Rattle.plain.specs.declared.Slots.{Slots}
 use Rattle.plain.specs.Lists.{distinct, count}
 use Rattle.plain.specs.Reads.{live-count}
 use Rattle.plain.specs.Plain.{list-of, end-of, node-flags, edge-flags}
@@ -23,8 +22,8 @@ use Rattle.plain.specs.Laws.Operating.{incident}
 use Rattle.liveness.specs.FlagLaws.{length-flags}
 use Rattle.shape.specs.Columns.{end-at}
 use Rattle.shape.specs.Chains.{In}
-use Rattle.shape.specs.Shape.{Words, Adjacency, adjacency-in, adjacency-of, hiding, raw, live-in, node-live, edge-live, axis-words, shape-of, plain-of, edge-flags-of, node-flags-of, walk-of, run-list}
-use Rattle.shape.specs.Steps.{live-entries, walk-in}
+use Rattle.shape.specs.Shape.{Words, Adjacency, adjacency-in, adjacency-of, hiding, raw, live-in, node-live, edge-live, axis-words, shape-of, plain-of, node-flags-of, walk-of, run-list}
+use Rattle.shape.specs.Steps.{live-entries}
 use Rattle.shape.specs.Checked.{Checked}
 use Rattle.shape.specs.Laws.Chains.{in-none, in-front}
 use Rattle.shape.specs.Laws.Refining.{list-is-walk}

@@ -3,25 +3,23 @@
 use Prim.Native.Nat.{ℕ, _+_, _*_, _≤_, _<_}
 use native.Mathlib.Nat.{le-trans}
 use native.Mathlib.Omega.{arith}
-use mathlib.Core.Path.{_≡_, refl, sym, ap, _∙_}
-use mathlib.Core.Bool.{Bool, true, false}
+use mathlib.Core.Path.{_≡_, refl, ap, _∙_}
 use mathlib.Core.Logic.{_≢_}
-use mathlib.Core.Option.{Option, none, some}
-use mathlib.Core.List.{List, [], _∷_, _++_}
-use lib.ListN.{length, getD}
+use mathlib.Core.Option.{some}
+use mathlib.Core.List.{List, []}
+use lib.ListN.{getD}
 use lib.Dec.{eqb}
 use borrow.Author.Tests.{eqb-true, eqb-false}
 use Rattle.plain.specs.declared.Counts.{Counts}
 use Rattle.plain.specs.Laws.Booleans.{by-test}
 use Rattle.shape.specs.Columns.{mark-at}
 use Rattle.shape.specs.Chains.{In}
-use Rattle.shape.specs.Shape.{adjacency-in, Adjacency, raw, live-in, base-of, run-list, run-of, ring-of}
-use Rattle.shape.specs.Steps.{live-entries, run-or-base, taken, with-run}
+use Rattle.shape.specs.Shape.{adjacency-in, Adjacency, base-of, run-list, run-of, ring-of}
 use Rattle.shape.specs.Checked.{Index, Rings}
 use Rattle.shape.specs.Laws.Frames.{base-kept, index-kept}
-use Rattle.relocate.specs.Runs.{Editable, Edited}
+use Rattle.relocate.specs.Runs.{Edited}
 use Rattle.relocate.specs.Runs.Laws.{same-entries, list-of-run, mark-of-run, edited-ring, edited-rings}
-use Rattle.relocate.specs.Overlay.{flags-of, Ready, Remade}
+use Rattle.relocate.specs.Overlay.{Ready, Remade}
 
 -- equal parts make equal adjacencies
 pub node-same : {a b : Adjacency} → a .base ≡ b .base → a .run ≡ b .run → a .ring ≡ b .ring → a ≡ b

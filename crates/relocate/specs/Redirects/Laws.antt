@@ -1,11 +1,11 @@
 -- Laws of axes whose edges are relocated, node after node: what an edit of one node leaves, and the axis as `axis-of` reads it after it.
-use Prim.Native.Nat.{ℕ, zero, suc, _+_, _*_, _≤_, _<_}
+use Prim.Native.Nat.{ℕ, suc, _+_, _*_, _≤_, _<_}
 use native.Mathlib.Nat.{le-refl, le-trans}
 use native.Mathlib.Omega.{arith}
 use mathlib.Core.Path.{_≡_, refl, sym, ap, _∙_, subst}
 use mathlib.Core.Bool.{Bool, true, false, cond}
 use mathlib.Core.Logic.{_≢_}
-use mathlib.Core.List.{List, [], _∷_, _++_, map}
+use mathlib.Core.List.{List, map}
 use lib.ListN.{length, getD, set, length-set, length-map}
 use lib.Seq.{ext-getD}
 use lib.Dec.{eqb}
@@ -17,14 +17,13 @@ use Rattle.plain.specs.Laws.ListLaws.{length-from}
 use Rattle.plain.specs.Laws.Deleting.{getD-set, length-set-all, getD-set-all}
 use Rattle.plain.specs.Laws.Rank.{live-below}
 use Rattle.liveness.specs.FlagLaws.{length-flags}
-use Rattle.shape.specs.Columns.{Sized, end-at, cell}
+use Rattle.shape.specs.Columns.{end-at}
 use Rattle.shape.specs.Chains.{In}
-use Rattle.shape.specs.Shape.{adjacency-in, Adjacency, Axis, raw, live-in, run-list, run-of, axis-of, no-adjacency, base-of, ring-of}
+use Rattle.shape.specs.Shape.{adjacency-in, Adjacency, Axis, raw, live-in, run-list, axis-of, no-adjacency, ring-of}
 use Rattle.shape.specs.Steps.{live-entries, with-run}
-use Rattle.shape.specs.Checked.{Index, Rings, Runs, AxisChecked}
-use Rattle.shape.specs.Laws.Frames.{run-list-below, SameRun, run-of-agree, base-of-agree, ring-of-agree, index-kept, runs-kept, rings-agree}
+use Rattle.shape.specs.Checked.{AxisChecked}
+use Rattle.shape.specs.Laws.Frames.{run-list-below, run-of-agree, base-of-agree, ring-of-agree, index-kept, runs-kept, rings-agree}
 use Rattle.shape.specs.Laws.Reading.{made-at}
-use Rattle.relocate.specs.Runs.{Editable}
 use Rattle.relocate.specs.Runs.Laws.{same-entries}
 use Rattle.relocate.specs.Overlay.{flags-of, Ready, Remade}
 use Rattle.relocate.specs.Overlay.Laws.{node-same, remade-list, remade-other}

@@ -1,24 +1,21 @@
 -- Laws of runs by their words and of edits, for those who combine them: a run and its mark, one edit after another, and that an edit leaves base parts and rings.
 use Prim.Native.Nat.{ℕ, _+_, _*_, _≤_, _<_}
-use native.Mathlib.Nat.{le-refl}
 use native.Mathlib.Omega.{arith}
 use mathlib.Core.Path.{_≡_, refl, sym, ap, _∙_}
-use mathlib.Core.Bool.{Bool, true, false, cond}
-use mathlib.Core.Logic.{_⊎_, inl, inr, ⊎-elim, _≢_}
+use mathlib.Core.Logic.{_≢_}
 use mathlib.Core.Option.{Option, none, some}
-use mathlib.Core.List.{List, [], _∷_, _++_}
+use mathlib.Core.List.{List, []}
 use lib.ListN.{length, getD}
 use lib.Dec.{eqb}
-use borrow.Author.Tests.{eq-eqb, ne-eqb, eqb-true, eqb-false}
+use borrow.Author.Tests.{ne-eqb, eqb-true, eqb-false}
 use Rattle.plain.specs.declared.Counts.{Counts}
-use Rattle.plain.specs.Numbers.{LIMIT}
 use Rattle.plain.specs.Laws.Booleans.{by-test}
-use Rattle.shape.specs.Columns.{Sized, cell, link-at, first-at, tail-at, count-at, mark-at}
+use Rattle.shape.specs.Columns.{cell, link-at, first-at, tail-at, count-at, mark-at}
 use Rattle.shape.specs.Chains.{In, Run}
-use Rattle.shape.specs.Shape.{run-list, run-of, base-of, ring-of}
-use Rattle.shape.specs.Checked.{Runs, Rings, Index}
-use Rattle.shape.specs.Laws.Chains.{run-is, run-agree, run-below}
-use Rattle.shape.specs.Laws.Frames.{SameRun, run-list-agree, run-of-agree, run-list-unmarked, run-of-unmarked, run-list-below, base-kept, index-kept, ring-kept, rings-kept}
+use Rattle.shape.specs.Shape.{run-list, run-of, ring-of}
+use Rattle.shape.specs.Checked.{Runs, Rings}
+use Rattle.shape.specs.Laws.Chains.{run-is, run-agree}
+use Rattle.shape.specs.Laws.Frames.{SameRun, run-list-agree, run-of-agree, run-list-unmarked, run-of-unmarked, ring-kept, rings-kept}
 use Rattle.relocate.specs.Runs.{Editable, Edited}
 
 -- ---- a run and its mark

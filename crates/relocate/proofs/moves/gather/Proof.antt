@@ -3,8 +3,6 @@ use borrow.Author.Needs.{needs}
 use Rattle.relocate.proofs.Moving.{gather-retain, gather-some, gather-all}
 use Rattle.relocate.proofs.moves.gather.Statement.{statement}
 use Rattle.relocate.proofs.moves.gather.Tie as tie
-use Rattle.relocate.proofs.moves.gather.Reads as reads
-use Rattle.relocate.proofs.moves.gather.Lts as lts
 
 retain-requires : tie.Need-retain-requires
 retain-requires c κs =

@@ -8,8 +8,6 @@ use Rattle.shape.specs.Columns.{tail-at, count-at}
 use Rattle.relocate.proofs.Handing.{hand-short, hand-last, hand-none, hand-first, hand-more}
 use Rattle.relocate.proofs.moves.hand_over.Statement.{statement}
 use Rattle.relocate.proofs.moves.hand_over.Tie as tie
-use Rattle.relocate.proofs.moves.hand_over.Reads as reads
-use Rattle.relocate.proofs.moves.hand_over.Lts as lts
 
 -- the place where all words are read, and the start
 abbrev start : tie.After-slice-known5 → tie.Start

@@ -3,8 +3,6 @@ use borrow.Author.Needs.{needs}
 use Rattle.relocate.proofs.Moving.{move-gather, move-prepare}
 use Rattle.relocate.proofs.moves.meet.Statement.{statement}
 use Rattle.relocate.proofs.moves.meet.Tie as tie
-use Rattle.relocate.proofs.moves.meet.Reads as reads
-use Rattle.relocate.proofs.moves.meet.Lts as lts
 
 prepare-requires : tie.Need-prepare-requires
 prepare-requires c κs =

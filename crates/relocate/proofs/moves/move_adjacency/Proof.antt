@@ -3,8 +3,6 @@ use borrow.Author.Needs.{needs}
 use Rattle.relocate.proofs.Moving.{move-relabel, move-hand, move-done}
 use Rattle.relocate.proofs.moves.move_adjacency.Statement.{statement}
 use Rattle.relocate.proofs.moves.move_adjacency.Tie as tie
-use Rattle.relocate.proofs.moves.move_adjacency.Reads as reads
-use Rattle.relocate.proofs.moves.move_adjacency.Lts as lts
 
 relabel-requires : tie.Need-relabel-requires
 relabel-requires c κs =

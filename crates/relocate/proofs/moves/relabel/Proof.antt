@@ -6,8 +6,6 @@ use lib.ListN.{length-set}
 use Rattle.relocate.proofs.Moving.{Relabelling, relabel-start, relabel-below, relabel-more, relabel-end}
 use Rattle.relocate.proofs.moves.relabel.Statement.{statement}
 use Rattle.relocate.proofs.moves.relabel.Tie as tie
-use Rattle.relocate.proofs.moves.relabel.Reads as reads
-use Rattle.relocate.proofs.moves.relabel.Lts as lts
 
 abbrev Inv-loop : tie.InvT-loop
 Inv-loop axis₀ edges nodes node new length next₀ left₀ axis next left = Relabelling axis₀ axis edges nodes node new left next

@@ -5,8 +5,6 @@ use borrow.Author.Needs.{needs}
 use Rattle.relocate.proofs.Starting.{Copying, copy-none, copy-start, copy-keep, copy-more, copy-end}
 use Rattle.relocate.proofs.overlay.copy_base.Statement.{statement}
 use Rattle.relocate.proofs.overlay.copy_base.Tie as tie
-use Rattle.relocate.proofs.overlay.copy_base.Reads as reads
-use Rattle.relocate.proofs.overlay.copy_base.Lts as lts
 
 abbrev Inv-loop : tie.InvT-loop
 Inv-loop axis₀ edges nodes counts node live base from to end at₀ axis at = Copying axis₀ axis edges nodes counts live node at end

@@ -7,8 +7,6 @@ use lib.ListN.{length}
 use Rattle.relocate.proofs.Draining.{Draining, to-come, drain-readable, drain-none, drain-start, drain-below, drain-keep, drain-more, drain-less, drain-last}
 use Rattle.relocate.proofs.overlay.drain.Statement.{statement}
 use Rattle.relocate.proofs.overlay.drain.Tie as tie
-use Rattle.relocate.proofs.overlay.drain.Reads as reads
-use Rattle.relocate.proofs.overlay.drain.Lts as lts
 
 abbrev Inv-loop : tie.InvT-loop
 Inv-loop axis₀ edges nodes counts node live last next₀ axis next = Draining axis₀ axis edges nodes counts live node last next

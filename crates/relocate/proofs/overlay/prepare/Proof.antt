@@ -3,8 +3,6 @@ use borrow.Author.Needs.{needs}
 use Rattle.relocate.proofs.Preparing.{prepare-sweep, prepare-end}
 use Rattle.relocate.proofs.overlay.prepare.Statement.{statement}
 use Rattle.relocate.proofs.overlay.prepare.Tie as tie
-use Rattle.relocate.proofs.overlay.prepare.Reads as reads
-use Rattle.relocate.proofs.overlay.prepare.Lts as lts
 
 sweep-requires : tie.Need-sweep-requires
 sweep-requires c κs =

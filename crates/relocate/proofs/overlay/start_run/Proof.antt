@@ -6,8 +6,6 @@ use lib.ListN.{length-set}
 use Rattle.relocate.proofs.Starting.{start-marked, start-copy, start-end}
 use Rattle.relocate.proofs.overlay.start_run.Statement.{statement}
 use Rattle.relocate.proofs.overlay.start_run.Tie as tie
-use Rattle.relocate.proofs.overlay.start_run.Reads as reads
-use Rattle.relocate.proofs.overlay.start_run.Lts as lts
 
 returns-2 : tie.Need-returns-2
 returns-2 c =

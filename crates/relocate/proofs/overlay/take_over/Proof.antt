@@ -3,8 +3,6 @@ use borrow.Author.Needs.{needs}
 use Rattle.relocate.proofs.Starting.{take-drain, take-end}
 use Rattle.relocate.proofs.overlay.take_over.Statement.{statement}
 use Rattle.relocate.proofs.overlay.take_over.Tie as tie
-use Rattle.relocate.proofs.overlay.take_over.Reads as reads
-use Rattle.relocate.proofs.overlay.take_over.Lts as lts
 
 drain-requires : tie.Need-drain-requires
 drain-requires c κs =

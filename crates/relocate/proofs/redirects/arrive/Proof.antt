@@ -3,8 +3,6 @@ use borrow.Author.Needs.{needs}
 use Rattle.relocate.proofs.Redirecting.{arrive-push, arrive-end}
 use Rattle.relocate.proofs.redirects.arrive.Statement.{statement}
 use Rattle.relocate.proofs.redirects.arrive.Tie as tie
-use Rattle.relocate.proofs.redirects.arrive.Reads as reads
-use Rattle.relocate.proofs.redirects.arrive.Lts as lts
 
 push-requires : tie.Need-push-requires
 push-requires c κs =

@@ -3,8 +3,6 @@ use borrow.Author.Needs.{needs}
 use Rattle.relocate.proofs.Redirecting.{leave-out, leave-end}
 use Rattle.relocate.proofs.redirects.leave.Statement.{statement}
 use Rattle.relocate.proofs.redirects.leave.Tie as tie
-use Rattle.relocate.proofs.redirects.leave.Reads as reads
-use Rattle.relocate.proofs.redirects.leave.Lts as lts
 
 take-out-requires : tie.Need-take-out-requires
 take-out-requires c κs =

@@ -5,8 +5,6 @@ use lib.ListN.{length-set}
 use Rattle.relocate.proofs.Redirecting.{redirect-same, redirect-leave, redirect-arrive, redirect-done}
 use Rattle.relocate.proofs.redirects.redirect.Statement.{statement}
 use Rattle.relocate.proofs.redirects.redirect.Tie as tie
-use Rattle.relocate.proofs.redirects.redirect.Reads as reads
-use Rattle.relocate.proofs.redirects.redirect.Lts as lts
 
 arrive-requires : tie.Need-arrive-requires
 arrive-requires c κs =

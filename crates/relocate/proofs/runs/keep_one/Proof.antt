@@ -4,10 +4,6 @@ use borrow.Author.Needs.{needs}
 use Rattle.relocate.proofs.Pushing.{keep-push, keep-live, keep-dead}
 use Rattle.relocate.proofs.runs.keep_one.Statement.{statement}
 use Rattle.relocate.proofs.runs.keep_one.Tie as tie
-use Rattle.relocate.proofs.runs.keep_one.Reads as reads
-use Rattle.relocate.proofs.runs.keep_one.Lts as lts
-use Rattle.liveness.proofs.is_live.Reads as is-live-reads
-use Rattle.relocate.proofs.runs.push.Reads as push-reads
 
 push-requires : tie.Need-push-requires
 push-requires c κs =

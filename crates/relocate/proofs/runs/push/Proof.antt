@@ -7,8 +7,6 @@ use Rattle.shape.specs.Columns.{tail-at}
 use Rattle.relocate.proofs.Pushing.{push-short, push-last, push-first, push-more}
 use Rattle.relocate.proofs.runs.push.Statement.{statement}
 use Rattle.relocate.proofs.runs.push.Tie as tie
-use Rattle.relocate.proofs.runs.push.Reads as reads
-use Rattle.relocate.proofs.runs.push.Lts as lts
 
 -- the last entry of a run that is not empty is an edge
 last-in : (c : tie.Else1) → let a = c .before .before .before .args in tail-at (a .axis .now) (a .edges) (a .nodes) (a .node) < a .edges

@@ -5,14 +5,11 @@ use native.Mathlib.Omega.{arith}
 use mathlib.Core.Path.{_≡_, _∙_}
 use mathlib.Core.List.{List}
 use borrow.Author.Needs.{needs}
-use lib.ListN.{getD, set, length-set}
+use lib.ListN.{getD, set}
 use lib.Seq.{set-set, set-getD}
 use Rattle.relocate.proofs.Retaining.{Retaining, retain-start, retain-below, retain-keep, retain-more, retain-end}
 use Rattle.relocate.proofs.runs.retain.Statement.{statement}
 use Rattle.relocate.proofs.runs.retain.Tie as tie
-use Rattle.relocate.proofs.runs.retain.Reads as reads
-use Rattle.relocate.proofs.runs.retain.Lts as lts
-use Rattle.relocate.proofs.runs.keep_one.Reads as keep-one-reads
 
 abbrev Inv-loop : tie.InvT-loop
 Inv-loop axis₀ edges nodes counts node live count left₀ next₀ axis left next = Retaining (set axis₀ count left₀) axis edges nodes counts node live left next

@@ -5,8 +5,6 @@ use borrow.Author.Tests.{not-true}
 use Rattle.relocate.proofs.Retaining.{sweep-short, sweep-none, sweep-not, sweep-some}
 use Rattle.relocate.proofs.runs.sweep.Statement.{statement}
 use Rattle.relocate.proofs.runs.sweep.Tie as tie
-use Rattle.relocate.proofs.runs.sweep.Reads as reads
-use Rattle.relocate.proofs.runs.sweep.Lts as lts
 
 returns-2 : tie.Need-returns-2
 returns-2 c =

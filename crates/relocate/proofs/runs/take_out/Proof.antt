@@ -8,8 +8,6 @@ use Rattle.shape.specs.Columns.{first-at}
 use Rattle.relocate.proofs.Unlinking.{out-empty, out-first, out-searchable, out-none, out-some, out-head}
 use Rattle.relocate.proofs.runs.take_out.Statement.{statement}
 use Rattle.relocate.proofs.runs.take_out.Tie as tie
-use Rattle.relocate.proofs.runs.take_out.Reads as reads
-use Rattle.relocate.proofs.runs.take_out.Lts as lts
 
 abbrev start : tie.Else1 → tie.Start
 start c = c .before .before .before .before

@@ -5,8 +5,6 @@ use lib.ListN.{length-set}
 use Rattle.relocate.proofs.Unlinking.{unlink-full, unlink-entry, unlink-before, unlink-last, unlink-inner}
 use Rattle.relocate.proofs.runs.unlink.Statement.{statement}
 use Rattle.relocate.proofs.runs.unlink.Tie as tie
-use Rattle.relocate.proofs.runs.unlink.Reads as reads
-use Rattle.relocate.proofs.runs.unlink.Lts as lts
 
 pub unlink-spec : {M : Type 1} → statement M
 unlink-spec =
