@@ -65,12 +65,8 @@ module _ {w : Words} (checked : Checked w) (node : ℕ) (live : getD (node-live 
       in-front e (walk-of-shape Outgoing (shape-of w) node) (walk-of-shape Incoming (shape-of w) node)
       (rw (shape-walk w Outgoing node node-below, live) (run-walked w Outgoing node e m on))
   run-incident Incoming e m on =
-      rw (
-        member-append e (walk-of-shape Outgoing (shape-of w) node) (walk-of-shape Incoming (shape-of w) node),
-        shape-walk w Incoming node node-below,
-        live,
-        run-walked w Incoming node e m on,
-      )
+      rw (member-append e (walk-of-shape Outgoing (shape-of w) node) (walk-of-shape Incoming (shape-of w) node), shape-walk w Incoming node node-below, live,
+      run-walked w Incoming node e m on)
       (or-true (member e (walk-of-shape Outgoing (shape-of w) node)))
 
   -- the store without it, from what was written
@@ -108,10 +104,10 @@ module _ {w : Words} (checked : Checked w) (node : ℕ) (live : getD (node-live 
             rings = old .rings;
             runs = old .runs;
             removed-runs = λ x e l dead m. gone .flags e ∙ by-test (getD (edge-live w) e false)
-                (λ on. by-test (eqb x node)
-                (λ t. rw (run-incident d e (rw (eqb-true x node t) at m) on) (and-false (getD (edge-live w) e false)))
-                (λ t. true-false on (old .removed-runs x e l (sym (rw t at (getD-set (node-live w) node x false false (live-below (node-live w) node live))) ∙ ap (λ (f : List Bool). getD f x false) (sym (cleared .flags)) ∙ dead) m)))
-                (λ off. rw off);
+            (λ on. by-test (eqb x node)
+            (λ t. rw (run-incident d e (rw (eqb-true x node t) at m) on) (and-false (getD (edge-live w) e false)))
+            (λ t. true-false on (old .removed-runs x e l (sym (rw t at (getD-set (node-live w) node x false false (live-below (node-live w) node live))) ∙ ap (λ (f : List Bool). getD f x false) (sym (cleared .flags)) ∙ dead) m)))
+            (λ off. rw off);
           }
 
       clear-shape : shape-of without-node ≡ acted (RemoveNode node) (shape-of w)

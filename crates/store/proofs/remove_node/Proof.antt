@@ -48,10 +48,8 @@ add-fewer c =
     let out = first back in
     let then = was out in
     let start = entry (cleared then) in
-    omega (
-      arith,
-      edges-few (start .pre) (start .args .node) (cleared then .clear .ensures) (then .if1 .taken) (out .clear-adjacency .ensures) (back .clear-adjacency2 .ensures),
-    )
+    omega (arith,
+    edges-few (start .pre) (start .args .node) (cleared then .clear .ensures) (then .if1 .taken) (out .clear-adjacency .ensures) (back .clear-adjacency2 .ensures))
 
 fewer-requires-2 : tie.Need-fewer-requires-2
 fewer-requires-2 c κs =
