@@ -1,11 +1,11 @@
 -- A store whose edges are relocated on one axis: a checked store has what crate `relocate` asks of the axis, and is checked afterwards.
-use Prim.Native.Nat.{ℕ, _<_, _≤_}
+use Prim.Native.Nat.{ℕ, _<_}
 use native.Mathlib.Omega.{arith}
 use mathlib.Core.Path.{_≡_, refl, sym, ap, subst, _∙_}
 use mathlib.Core.Bool.{Bool, true, false, not}
 use mathlib.Core.Logic.{_≢_}
 use mathlib.Core.List.{List, [], _∷_}
-use lib.ListN.{length, getD}
+use lib.ListN.{length}
 use lib.Dec.{eqb}
 use borrow.Author.Tests.{eqb-true, ne-eqb}
 use Rattle.plain.specs.declared.TraversalDirection.{TraversalDirection}
@@ -153,10 +153,10 @@ redirecting {w} {edge} {new} pre d vs done long =
     record {
       previous = done .previous;
       acts = λ other. let moved : end-at (axis-words d w) edge ≢ new = λ q. other (done .previous ∙ q) in
-      let away : end-of d (lists w) edge ≢ new = λ q. moved (sym (plain-end w d edge (alive-below (w .live-edges) (w .counts) edge (pre .alive))) ∙ q) in
-      relocated-acted k d vs (Redirect d edge new) (comes-to (redirect (rw (edge-flags-are w) (pre .alive)) (rw (node-flags-are w) (pre .new-live)) away))
-      (rw (ne-eqb (end-of d (lists w) edge) new away)) tt long (axis-shape w d vs (λ f a. redirected-axis f edge new a) (done .changed moved))
-      (done .checked (node-live w) (checked-end k d edge (pre .alive)) (pre .new-live) (k .axis d));
+          let away : end-of d (lists w) edge ≢ new = λ q. moved (sym (plain-end w d edge (alive-below (w .live-edges) (w .counts) edge (pre .alive))) ∙ q) in
+          relocated-acted k d vs (Redirect d edge new) (comes-to (redirect (rw (edge-flags-are w) (pre .alive)) (rw (node-flags-are w) (pre .new-live)) away))
+          (rw (ne-eqb (end-of d (lists w) edge) new away)) tt long (axis-shape w d vs (λ f a. redirected-axis f edge new a) (done .changed moved))
+          (done .checked (node-live w) (checked-end k d edge (pre .alive)) (pre .new-live) (k .axis d));
       keeps = λ same. same-words w d vs (done .unchanged (sym (done .previous) ∙ same));
     }
 
@@ -179,6 +179,6 @@ moving {w} {old} {new} d pre vs done long =
     record {
       counted = done .counted ∙ ap length (live-taken (edge-live w) adjacency ∙ sym walked);
       acts = relocated-acted k d vs (Move d old new) (comes-to (move (pre .apart) (rw (node-bound-is w) below) (pre .some) (rw (node-flags-are w) (pre .new-live))))
-      (rw (ne-eqb (length (list-of d (lists w) old)) 0 (λ q. pre .some (no-entries (list-of d (lists w) old) q)))) tt long
-      (axis-shape w d vs (λ f a. moved-axis f old new a) (done .axis)) (done .checked (node-live w) (pre .old-live) (pre .new-live) (k .axis d));
+          (rw (ne-eqb (length (list-of d (lists w) old)) 0 (λ q. pre .some (no-entries (list-of d (lists w) old) q)))) tt long
+          (axis-shape w d vs (λ f a. moved-axis f old new a) (done .axis)) (done .checked (node-live w) (pre .old-live) (pre .new-live) (k .axis d));
     }

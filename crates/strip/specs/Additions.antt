@@ -4,13 +4,11 @@ use mathlib.Core.Path.{_≡_, refl, sym, subst, _∙_}
 use mathlib.Core.Bool.{Bool, true, false}
 use lib.ListN.{length, getD}
 use Rattle.plain.specs.declared.Operation.the-variants.{AddNode, AddEdge, RemoveEdge, RemoveNode, SetPayload}
-use Rattle.plain.specs.declared.Slots.{Slots}
-use Rattle.plain.specs.declared.Counts.{Counts}
 use Rattle.plain.specs.Numbers.{NONE}
 use Rattle.plain.specs.Laws.Cases.{add-node-full, add-node, add-edge-source-absent, add-edge-source-removed, add-edge-target-absent, add-edge-target-removed, add-edge-full, add-edge, remove-edge-absent, remove-edge-removed, remove-edge, remove-node-absent, remove-node-removed, remove-node, set-payload-absent, set-payload}
-use Rattle.plain.specs.Laws.Booleans.{by-test, below-or-not}
+use Rattle.plain.specs.Laws.Booleans.{below-or-not}
 use mathlib.Core.Logic.{⊎-elim}
-use Rattle.shape.specs.Shape.{Words, node-live, edge-live}
+use Rattle.shape.specs.Shape.{Words, node-live}
 use Rattle.shape.specs.Checked.{Checked}
 use Rattle.store.specs.Operations.{Acted, RemovedEdge, RemovedNode}
 use Rattle.strip.specs.Faults.{fault-of, by-fault}

@@ -1,6 +1,6 @@
 -- A slot's fault: a number where it is at or above the bound, another where it is removed, 0 where it is live.
-use Prim.Native.Nat.{ℕ, suc, _≤_, _<_, _*_}
-use mathlib.Core.Path.{_≡_, refl, sym, _∙_}
+use Prim.Native.Nat.{ℕ, _≤_, _<_}
+use mathlib.Core.Path.{_≡_, refl}
 use mathlib.Core.Bool.{Bool, true, false, cond}
 use mathlib.Core.List.{List}
 use native.Mathlib.Omega.{arith}
@@ -31,3 +31,7 @@ module _ (flags : List Bool) (bound slot absent removed : ℕ) where
 -- the same for the numbers of a node
 pub no-node-fault : (flags : List Bool) (bound slot : ℕ) → fault-of flags bound slot 5 6 ≡ 0 → getD flags slot false ≡ true
 no-node-fault flags bound slot = no-fault flags bound slot 5 6 (λ q. omega arith) (λ q. omega arith)
+
+-- and of an edge
+pub no-edge-fault : (flags : List Bool) (bound slot : ℕ) → fault-of flags bound slot 7 8 ≡ 0 → getD flags slot false ≡ true
+no-edge-fault flags bound slot = no-fault flags bound slot 7 8 (λ q. omega arith) (λ q. omega arith)

@@ -1,3 +1,4 @@
 pub mod Step
 pub mod Additions
 pub mod Faults
+pub mod Relocations

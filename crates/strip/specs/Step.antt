@@ -1,21 +1,15 @@
 -- What one operation of a strip comes to on a checked store: number and value of document 01's table, the shape's own step, the store checked again; a refused
 -- operation leaves every word. The laws say it case by case.
 use Prim.Native.Nat.{ℕ, _≤_, _<_}
-use mathlib.Core.Path.{_≡_, refl, sym, ap, subst, _∙_}
+use mathlib.Core.Path.{_≡_, refl, sym, ap, _∙_}
 use mathlib.Core.Bool.{Bool, true, false, cond}
-use mathlib.Core.List.{List}
-use native.Mathlib.Omega.{arith}
 use lib.ListN.{length, getD}
-use lib.Dec.{eqb}
 use Rattle.plain.specs.declared.Operation.{Operation}
-use Rattle.plain.specs.declared.Slots.{Slots}
-use Rattle.plain.specs.declared.Counts.{Counts}
-use Rattle.plain.specs.Numbers.{NONE}
 use Rattle.plain.specs.Plain.{Plain, node-flags, edge-flags, node-bound, edge-bound}
-use Rattle.plain.specs.Step.{Capacities, Outcome, refused, unchanged, step}
+use Rattle.plain.specs.Step.{Outcome, step}
 use Rattle.plain.specs.Laws.Cases.{Absent, Removed, Live, Case, comes-to}
 use Rattle.liveness.specs.FlagLaws.{length-flags}
-use Rattle.shape.specs.Shape.{Words, capacities, node-live, edge-live, shape-of, plain-of, node-flags-of, edge-flags-of}
+use Rattle.shape.specs.Shape.{Words, capacities, node-live, edge-live, shape-of, plain-of}
 use Rattle.shape.specs.Checked.{Checked}
 use Rattle.shape.specs.Steps.{acted, acts, shape-step}
 use Rattle.shape.specs.Laws.Reading.{node-flags-are, edge-flags-are, node-bound-is, edge-bound-is}

@@ -1,10 +1,11 @@
 // One operation on a checked store, with document 01's refusals in their order, and the strip.
 
 use plain::Counts;
+use plain::TraversalDirection;
 ghost use mathlib.Core.Path.{_≡_};
 ghost use Prim.Native.Nat.{_*_, _≤_};
 ghost use lib.ListN.{length};
-ghost use Rattle.plain.specs.declared.Operation.the-variants.{AddNode, AddEdge, RemoveEdge, RemoveNode, SetPayload};
+ghost use Rattle.plain.specs.declared.Operation.the-variants.{AddNode, AddEdge, RemoveEdge, RemoveNode, Redirect, SetPayload};
 ghost use Rattle.shape.specs.Checked.{Checked};
 ghost use Rattle.store.specs.Operations.{store};
 ghost use Rattle.liveness.specs.Flags.{live-flags};
@@ -220,6 +221,62 @@ pub fn remove_node(
         number: 0,
         value: 0,
         counts: after,
+    }
+}
+
+// "Redirect: 4, 7, 8, 5, 6."
+pub fn redirect(
+    counts: Counts,
+    nodes: &[u32],
+    edges: &[u32],
+    live_nodes: &[u64],
+    live_edges: &[u64],
+    outgoing: &mut [u32],
+    incoming: &mut [u32],
+    direction: TraversalDirection,
+    edge: u32,
+    node: u32,
+) -> Stepped
+    requires { ⌜ Checked (store counts (now nodes) (now edges) (now «live_nodes») (now «live_edges») (now outgoing) (now incoming)) ⌝ }
+    ensures { λ r. ⌜ StepOf (Redirect direction edge node)
+        (store counts (now (nodes .entry)) (now (edges .entry)) (now («live_nodes» .entry)) (now («live_edges» .entry)) (now (outgoing .entry)) (now (incoming .entry)))
+        (store (r .counts) (now (nodes .exit)) (now (edges .exit)) (now («live_nodes» .exit)) (now («live_edges» .exit)) (now (outgoing .exit)) (now (incoming .exit)))
+        (r .number) (r .value) ⌝ }
+{
+    let others = counts.nodes;
+    let slots = counts.edges;
+    let missing = fault(live_edges, slots.bound, edge, 7, 8);
+    if missing != 0 {
+        return Stepped {
+            number: missing,
+            value: plain::NONE,
+            counts,
+        };
+    }
+    let to = fault(live_nodes, others.bound, node, 5, 6);
+    if to != 0 {
+        return Stepped {
+            number: to,
+            value: plain::NONE,
+            counts,
+        };
+    }
+    let previous = store::redirect(
+        counts,
+        nodes,
+        edges,
+        live_nodes,
+        live_edges,
+        outgoing,
+        incoming,
+        direction,
+        edge,
+        node,
+    );
+    Stepped {
+        number: 0,
+        value: previous,
+        counts,
     }
 }
 

@@ -1,14 +1,13 @@
 -- Rule 2 by what counting the live slots answers.
 use Prim.Native.Nat.{ℕ}
-use mathlib.Core.Path.{_≡_, refl, sym}
-use mathlib.Core.Bool.{Bool, true, false}
+use mathlib.Core.Path.{_≡_}
+use mathlib.Core.Bool.{false}
 use mathlib.Core.List.{List}
 use native.Mathlib.Omega.{arith}
 use lib.Dec.{eqb}
 use Rattle.plain.specs.declared.Slots.{Slots}
 use Rattle.plain.specs.Reads.{live-count}
 use Rattle.plain.specs.Laws.Booleans.{by-test}
-use Rattle.liveness.specs.declared.Counted.{Counted}
 use Rattle.liveness.specs.declared.Counted.the-variants.{Live, Unpacked}
 use Rattle.liveness.specs.Flags.{live-flags, packed, counted}
 use Rattle.shape.specs.Rules.{live-agrees}

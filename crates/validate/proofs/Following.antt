@@ -1,7 +1,7 @@
 -- Following a list of entries and marking each, up to the first that does not pass.
 use Prim.Native.Nat.{ℕ}
 use mathlib.Core.Path.{_≡_, refl, sym, ap, _∙_}
-use mathlib.Core.Bool.{Bool, true, false, _&&_, _||_, false≢true}
+use mathlib.Core.Bool.{Bool, true, false, _||_, false≢true}
 use mathlib.Core.List.{List, [], _∷_}
 use lib.ListN.{length}
 use lib.Dec.{eqb}

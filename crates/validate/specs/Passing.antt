@@ -1,10 +1,9 @@
 -- Tests one after the other, and a loop over slots that stops at the first that fails a test: what is still to be answered from each place on.
 use Prim.Native.Nat.{ℕ, suc, _+_, _-_, _≤_, _<_}
-use mathlib.Core.Path.{_≡_, refl, sym, ap, _∙_}
+use mathlib.Core.Path.{_≡_, sym, ap, _∙_}
 use mathlib.Core.Bool.{Bool, true, false, _&&_, not}
 use mathlib.Core.List.{List, _∷_, []}
 use native.Mathlib.Omega.{arith}
-use lib.Dec.{ltb}
 use borrow.Author.Tests.{not-true, not-false, ltb-true}
 use Rattle.plain.specs.Lists.{member, all, from}
 use Rattle.plain.specs.Laws.Booleans.{same-truth}

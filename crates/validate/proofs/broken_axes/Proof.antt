@@ -1,5 +1,5 @@
 -- `validate::broken_axes` meets its contract: the ends, the index and the rings of both directions, and then what is left.
-use mathlib.Core.Path.{_≡_, _∙_}
+use mathlib.Core.Path.{_≡_}
 use mathlib.Core.Bool.{true}
 use lib.ListN.{length}
 use Rattle.plain.specs.declared.TraversalDirection.{TraversalDirection}

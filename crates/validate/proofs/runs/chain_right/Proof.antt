@@ -1,7 +1,7 @@
 -- `validate::runs::chain_right` meets its contract. The loop's invariant: the entries from e on are still to be followed, those before are marked. The measure is
 -- the number of entries left.
 use Prim.Native.Nat.{_*_, _<_}
-use mathlib.Core.Path.{_≡_, refl, sym, _∙_}
+use mathlib.Core.Path.{_≡_, refl, _∙_}
 use mathlib.Core.Bool.{true}
 use native.Mathlib.Omega.{arith}
 use borrow.Author.Needs.{needs}

@@ -1,5 +1,5 @@
 -- `validate::runs::entry_right` meets its contract: the tests one after the other.
-use mathlib.Core.Path.{refl, ap}
+use mathlib.Core.Path.{ap}
 use mathlib.Core.Bool.{not}
 use borrow.Author.Needs.{needs}
 use borrow.Author.Tests.{lt-ltb, le-ltb}

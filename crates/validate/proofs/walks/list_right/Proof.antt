@@ -1,8 +1,7 @@
 -- `validate::walks::list_right` meets its contract. The loop's invariant: the entries that the cursor has left are still to be followed, those before are marked.
 -- The measure is how many are left.
 use Prim.Native.Nat.{_<_}
-use mathlib.Core.Path.{_≡_, _∙_}
-use mathlib.Core.Bool.{true}
+use mathlib.Core.Path.{_∙_}
 use native.Mathlib.Omega.{arith}
 use borrow.Author.Needs.{needs}
 use borrow.Author.Tests.{eq-eqb, ne-eqb, not-true, not-false}

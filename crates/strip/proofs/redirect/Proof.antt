@@ -1,0 +1,55 @@
+-- `strip::redirect` meets its contract: the faults of the edge and of the node, then the store's redirection.
+use mathlib.Core.Path.{sym, _∙_}
+use borrow.Author.Needs.{needs}
+use Rattle.strip.specs.Faults.{no-edge-fault, no-node-fault}
+use Rattle.strip.specs.Relocations.{edge-fault, node-fault, edge-redirected}
+use Rattle.strip.proofs.redirect.Statement.{statement}
+use Rattle.strip.proofs.redirect.Tie as tie
+
+-- the entry, and the places on the way
+abbrev entry : tie.After-slots → tie.Start
+entry c = c .before .before .before .before .before .before .before .before
+
+abbrev start : tie.Else1 → tie.Start
+start c = entry (c .before .before)
+
+abbrev called : tie.After-slice-known4 → tie.After-redirect
+called c = c .before .before .before .before
+
+returns : tie.Need-returns
+returns c =
+    let s = entry (c .before .before) in
+    let e = c .before .fault .ensures in
+    rw e (edge-fault (s .pre) (s .args .direction) (s .args .edge) (s .args .node) (λ q. c .if1 .taken (e ∙ q)))
+
+returns-2 : tie.Need-returns-2
+returns-2 c =
+    let first = c .before .before in
+    let s = start first in
+    let e = c .before .fault2 .ensures in
+    rw e (node-fault (s .pre) (s .args .direction) (s .args .edge) (s .args .node) (no-edge-fault _ _ _ (sym (first .before .fault .ensures) ∙ first .if1 .left))
+    (λ q. c .if2 .taken (e ∙ q)))
+
+redirect-requires : tie.Need-redirect-requires
+redirect-requires c κs =
+    let second = c .before .before in
+    let first = second .before .before in
+    record {
+      checked = start first .pre;
+      alive = no-edge-fault _ _ _ (sym (first .before .fault .ensures) ∙ first .if1 .left);
+      new-live = no-node-fault _ _ _ (sym (second .before .fault2 .ensures) ∙ second .if2 .left);
+    }
+
+returns-3 : tie.Need-returns-3
+returns-3 c =
+    let call = called c in
+    let second = call .before .before .before in
+    let first = second .before .before in
+    let s = start first in
+    edge-redirected (s .pre) (s .args .direction) (s .args .edge) (s .args .node) (no-edge-fault _ _ _ (sym (first .before .fault .ensures) ∙ first .if1 .left))
+    (no-node-fault _ _ _ (sym (second .before .fault2 .ensures) ∙ second .if2 .left)) (call .redirect .ensures)
+
+pub redirect-spec : {M : Type 1} → statement M
+redirect-spec =
+    tie.close
+    (tie.spec (λ c κs. search needs) returns (λ c κs. search needs) returns-2 redirect-requires (λ c. search needs) (λ c. search needs) returns-3)

@@ -1,0 +1,54 @@
+-- The ways that a redirection ends, each by what the program has tested.
+use Prim.Native.Nat.{ℕ, _<_}
+use mathlib.Core.Path.{_≡_, refl, sym, subst, _∙_}
+use mathlib.Core.Bool.{true, false}
+use lib.ListN.{getD}
+use lib.Dec.{eqb}
+use borrow.Author.Tests.{eqb-true, eqb-false, eq-eqb, ne-eqb}
+use Rattle.plain.specs.declared.TraversalDirection.{TraversalDirection}
+use Rattle.plain.specs.declared.Operation.the-variants.{Redirect}
+use Rattle.plain.specs.Numbers.{NONE}
+use Rattle.plain.specs.Plain.{end-of}
+use Rattle.plain.specs.Laws.Booleans.{by-test}
+use Rattle.plain.specs.Laws.Cases.{redirect-edge-absent, redirect-edge-removed, redirect-node-absent, redirect-node-removed, redirect-same, redirect}
+use Rattle.plain.specs.Laws.Rank.{live-below}
+use Rattle.liveness.specs.FlagLaws.{length-flags}
+use Rattle.shape.specs.Shape.{Words, node-live, edge-live}
+use Rattle.shape.specs.Checked.{Checked}
+use Rattle.shape.specs.Laws.Reading.{plain-end}
+use Rattle.store.specs.Operations.{RedirectedEdge}
+use Rattle.strip.specs.Faults.{fault-of, by-fault}
+use Rattle.strip.specs.Step.{StepOf, lists, absent-node, live-node, removed-node, absent-edge, live-edge, removed-edge, stays, done}
+
+module _ {w : Words} (c : Checked w) (d : TraversalDirection) (edge node : ℕ) where
+  pub edge-fault : let number = fault-of (edge-live w) (w .counts .edges .bound) edge 7 8 in (number ≡ 0 → ⊥) → StepOf (Redirect d edge node) w w number NONE
+  edge-fault =
+      by-fault (edge-live w) (w .counts .edges .bound) edge 7 8 (λ n. StepOf (Redirect d edge node) w w n NONE)
+      (λ h. stays c (redirect-edge-absent (absent-edge w edge h)) refl) (λ l h. stays c (redirect-edge-removed (removed-edge w edge l h)) refl)
+
+  module _ (alive : getD (edge-live w) edge false ≡ true) where
+    pub node-fault : let number = fault-of (node-live w) (w .counts .nodes .bound) node 5 6 in (number ≡ 0 → ⊥) → StepOf (Redirect d edge node) w w number NONE
+    node-fault =
+        by-fault (node-live w) (w .counts .nodes .bound) node 5 6 (λ n. StepOf (Redirect d edge node) w w n NONE)
+        (λ h. stays c (redirect-node-absent (live-edge w edge alive) (absent-node w node h)) refl)
+        (λ l h. stays c (redirect-node-removed (live-edge w edge alive) (removed-node w node l h)) refl)
+
+    -- done: the value is the end before, and the same end changes nothing
+    pub edge-redirected : {v : Words} {answer : ℕ} → getD (node-live w) node false ≡ true → RedirectedEdge d edge node w answer v
+        → StepOf (Redirect d edge node) w v 0 answer
+    edge-redirected {v} {answer} on r =
+        by-test (eqb answer node)
+        (λ t. let same = eqb-true answer node t in
+        subst (λ (u : Words). StepOf (Redirect d edge node) w u 0 answer) (sym (r .keeps same))
+        (subst (λ (n : ℕ). StepOf (Redirect d edge node) w w 0 n) is
+        (stays c (redirect-same (live-edge w edge alive) (live-node w node on) (is ∙ same)) (rw (eq-eqb (end-of d (lists w) edge) node (is ∙ same))))))
+        (λ t. let other = eqb-false answer node t in
+        subst (λ (n : ℕ). StepOf (Redirect d edge node) w v 0 n) is
+        (done (redirect (live-edge w edge alive) (live-node w node on) (λ q. other (sym is ∙ q)))
+        (rw (ne-eqb (end-of d (lists w) edge) node (λ q. other (sym is ∙ q)))) refl (r .acts other)))
+      where
+        below : edge < w .counts .edges .bound
+        below = rw (← length-flags (w .live-edges) (w .counts .edges .bound)) (live-below (edge-live w) edge alive)
+
+        is : end-of d (lists w) edge ≡ answer
+        is = plain-end w d edge below ∙ sym (r .previous)
