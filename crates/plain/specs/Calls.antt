@@ -113,6 +113,7 @@ compacting none s =
     }
 
 -- "1, then 2 in that order", of the lengths of the three lent slices. "Dead slots are usable again afterwards": the bounds are then the counts.
+-- "Compaction works as `Graph::compact`."
 unfoldable pub compaction : State → ℕ → ℕ → ℕ → Compacted
 compaction s node-map edge-map work = compacting (first-short (compaction-slices (s .lists) node-map edge-map work)) s
 

@@ -11,7 +11,8 @@ pub record Slice : Type 0 where
   pub needs : ℕ
   pub has : ℕ
 
--- "2 names the first in the entry's parameter order": the length that it needs
+-- "Where several slices are too short and no order is given, 2 names the first in the entry's parameter order, which docs/ lists with the length that each slice
+-- needs": that length.
 unfoldable pub first-short : List Slice → Option ℕ
 first-short [] = none
 first-short (s ∷ slices) = cond (leb (s .needs) (s .has)) (first-short slices) (some (s .needs))

@@ -15,8 +15,8 @@ operation-words = 4
 unfoldable pub unused : ℕ → ℕ → Operation → Operation
 unused a b operation = cond (eqb a 0 && eqb b 0) operation Unknown
 
--- "1 add node (payload); 2 add edge (source, target, payload); 3 remove edge (first); 4 remove node (first); 5 redirect source and 6 redirect target
--- (edge, node); 7 move out-list and 8 move in-list (old, new); 9 set edge payload (edge; removed edges too)."
+-- "The port decides on the code of an operation, 1 to 9: 1 add node (payload); 2 add edge (source, target, payload); 3 remove edge (first); 4 remove node
+-- (first); 5 redirect source and 6 redirect target (edge, node); 7 move out-list and 8 move in-list (old, new); 9 set edge payload (edge; removed edges too)."
 unfoldable pub decoded : ℕ → ℕ → ℕ → ℕ → Operation
 decoded code first second payload =
     cond (eqb code 1) (unused first second (AddNode payload))
