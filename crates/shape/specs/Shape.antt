@@ -69,6 +69,18 @@ pub record Words : Type 0 where
   pub outgoing : List ℕ
   pub incoming : List ℕ
 
+-- a store from its counts and its six slices, in parameter order
+abbrev pub store : Counts → List ℕ → List ℕ → List ℕ → List ℕ → List ℕ → List ℕ → Words
+store counts nodes edges live-nodes live-edges outgoing incoming = record {
+  counts = counts;
+  nodes = nodes;
+  edges = edges;
+  live-nodes = live-nodes;
+  live-edges = live-edges;
+  outgoing = outgoing;
+  incoming = incoming;
+}
+
 abbrev pub capacities : Words → Capacities
 capacities w = record { nodes = length (w .nodes); edges = length (w .edges) }
 
@@ -164,6 +176,10 @@ plain-by list s = record {
 -- the plain lists of a shape: each node's list is its walk
 unfoldable pub plain-of : Shape → Plain
 plain-of s = plain-by (walk-of (edge-flags-of s)) s
+
+-- the plain lists of a store
+abbrev pub lists : Words → Plain
+lists w = plain-of (shape-of w)
 
 -- ---- what compaction sees
 

@@ -15,13 +15,13 @@ use Rattle.plain.specs.Laws.WellFormed.{WellFormed}
 use Rattle.liveness.specs.Flags.{live-flags}
 use Rattle.liveness.specs.WordFlags.{count-le}
 use Rattle.liveness.specs.Calls.{Pushed, Cleared}
-use Rattle.shape.specs.Shape.{Words, Shape, capacities, shape-of, plain-of}
+use Rattle.shape.specs.Shape.{Words, Shape, capacities, shape-of, plain-of, lists}
 use Rattle.shape.specs.Checked.{LiveRight, Checked}
 use Rattle.shape.specs.Steps.{acted, acts, shape-step}
 use Rattle.shape.specs.Laws.CheckedShape.{checked-proper}
 use Rattle.shape.specs.Laws.Stepping.{step-refines}
 use Rattle.shape.specs.Laws.Keeping.{step-proper}
-use Rattle.store.specs.Operations.{lists, SameLengths, Acted, one-more, fewer}
+use Rattle.store.specs.Operations.{SameLengths, Acted, one-more, fewer}
 
 -- two shapes with the same parts
 pub shape-ext : {s t : Shape} → s .nodes ≡ t .nodes → s .edges ≡ t .edges → s .base-nodes ≡ t .base-nodes → s .base-edges ≡ t .base-edges

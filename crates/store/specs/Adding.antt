@@ -14,13 +14,13 @@ use Rattle.plain.specs.Laws.Cases.{comes-to, add-node, add-edge}
 use Rattle.plain.specs.Laws.Rank.{live-below}
 use Rattle.liveness.specs.Calls.{Pushed}
 use Rattle.liveness.specs.FlagLaws.{length-flags}
-use Rattle.shape.specs.Shape.{Words, capacities, node-live, edge-live, axis-words, axis-of, shape-of, plain-of}
+use Rattle.shape.specs.Shape.{Words, capacities, node-live, edge-live, axis-words, axis-of, shape-of, plain-of, store, lists}
 use Rattle.shape.specs.Checked.{AxisChecked}
 use Rattle.shape.specs.Steps.{appended, acted}
 use Rattle.shape.specs.Laws.Reading.{node-bound-is, edge-bound-is, node-flags-are}
 use Rattle.adjacency.specs.Rings.{Openable, Opened, Appendable, Appended}
 use Rattle.store.specs.Made.{slots-more}
-use Rattle.store.specs.Operations.{store, lists, SameLengths, Acted, one-more, with-nodes, with-edges, Raisable, NodeAddable, EdgeAddable}
+use Rattle.store.specs.Operations.{SameLengths, Acted, one-more, with-nodes, with-edges, Raisable, NodeAddable, EdgeAddable}
 use Rattle.store.specs.Axes.{opened-axis, opened-checked, appended-axis, appended-checked}
 use Rattle.store.specs.Acting.{shape-ext, acted-walks, live-within, pushed-right}
 

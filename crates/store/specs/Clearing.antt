@@ -20,7 +20,7 @@ use Rattle.plain.specs.Laws.Deleting.{getD-set}
 use Rattle.plain.specs.Laws.Rank.{live-below}
 use Rattle.liveness.specs.Calls.{Cleared}
 use Rattle.liveness.specs.FlagLaws.{length-flags}
-use Rattle.shape.specs.Shape.{Words, node-live, edge-live, axis-words, axis-of, shape-of, plain-of}
+use Rattle.shape.specs.Shape.{Words, node-live, edge-live, axis-words, axis-of, shape-of, plain-of, store}
 use Rattle.shape.specs.Checked.{AxisChecked, Checked}
 use Rattle.shape.specs.Steps.{acted, walk-in as walk-of-shape}
 use Rattle.shape.specs.Laws.Reading.{made-at, node-flags-are}
@@ -28,7 +28,7 @@ use Rattle.adjacency.specs.Walk.{walk-in}
 use Rattle.adjacency.specs.Clear.{Retired, Clearable}
 use Rattle.adjacency.specs.StoreClears.{checked-clearable, retired-slots, retired-within, retired-right, node-retired, node-dead}
 use Rattle.store.specs.Made.{slots-set}
-use Rattle.store.specs.Operations.{store, SameLengths, Acted, RemovedNode, fewer}
+use Rattle.store.specs.Operations.{SameLengths, Acted, RemovedNode, fewer}
 use Rattle.store.specs.Acting.{shape-ext, acted-walks, live-within, some-live, cleared-right}
 
 -- a node slot by its payload and its flag

@@ -18,12 +18,12 @@ use Rattle.plain.specs.Laws.Deleting.{getD-set}
 use Rattle.plain.specs.Laws.Rank.{live-below}
 use Rattle.liveness.specs.Calls.{Cleared}
 use Rattle.liveness.specs.FlagLaws.{length-flags}
-use Rattle.shape.specs.Shape.{Words, capacities, node-live, edge-live, axis-words, axis-of, shape-of, plain-of}
+use Rattle.shape.specs.Shape.{Words, capacities, node-live, edge-live, axis-words, axis-of, shape-of, plain-of, store, lists}
 use Rattle.shape.specs.Checked.{AxisChecked, Checked}
 use Rattle.shape.specs.Steps.{retired, acted}
 use Rattle.shape.specs.Laws.Reading.{made-at, edge-bound-is, edge-flags-are}
 use Rattle.store.specs.Made.{slots-set}
-use Rattle.store.specs.Operations.{store, lists, SameLengths, Acted, RemovedEdge, fewer, with-edges, PayloadSettable}
+use Rattle.store.specs.Operations.{SameLengths, Acted, RemovedEdge, fewer, with-edges, PayloadSettable}
 use Rattle.store.specs.Acting.{shape-ext, acted-walks, some-live, cleared-right}
 
 -- an edge slot by its payload and its flag

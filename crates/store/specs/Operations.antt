@@ -12,28 +12,12 @@ use Rattle.plain.specs.declared.Operation.the-variants.{RemoveEdge, RemoveNode,
 use Rattle.plain.specs.declared.TraversalDirection.{TraversalDirection}
 use Rattle.plain.specs.declared.Slots.{Slots}
 use Rattle.plain.specs.declared.Counts.{Counts}
-use Rattle.plain.specs.Plain.{Plain, list-of}
+use Rattle.plain.specs.Plain.{list-of}
 use Rattle.plain.specs.Numbers.{LIMIT}
 use Rattle.shape.specs.Columns.{end-at}
-use Rattle.shape.specs.Shape.{Words, node-live, edge-live, axis-words, shape-of, plain-of}
+use Rattle.shape.specs.Shape.{Words, node-live, edge-live, axis-words, shape-of, lists}
 use Rattle.shape.specs.Checked.{Checked}
 use Rattle.shape.specs.Steps.{acted}
-
--- a store from its counts and its six slices, in parameter order
-abbrev pub store : Counts → List ℕ → List ℕ → List ℕ → List ℕ → List ℕ → List ℕ → Words
-store counts nodes edges live-nodes live-edges outgoing incoming = record {
-  counts = counts;
-  nodes = nodes;
-  edges = edges;
-  live-nodes = live-nodes;
-  live-edges = live-edges;
-  outgoing = outgoing;
-  incoming = incoming;
-}
-
--- the plain lists of a store
-abbrev pub lists : Words → Plain
-lists w = plain-of (shape-of w)
 
 -- Every slice is as long as it was.
 pub record SameLengths (w v : Words) : Type 0 where

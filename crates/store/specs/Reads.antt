@@ -13,10 +13,9 @@ use Rattle.plain.specs.Plain.{NodeSlot, EdgeSlot, no-node, no-edge, end-of}
 use Rattle.plain.specs.Reads.{answered, yes-or-no, no-record, node-payload, edge-record, live-edge-record, contains-node, contains-edge}
 use Rattle.plain.specs.Laws.CallCases.{node-payload-absent, node-payload-there, edge-record-absent, edge-record-there, live-edge-record-absent, live-edge-record-removed, live-edge-record-there, contains-node-is, contains-edge-is}
 use Rattle.liveness.specs.FlagLaws.{length-flags}
-use Rattle.shape.specs.Shape.{Words, Axis, node-live, edge-live, axis-words, shape-of, plain-of}
+use Rattle.shape.specs.Shape.{Words, Axis, node-live, edge-live, axis-words, shape-of, plain-of, lists}
 use Rattle.shape.specs.Laws.Reading.{made-at, node-bound-is, edge-bound-is, node-flags-are, edge-flags-are, axis-is, axis-end}
 use Rattle.shape.specs.Checked.{Checked}
-use Rattle.store.specs.Operations.{lists}
 
 module _ (w : Words) where
   -- the payload of a node slot

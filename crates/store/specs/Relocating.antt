@@ -20,7 +20,7 @@ use Rattle.plain.specs.Laws.Rank.{live-below}
 use Rattle.plain.specs.Laws.Stepping.{Fitting}
 use Rattle.liveness.specs.FlagLaws.{length-flags}
 use Rattle.shape.specs.Columns.{end-at}
-use Rattle.shape.specs.Shape.{Words, Axis, capacities, node-live, edge-live, axis-words, axis-of, axis-in, edge-flags-of, live-in, raw, walk-of, adjacency-in, shape-of, plain-of}
+use Rattle.shape.specs.Shape.{Words, Axis, capacities, node-live, edge-live, axis-words, axis-of, axis-in, edge-flags-of, live-in, raw, walk-of, adjacency-in, shape-of, plain-of, lists}
 use Rattle.shape.specs.Checked.{AxisChecked, Checked}
 use Rattle.shape.specs.Steps.{live-entries, acted, acts, with-axis, redirected-axis, moved-axis}
 use Rattle.shape.specs.Laws.Reading.{node-bound-is, node-flags-are, edge-flags-are, plain-end}
@@ -31,7 +31,7 @@ use Rattle.relocate.specs.Redirects.{Redirectable, Redirected}
 use Rattle.relocate.specs.Redirects.Laws.{alive-below}
 use Rattle.relocate.specs.Moves.{Movable, Moved}
 use Rattle.relocate.specs.Stores.{checked-redirectable, checked-movable, checked-end, checked-all-live}
-use Rattle.store.specs.Operations.{lists, SameLengths, Acted, RedirectedEdge, MovedEdges, EdgeRedirectable, EdgesMovable}
+use Rattle.store.specs.Operations.{SameLengths, Acted, RedirectedEdge, MovedEdges, EdgeRedirectable, EdgesMovable}
 use Rattle.store.specs.Acting.{shape-ext, acted-walks}
 
 -- ---- what crate `relocate` asks

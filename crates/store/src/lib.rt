@@ -16,7 +16,8 @@ ghost use Prim.Native.Nat.{_≤_};
 ghost use mathlib.Core.Path.{_≡_};
 ghost use Rattle.plain.specs.declared.Operation.the-variants.{AddNode, AddEdge, SetPayload};
 ghost use Rattle.shape.specs.Checked.{Checked};
-ghost use Rattle.store.specs.Operations.{store, Acted, RemovedEdge, RemovedNode, RedirectedEdge, MovedEdges, Raisable, one-more as raised, fewer as lowered, NodeAddable, EdgeAddable, EdgeRedirectable, EdgesMovable, PayloadSettable};
+ghost use Rattle.shape.specs.Shape.{store};
+ghost use Rattle.store.specs.Operations.{Acted, RemovedEdge, RemovedNode, RedirectedEdge, MovedEdges, Raisable, one-more as raised, fewer as lowered, NodeAddable, EdgeAddable, EdgeRedirectable, EdgesMovable, PayloadSettable};
 
 // What removing answers: the counts, and whether something live was there.
 pub struct Removal {

@@ -9,7 +9,7 @@ ghost use mathlib.Core.Path.{_≡_};
 ghost use Rattle.plain.specs.Numbers.{NONE as none};
 ghost use Rattle.plain.specs.Reads.{no-record, node-payload, edge-record, live-edge-record, contains-node, contains-edge, yes-or-no as answer-of};
 ghost use Rattle.shape.specs.Checked.{Checked};
-ghost use Rattle.store.specs.Operations.{store, lists};
+ghost use Rattle.shape.specs.Shape.{store, lists};
 
 // The numbers of document 01's table that these reads answer.
 const OUT_OF_RANGE_NODE: u32 = 5;

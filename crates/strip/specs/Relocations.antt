@@ -13,12 +13,12 @@ use Rattle.plain.specs.Laws.Booleans.{by-test}
 use Rattle.plain.specs.Laws.Cases.{redirect-edge-absent, redirect-edge-removed, redirect-node-absent, redirect-node-removed, redirect-same, redirect}
 use Rattle.plain.specs.Laws.Rank.{live-below}
 use Rattle.liveness.specs.FlagLaws.{length-flags}
-use Rattle.shape.specs.Shape.{Words, node-live, edge-live}
+use Rattle.shape.specs.Shape.{Words, node-live, edge-live, lists}
 use Rattle.shape.specs.Checked.{Checked}
 use Rattle.shape.specs.Laws.Reading.{plain-end}
 use Rattle.store.specs.Operations.{RedirectedEdge}
 use Rattle.strip.specs.Faults.{fault-of, by-fault}
-use Rattle.strip.specs.Step.{StepOf, lists, absent-node, live-node, removed-node, absent-edge, live-edge, removed-edge, stays, done}
+use Rattle.strip.specs.Step.{StepOf, absent-node, live-node, removed-node, absent-edge, live-edge, removed-edge, stays, done}
 
 module _ {w : Words} (c : Checked w) (d : TraversalDirection) (edge node : ℕ) where
   pub edge-fault : let number = fault-of (edge-live w) (w .counts .edges .bound) edge 7 8 in (number ≡ 0 → ⊥) → StepOf (Redirect d edge node) w w number NONE

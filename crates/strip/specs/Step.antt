@@ -5,19 +5,15 @@ use mathlib.Core.Path.{_≡_, refl, sym, ap, _∙_}
 use mathlib.Core.Bool.{Bool, true, false, cond}
 use lib.ListN.{length, getD}
 use Rattle.plain.specs.declared.Operation.{Operation}
-use Rattle.plain.specs.Plain.{Plain, node-flags, edge-flags, node-bound, edge-bound}
+use Rattle.plain.specs.Plain.{node-flags, edge-flags, node-bound, edge-bound}
 use Rattle.plain.specs.Step.{Outcome, step}
 use Rattle.plain.specs.Laws.Cases.{Absent, Removed, Live, Case, comes-to}
 use Rattle.liveness.specs.FlagLaws.{length-flags}
-use Rattle.shape.specs.Shape.{Words, capacities, node-live, edge-live, shape-of, plain-of}
+use Rattle.shape.specs.Shape.{Words, capacities, node-live, edge-live, shape-of, plain-of, lists}
 use Rattle.shape.specs.Checked.{Checked}
 use Rattle.shape.specs.Steps.{acted, acts, shape-step}
 use Rattle.shape.specs.Laws.Reading.{node-flags-are, edge-flags-are, node-bound-is, edge-bound-is}
 use Rattle.store.specs.Operations.{Acted, SameLengths}
-
--- the plain lists of a store
-abbrev pub lists : Words → Plain
-lists w = plain-of (shape-of w)
 
 -- what document 01 says of an operation on a store
 abbrev pub outcome : Words → Operation → Outcome

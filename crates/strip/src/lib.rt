@@ -7,7 +7,7 @@ ghost use Prim.Native.Nat.{_*_, _≤_};
 ghost use lib.ListN.{length};
 ghost use Rattle.plain.specs.declared.Operation.the-variants.{AddNode, AddEdge, RemoveEdge, RemoveNode, Redirect, SetPayload};
 ghost use Rattle.shape.specs.Checked.{Checked};
-ghost use Rattle.store.specs.Operations.{store};
+ghost use Rattle.shape.specs.Shape.{store};
 ghost use Rattle.liveness.specs.Flags.{live-flags};
 ghost use Rattle.strip.specs.Faults.{fault-of};
 ghost use Rattle.strip.specs.Step.{StepOf};

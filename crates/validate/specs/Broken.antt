@@ -1,24 +1,10 @@
 -- The first broken rule in three parts: what is left to decide once the counts are right, and once the ends, the index and the rings are.
 use mathlib.Core.Path.{_≡_, refl}
 use mathlib.Core.Bool.{true, cond, not}
-use mathlib.Core.List.{List}
 use Prim.Native.Nat.{ℕ}
-use Rattle.plain.specs.declared.Counts.{Counts}
 use Rattle.shape.specs.Shape.{Words}
 use Rattle.shape.specs.Rules.{rule-1, rule-2, rule-3, rule-4, rule-5, rule-6, rule-7, broken}
 use Rattle.shape.specs.Laws.Judging.{Structured}
-
--- a store as it is lent: counts and six slices
-abbrev pub store : Counts → List ℕ → List ℕ → List ℕ → List ℕ → List ℕ → List ℕ → Words
-store counts nodes edges live-nodes live-edges outgoing incoming = record {
-  counts = counts;
-  nodes = nodes;
-  edges = edges;
-  live-nodes = live-nodes;
-  live-edges = live-edges;
-  outgoing = outgoing;
-  incoming = incoming;
-}
 
 -- Rules 1 and 2 hold.
 pub record Counted (w : Words) : Type 0 where

@@ -20,7 +20,8 @@ use walks::walks_right;
 ghost use mathlib.Core.Path.{_≡_};
 ghost use Rattle.plain.specs.Calls.{check as check-answer};
 ghost use Rattle.shape.specs.Rules.{broken};
-ghost use Rattle.validate.specs.Broken.{store, Counted, Threaded, broken-lists, broken-axes};
+ghost use Rattle.shape.specs.Shape.{store};
+ghost use Rattle.validate.specs.Broken.{Counted, Threaded, broken-lists, broken-axes};
 
 // The first of rules 6 and 7 that is broken, 0 where neither is. Internal: after rules 1 to 5.
 fn broken_lists(

@@ -6,11 +6,11 @@ use Rattle.plain.specs.declared.TraversalDirection.{TraversalDirection}
 use Rattle.plain.specs.declared.TraversalDirection.the-variants.{Outgoing, Incoming}
 use Rattle.plain.specs.Lists.{all, from}
 use Rattle.plain.specs.Laws.Booleans.{both-true}
-use Rattle.shape.specs.Shape.{Words, axis-words}
+use Rattle.shape.specs.Shape.{Words, axis-words, store}
 use Rattle.shape.specs.Rules.{ends-right, rule-3, index-right, rule-4, ring-right, rule-5}
 use Rattle.validate.specs.Passing.{refused, accepted}
 use Rattle.validate.specs.Sizes.{AxisSized, axis-sized}
-use Rattle.validate.specs.Broken.{store, Threaded, broken-axes}
+use Rattle.validate.specs.Broken.{Threaded, broken-axes}
 use Rattle.validate.proofs.broken_axes.Statement.{statement}
 use Rattle.validate.proofs.broken_axes.Tie as tie
 

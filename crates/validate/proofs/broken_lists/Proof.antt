@@ -4,11 +4,11 @@ use mathlib.Core.Bool.{true}
 use lib.ListN.{length}
 use Rattle.plain.specs.declared.TraversalDirection.the-variants.{Outgoing, Incoming}
 use Rattle.plain.specs.Laws.Booleans.{both-true}
-use Rattle.shape.specs.Shape.{Words, node-live, edge-live, shape-of, plain-of}
+use Rattle.shape.specs.Shape.{Words, node-live, edge-live, shape-of, plain-of, store}
 use Rattle.shape.specs.Rules.{runs-right, rule-6, walks-right, rule-7}
 use Rattle.shape.specs.Laws.Judging.{Structured}
 use Rattle.validate.specs.Passing.{refused, accepted}
-use Rattle.validate.specs.Broken.{store, structured, broken-lists}
+use Rattle.validate.specs.Broken.{structured, broken-lists}
 use Rattle.validate.proofs.Deciding.{runs-readable, walks-readable, walks-rule}
 use Rattle.validate.proofs.broken_lists.Statement.{statement}
 use Rattle.validate.proofs.broken_lists.Tie as tie

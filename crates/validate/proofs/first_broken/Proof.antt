@@ -3,12 +3,12 @@ use mathlib.Core.Path.{_≡_, sym, _∙_}
 use mathlib.Core.Bool.{true}
 use borrow.Author.Needs.{needs}
 use Rattle.plain.specs.Laws.Booleans.{both-true}
-use Rattle.shape.specs.Shape.{Words, node-live}
+use Rattle.shape.specs.Shape.{Words, node-live, store}
 use Rattle.shape.specs.Rules.{rule-1, live-agrees, rule-2}
 use Rattle.shape.specs.Laws.Judging.{sizes-sound}
 use Rattle.validate.specs.Passing.{refused, accepted}
 use Rattle.validate.specs.Sizes.{sizes-rule, live-there}
-use Rattle.validate.specs.Broken.{store, Counted, broken-parts}
+use Rattle.validate.specs.Broken.{Counted, broken-parts}
 use Rattle.validate.proofs.first_broken.Statement.{statement}
 use Rattle.validate.proofs.first_broken.Tie as tie
 
