@@ -154,6 +154,6 @@ fn compare_ported(options: &Options, tally: &mut Tally) -> Result<(), Difference
 
 #[cfg(not(ported))]
 fn compare_ported(_: &Options, _: &mut Tally) -> Result<(), Difference> {
-    println!("the port is not compared: built without the static library of crate layers");
+    println!("the port is not compared: built without the static libraries of the proved code");
     Ok(())
 }

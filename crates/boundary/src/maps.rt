@@ -1,7 +1,7 @@
-// Maps of compactions. Each answer's number is returned, and its value written through `value`.
+// Maps of compactions.
 
 ghost use Rattle.renumbering.specs.Calls.{Lookup, Compose, IsIdentity};
-ghost use Rattle.layers.specs.Words.{of};
+ghost use Rattle.boundary.specs.Answers.{of};
 
 #[no_mangle]
 pub extern "C" fn lot_lookup(renumbering: &[u32], slot: u32, value: &mut u64) -> u32
