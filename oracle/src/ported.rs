@@ -1,16 +1,22 @@
-//! The proved Rattle code beside the Rust store: the static library of crate
-//! `layers` is linked, the same steps are made on both, and what both tell is
-//! compared.
+//! The proved Rattle code beside the Rust store: the static libraries of crates
+//! `layers` and `boundary` are linked, the same steps are made on both, and what
+//! both tell is compared.
 //!
 //! The modules below own the memory and test what each contract requires before
 //! the call. What does not hold after a step is a difference, and what does not
 //! hold in the middle of one panics, which is a difference too.
 
 mod axis;
+mod columns;
+#[cfg(feature = "serde")]
+mod damaged;
 mod exports;
 mod live;
 mod maps;
 mod memory;
+#[cfg(feature = "serde")]
+mod rules;
+mod words;
 
 use crate::calls::{self, Lots};
 use crate::compare::Touched;
@@ -214,6 +220,9 @@ impl Ported {
 
     pub fn compare_everything(&self, tally: &mut Tally) -> Same {
         let reader = self.compare_whole(tally)?;
+        let place = || "the store".to_string();
+        let answer = self.memory.words().check();
+        tally.same(Thing::PortCheck, place, Answer::done(0), answer)?;
         self.compare_live(tally)?;
         self.compare_parts(&reader, tally)?;
         for node in 0..self.rust.graph.node_bound() as u32 {
@@ -315,9 +324,12 @@ fn compare_slots(live: &Live, rust: impl Fn(u32) -> bool, tally: &mut Tally) -> 
 }
 
 /// Random sequences of so many operations, all sequences of up to `depth` steps
-/// from four stores, and any two maps.
+/// from four stores, any two maps, and damaged stores.
 pub fn compare(operations: u64, depth: usize, seed: u64, tally: &mut Tally) -> Same {
     sequences::compare_random::<Ported>(operations, seed, tally);
     sequences::compare_exhaustive::<Ported>(depth, tally);
-    maps::compare(20_000, seed, tally)
+    maps::compare(20_000, seed, tally)?;
+    #[cfg(feature = "serde")]
+    damaged::compare(60_000, seed, tally)?;
+    Ok(())
 }

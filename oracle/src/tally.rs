@@ -76,6 +76,8 @@ things! {
         "Panics become numbers.";
     Check: "answers of validate.rs",
         "Rules 1 to 5 and 7 are those of `validate.rs` in its order";
+    Damaged: "rules of validate.rs for damaged stores",
+        "Rules 1 to 5 and 7 are those of `validate.rs` in its order, rule 6 is added.";
     Call: "calls with lengths of lent slices",
         "a lent slice too short | 2 | length needed";
     PortAnswer: "port: answers of additions and removals",
@@ -86,6 +88,8 @@ things! {
         "it is live until removed; Out of range is not live.";
     PortRules: "port: rules 1, 2, 4, 5 and 6, which the contracts require",
         "Rules 1 to 5 and 7 are those of `validate.rs` in its order";
+    PortCheck: "port: the check, of stores that steps led to and of damaged ones",
+        "The first broken rule is the value of answer 1.";
     PortPart: "port: base parts, runs and rings",
         "Adding an edge appends it to its source's out-list and target's in-list.";
     PortRingEnds: "port: ends of rings",

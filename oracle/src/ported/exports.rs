@@ -1,5 +1,5 @@
-//! What the static library of crate `layers` exports. A slice is a pointer and
-//! a length; the contracts stand with the functions there.
+//! What the static libraries of crates `layers` and `boundary` export. A slice
+//! is a pointer and a length; the contracts stand with the functions there.
 
 /// `Slots` of crate `plain`.
 #[repr(C)]
@@ -162,5 +162,22 @@ unsafe extern "C" {
         live_edges_length: usize,
         node: usize,
         live: bool,
+    ) -> u32;
+
+    pub fn lot_check(
+        counts: Counts,
+        nodes: *const u32,
+        nodes_length: usize,
+        edges: *const u32,
+        edges_length: usize,
+        live_nodes: *const u64,
+        live_nodes_length: usize,
+        live_edges: *const u64,
+        live_edges_length: usize,
+        outgoing: *const u32,
+        outgoing_length: usize,
+        incoming: *const u32,
+        incoming_length: usize,
+        value: *mut u64,
     ) -> u32;
 }

@@ -32,17 +32,6 @@ impl Live {
         self.slots.bound as usize
     }
 
-    /// `LiveRight`, and a bit for each slot: as many live bits as counted, and no
-    /// other bit of the last word.
-    pub fn is_right(&self, slots: Slots) -> bool {
-        let bound = slots.bound as usize;
-        let needed = bound.div_ceil(64);
-        let ones = |words: &[u64]| words.iter().map(|word| word.count_ones()).sum::<u32>();
-        needed <= self.words.len()
-            && (bound.is_multiple_of(64) || self.words[needed - 1] >> (bound % 64) == 0)
-            && ones(&self.words[..needed]) == slots.live
-    }
-
     /// The slots that the words are asked for, which every function but `push`
     /// requires to be no more than the bits there are.
     fn within(&self) -> usize {
@@ -146,4 +135,15 @@ impl Live {
         // SAFETY: as in `is_live`.
         unsafe { exports::lot_next_live(self.words.as_ptr(), self.words.len(), slots, from) }
     }
+}
+
+/// `LiveRight`, and a bit for each slot: as many live bits as counted, and no
+/// other bit of the last word.
+pub fn is_right(words: &[u64], slots: Slots) -> bool {
+    let bound = slots.bound as usize;
+    let needed = bound.div_ceil(64);
+    let ones = |words: &[u64]| words.iter().map(|word| word.count_ones()).sum::<u32>();
+    needed <= words.len()
+        && (bound.is_multiple_of(64) || words[needed - 1] >> (bound % 64) == 0)
+        && ones(&words[..needed]) == slots.live
 }

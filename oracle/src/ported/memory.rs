@@ -6,6 +6,7 @@
 use super::axis::{Axis, Readable};
 use super::exports::Counts;
 use super::live::Live;
+use super::words::Words;
 use crate::graph::traverse::TraversalDirection;
 use crate::model::Capacities;
 #[cfg(feature = "serde")]
@@ -20,6 +21,9 @@ pub struct Memory {
     pub nodes: Live,
     pub edges: Live,
     axes: [Axis; 2],
+    /// Of nodes and edges. Nothing reads or writes them yet; their lengths are the
+    /// capacities.
+    payloads: [Vec<u32>; 2],
 }
 
 /// Both directions, tested, and the live bits of the nodes.
@@ -36,6 +40,7 @@ impl Memory {
             nodes: Live::new(nodes, &mut rng),
             edges: Live::new(edges, &mut rng),
             axes: [(); 2].map(|()| Axis::new(nodes, edges, &mut rng)),
+            payloads: [nodes, edges].map(|slots| (0..slots).map(|_| rng.word()).collect()),
         }
     }
 
@@ -73,6 +78,20 @@ impl Memory {
         Counts {
             nodes: self.nodes.slots(),
             edges: self.edges.slots(),
+        }
+    }
+
+    /// A copy of all that is lent for a store.
+    pub fn words(&self) -> Words {
+        let [nodes, edges] = self.payloads.clone();
+        let [outgoing, incoming] = &self.axes;
+        Words {
+            counts: self.counts(),
+            nodes,
+            edges,
+            live_nodes: self.nodes.words().to_vec(),
+            live_edges: self.edges.words().to_vec(),
+            axes: [outgoing, incoming].map(|axis| axis.words().to_vec()),
         }
     }
 
