@@ -1,6 +1,8 @@
 // What the program and the definitions share: slot numbers and limits, the direction of an axis, an operation, the counts of a
 // store and the answers of its calls. The definitions of document 01 over these types stand in specs/.
 
+pub mod numbers;
+
 ghost use mathlib.Core.Path.{_≡_};
 ghost use Rattle.plain.specs.Operations.{decoded, unused};
 

@@ -7,7 +7,9 @@ use lib.ListN.{length, getD}
 use Rattle.plain.specs.declared.Operation.{Operation}
 use Rattle.plain.specs.Plain.{node-flags, edge-flags, node-bound, edge-bound}
 use Rattle.plain.specs.Step.{Outcome, step}
-use Rattle.plain.specs.Laws.Cases.{Absent, Removed, Live, Case, comes-to}
+use Rattle.plain.specs.declared.Operation.the-variants.{Unknown}
+use Rattle.plain.specs.Numbers.{NONE}
+use Rattle.plain.specs.Laws.Cases.{Absent, Removed, Live, Case, comes-to, unknown as unknown-code}
 use Rattle.liveness.specs.FlagLaws.{length-flags}
 use Rattle.shape.specs.Shape.{Words, capacities, node-live, edge-live, shape-of, plain-of, lists}
 use Rattle.shape.specs.Checked.{Checked}
@@ -98,3 +100,8 @@ done {operation} {w} case busy zero a =
       lengths = a .lengths;
       refused-keeps = λ h. absurd (h zero);
     }
+
+-- ---- unknown codes
+
+pub unknown : {w : Words} → Checked w → StepOf Unknown w w 4 NONE
+unknown c = stays c unknown-code refl
