@@ -7,6 +7,8 @@
 //! hold in the middle of one panics, which is a difference too.
 
 mod axis;
+#[cfg(feature = "serde")]
+pub mod benchmark;
 mod columns;
 #[cfg(feature = "serde")]
 mod damaged;
