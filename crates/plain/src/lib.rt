@@ -77,6 +77,13 @@ pub struct Answer {
     pub value: u64,
 }
 
+// What a call answers that makes or changes a store: number and value, and the counts afterwards.
+pub struct Changed {
+    pub number: u32,
+    pub value: u64,
+    pub counts: Counts,
+}
+
 // What reading a record answers: the edge's ends and payload beside number and value; all three are 0 where it is refused.
 pub struct Record {
     pub number: u32,
