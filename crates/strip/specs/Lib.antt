@@ -2,3 +2,4 @@ pub mod Step
 pub mod Additions
 pub mod Faults
 pub mod Relocations
+pub mod Strip

@@ -68,7 +68,7 @@ edge-bound-of w = edge-bound-is w
 
 -- ---- the two ways an operation ends
 
-same-lengths : (w : Words) → SameLengths w w
+pub same-lengths : (w : Words) → SameLengths w w
 same-lengths w = record { nodes = refl; edges = refl; live-nodes = refl; live-edges = refl; outgoing = refl; incoming = refl }
 
 -- it is refused, or done with nothing to change: every word stays

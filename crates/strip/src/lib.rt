@@ -1,3 +1,143 @@
-// The strip: document 01's list of operations on a store.
+// The strip: document 01's list of operations on a store, behind the check. Port of what store.rs offers to its callers, one operation after another.
 
 pub mod step;
+
+use plain::Changed;
+use plain::Counts;
+use plain::Operation;
+use plain::numbers;
+ghost use mathlib.Core.Path.{_≡_};
+ghost use Prim.Native.Nat.{_+_, _*_, _≤_};
+ghost use lib.ListN.{length, getD, set};
+ghost use Rattle.plain.specs.declared.Operation.the-variants.{Unknown};
+ghost use Rattle.plain.specs.Operations.{operations};
+ghost use Rattle.shape.specs.Shape.{store};
+ghost use Rattle.strip.specs.Strip.{Runnable, Ran, StripOf};
+
+// Operation i of a strip, from its four words.
+fn operation_at(words: &[u32], i: usize) -> Operation
+    requires { ⌜ 4 * i + 4 ≤ length (now words) ⌝ }
+    ensures { λ r. ⌜ r ≡ getD (operations (now (words .entry))) i Unknown ⌝ }
+{
+    let at = 4 * i;
+    Operation::decode(words[at], words[at + 1], words[at + 2], words[at + 3])
+}
+
+// Writes the two words of answer i.
+fn write_answer(answers: &mut [u32], i: usize, number: u32, value: u32)
+    requires { ⌜ 2 * i + 2 ≤ length (now answers) ⌝ }
+    ensures { λ _. ⌜ now (answers .exit) ≡ set (set (now (answers .entry)) (2 * i) number) (2 * i + 1) value ⌝ }
+{
+    let to = 2 * i;
+    answers[to] = number;
+    answers[to + 1] = value;
+}
+
+// The operations of a strip in turn, four words each, with two words of answer each. A refused operation changes nothing and the strip goes on.
+fn run(
+    counts: Counts,
+    nodes: &mut [u32],
+    edges: &mut [u32],
+    live_nodes: &mut [u64],
+    live_edges: &mut [u64],
+    outgoing: &mut [u32],
+    incoming: &mut [u32],
+    words: &[u32],
+    answers: &mut [u32],
+) -> Counts
+    requires { ⌜ Runnable (store counts (now nodes) (now edges) (now «live_nodes») (now «live_edges») (now outgoing) (now incoming)) (now words) (now answers) ⌝ }
+    ensures { λ r. ⌜ Ran
+        (store counts (now (nodes .entry)) (now (edges .entry)) (now («live_nodes» .entry)) (now («live_edges» .entry)) (now (outgoing .entry)) (now (incoming .entry)))
+        (operations (now (words .entry))) (now (answers .entry))
+        (store r (now (nodes .exit)) (now (edges .exit)) (now («live_nodes» .exit)) (now («live_edges» .exit)) (now (outgoing .exit)) (now (incoming .exit)))
+        (now (answers .exit)) ⌝ }
+{
+    let count = words.len() / 4;
+    let mut counts = counts;
+    let mut i: usize = 0;
+    while i < count {
+        let operation = operation_at(words, i);
+        let done = step::step(
+            counts,
+            nodes,
+            edges,
+            live_nodes,
+            live_edges,
+            outgoing,
+            incoming,
+            operation,
+        );
+        write_answer(answers, i, done.number, done.value);
+        counts = done.counts;
+        i += 1;
+    }
+    counts
+}
+
+// A strip: "1, 3, 2", then its operations. The store is checked once. Refused, nothing is written.
+pub fn strip(
+    counts: Counts,
+    nodes: &mut [u32],
+    edges: &mut [u32],
+    live_nodes: &mut [u64],
+    live_edges: &mut [u64],
+    outgoing: &mut [u32],
+    incoming: &mut [u32],
+    words: &[u32],
+    answers: &mut [u32],
+) -> Changed
+    ensures { λ r. ⌜ StripOf
+        (store counts (now (nodes .entry)) (now (edges .entry)) (now («live_nodes» .entry)) (now («live_edges» .entry)) (now (outgoing .entry)) (now (incoming .entry)))
+        (now (words .entry)) (now (answers .entry)) (r .number) (r .value)
+        (store (r .counts) (now (nodes .exit)) (now (edges .exit)) (now («live_nodes» .exit)) (now («live_edges» .exit)) (now (outgoing .exit)) (now (incoming .exit)))
+        (now (answers .exit)) ⌝ }
+{
+    let rule = validate::first_broken(
+        counts,
+        nodes,
+        edges,
+        live_nodes,
+        live_edges,
+        outgoing,
+        incoming,
+    );
+    if rule != 0 {
+        return Changed {
+            number: numbers::NO_STORE,
+            value: rule as u64,
+            counts,
+        };
+    }
+    let length = words.len();
+    if length % 4 != 0 {
+        return Changed {
+            number: numbers::RAGGED,
+            value: length as u64,
+            counts,
+        };
+    }
+    let needed = length / 2;
+    if answers.len() < needed {
+        return Changed {
+            number: numbers::TOO_SHORT,
+            value: needed as u64,
+            counts,
+        };
+    }
+    let after = run(
+        counts,
+        nodes,
+        edges,
+        live_nodes,
+        live_edges,
+        outgoing,
+        incoming,
+        words,
+        answers,
+    );
+    Changed {
+        number: numbers::DONE,
+        value: 0,
+        counts: after,
+    }
+}
