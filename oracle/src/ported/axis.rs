@@ -45,6 +45,15 @@ impl Axis {
         &self.words
     }
 
+    pub const fn words_mut(&mut self) -> &mut Vec<u32> {
+        &mut self.words
+    }
+
+    /// The end of an edge.
+    pub fn end(&self, edge: usize) -> u32 {
+        self.columns().word(Column::Ends, edge)
+    }
+
     pub fn offsets(&self, base_nodes: usize) -> Vec<u32> {
         self.columns().offsets(base_nodes)
     }
@@ -84,38 +93,6 @@ impl Axis {
 
     // ---- what the proved functions write
 
-    /// Appends the next edge to a node's ring.
-    pub fn append(&mut self, counts: Counts, node: u32, appended: u32) {
-        let [bound, base] = [counts.nodes.bound, counts.edges.base].map(|count| count as usize);
-        let (node, edge) = (node as usize, appended as usize);
-        assert!(
-            node < bound && bound <= self.layout.nodes,
-            "required of append: a node below the bound"
-        );
-        assert!(
-            base <= edge && edge < self.layout.edges,
-            "required of append: room for the edge"
-        );
-        assert!(
-            counts.edges.bound == appended && self.columns().rings_hold(counts),
-            "required of append: Rings"
-        );
-        // SAFETY: the words are borrowed mutably and as long as stated;
-        // `Appendable` was tested.
-        unsafe {
-            exports::lot_append(
-                self.words.as_mut_ptr(),
-                self.words.len(),
-                self.layout.edges,
-                self.layout.nodes,
-                bound,
-                base,
-                node,
-                appended,
-            );
-        }
-    }
-
     /// Gives a new node the empty ring and no run.
     pub fn open_node(&mut self, node: u32) {
         let node = node as usize;
@@ -134,45 +111,6 @@ impl Axis {
                 node,
             );
         }
-    }
-
-    /// Forgets a node's ring.
-    pub fn detach(&mut self, node: u32) {
-        let node = node as usize;
-        assert!(node < self.layout.nodes, "required of detach: a node");
-        // SAFETY: the words are borrowed mutably and as long as stated, and
-        // `Detachable` holds of any node below the capacity.
-        unsafe {
-            exports::lot_detach(
-                self.words.as_mut_ptr(),
-                self.words.len(),
-                self.layout.edges,
-                node,
-            );
-        }
-    }
-
-    /// Makes the edges of a live node's walk dead.
-    pub fn clear_adjacency(&self, counts: Counts, live_edges: &mut Live, node: u32) {
-        let node = node as usize;
-        let readable = self.readable(counts, live_edges);
-        let asked = readable.map(|readable| node < readable.counts.nodes.bound as usize);
-        assert_eq!(asked, Ok(true), "required of clear_adjacency");
-        // SAFETY: the axis is borrowed and the live words are borrowed mutably,
-        // both as long as stated; `Clearable` was tested.
-        live_edges.retire(|words| unsafe {
-            exports::lot_clear_adjacency(
-                self.words.as_ptr(),
-                self.words.len(),
-                self.layout.edges,
-                self.layout.nodes,
-                counts,
-                words.as_mut_ptr(),
-                words.len(),
-                node,
-                true,
-            )
-        });
     }
 
     /// Puts ends and joined lists of a new base in place and counts its offsets.
@@ -236,12 +174,14 @@ impl Axis {
     }
 
     /// The end of an edge.
+    #[cfg(feature = "serde")]
     pub fn put_end(&mut self, edge: u32, node: u32) {
         self.put(Column::Ends, edge, node);
     }
 
     /// A node's run, by any mark but 0. Words that say nothing stay: the link of
     /// the last entry, and first and tail of an empty run.
+    #[cfg(feature = "serde")]
     pub fn put_run(&mut self, node: u32, entries: &[u32]) {
         self.put(Column::Count, node, entries.len() as u32);
         self.put(Column::Mark, node, 1 + node);
@@ -254,6 +194,7 @@ impl Axis {
         }
     }
 
+    #[cfg(feature = "serde")]
     fn put(&mut self, column: Column, slot: u32, word: u32) {
         self.words[self.layout.at(column, slot as usize)] = word;
     }

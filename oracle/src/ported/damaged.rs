@@ -351,6 +351,22 @@ fn written(words: &Words) -> Value {
     })
 }
 
+/// A strip is refused as the check says, and then writes nothing; else its one
+/// operation leaves a store that passes.
+fn compare_strip(words: &Words, judged: Answer, tally: &mut Tally) -> Same {
+    let place = || format!("a strip on a damaged store, {words:?}");
+    let mut after = words.clone();
+    let mut answers = [NONE - 1; 2];
+    let edge = words.counts.edges.bound.wrapping_sub(1);
+    let called = after.strip(&[5, edge, 0, 0], &mut answers);
+    tally.same(Thing::PortAnswer, place, judged, called)?;
+    if judged.number == 0 {
+        return tally.same(Thing::PortCheck, place, Answer::done(0), after.check());
+    }
+    let expected = (words, [NONE - 1; 2]);
+    tally.same(Thing::PortRefusal, place, expected, (&after, answers))
+}
+
 /// How many damaged stores there were, by what is told of them.
 #[derive(Default)]
 struct Found {
@@ -388,6 +404,7 @@ impl Found {
             },
         };
         tally.same(Thing::PortCheck, place, expected, words.check())?;
+        compare_strip(words, expected, tally)?;
         self.rules[rule as usize] += 1;
         if rule == 1 {
             return Ok(());

@@ -87,9 +87,9 @@ impl Live {
         live
     }
 
-    /// Lends the words to a function that makes slots dead and answers how many.
-    pub fn retire(&mut self, clear: impl FnOnce(&mut [u64]) -> u32) {
-        self.slots.live -= clear(&mut self.words);
+    /// The words, and the counts, for a function that writes both.
+    pub const fn parts(&mut self) -> (&mut Vec<u64>, &mut Slots) {
+        (&mut self.words, &mut self.slots)
     }
 
     /// So many slots, all of them base and live.

@@ -3,7 +3,7 @@
 use super::exports::{self, Counts};
 use crate::model::Answer;
 
-#[derive(Debug, Clone)]
+#[derive(Debug, Clone, PartialEq, Eq)]
 pub struct Words {
     pub counts: Counts,
     pub nodes: Vec<u32>,
@@ -18,10 +18,8 @@ impl Words {
     /// The port's answer. It requires nothing.
     pub fn check(&self) -> Answer {
         let [outgoing, incoming] = &self.axes;
-        let mut value = 0;
-        // SAFETY: the slices are borrowed and as long as stated; `value` is
-        // borrowed mutably.
-        let number = unsafe {
+        // SAFETY: the slices are borrowed and as long as stated.
+        unsafe {
             exports::lot_check(
                 self.counts,
                 self.nodes.as_ptr(),
@@ -36,9 +34,41 @@ impl Words {
                 outgoing.len(),
                 incoming.as_ptr(),
                 incoming.len(),
-                &raw mut value,
+            )
+        }
+    }
+
+    /// Makes the operations of a strip, and gives the call's own answer. It
+    /// requires nothing.
+    pub fn strip(&mut self, words: &[u32], answers: &mut [u32]) -> Answer {
+        let [outgoing, incoming] = &mut self.axes;
+        // SAFETY: the slices are borrowed, all but `words` mutably, and as long as
+        // stated.
+        let changed = unsafe {
+            exports::lot_strip(
+                self.counts,
+                self.nodes.as_mut_ptr(),
+                self.nodes.len(),
+                self.edges.as_mut_ptr(),
+                self.edges.len(),
+                self.live_nodes.as_mut_ptr(),
+                self.live_nodes.len(),
+                self.live_edges.as_mut_ptr(),
+                self.live_edges.len(),
+                outgoing.as_mut_ptr(),
+                outgoing.len(),
+                incoming.as_mut_ptr(),
+                incoming.len(),
+                words.as_ptr(),
+                words.len(),
+                answers.as_mut_ptr(),
+                answers.len(),
             )
         };
-        Answer { number, value }
+        self.counts = changed.counts;
+        Answer {
+            number: changed.number,
+            value: changed.value,
+        }
     }
 }
