@@ -19,13 +19,11 @@ use Rattle.shape.specs.Shape.{Words, Shape, capacities, shape-of}
 use Rattle.shape.specs.Checked.{Checked, Reached}
 use Rattle.shape.specs.Rules.{broken}
 use Rattle.shape.specs.Steps.{shape-step, shape-run, state-of}
-use Rattle.shape.specs.Laws.Running.{step-state, shape-run-snoc}
-use Rattle.shape.specs.Laws.Reaching.{step-reached}
+use Rattle.shape.specs.Laws.Running.{shape-run-snoc}
 use Rattle.shape.specs.Laws.Judging.{Payloads, unbroken-checked}
-use Rattle.shape.specs.Laws.CheckedShape.{checked-proper, checked-based}
 use Rattle.adjacency.specs.Reading.{write-one}
 use Rattle.store.specs.Operations.{SameLengths}
-use Rattle.strip.specs.Step.{StepOf, outcome, same-lengths}
+use Rattle.strip.specs.Step.{StepOf, outcome, same-lengths, step-lists, step-keeps}
 
 -- What it takes to run a strip: a checked store, and two words of answer for every operation.
 pub record Runnable (w : Words) (words answers : List ℕ) : Type 0 where
@@ -112,11 +110,11 @@ module _ {w v u : Words} {ops : List Operation} {entry exit : List ℕ} {x : Ope
   ran-more at is room = record {
     shape = does .shaped ∙ ap₂ {C = Shape} (λ (caps : Capacities) (s : Shape). shape-step caps s x) (same-capacities (ran .lengths)) (ran .shape)
         ∙ sym (shape-run-snoc (capacities w) (shape-of w) ops x);
-    state = ap state-of (does .shaped) ∙ step-state (checked-proper v (ran .checked)) (checked-based v (ran .checked)) x
+    state = step-lists (ran .checked) does
         ∙ ap₂ {C = State} (λ (caps : Capacities) (s : State). stepped caps s x) (same-capacities (ran .lengths)) (ran .state)
         ∙ sym (run-snoc (capacities w) (state-of (shape-of w)) ops x);
     checked = does .checked;
-    reached = λ r. subst Reached (sym (does .shaped)) (step-reached (checked-proper v (ran .checked)) (ran .reached r) x);
+    reached = λ r. step-keeps (ran .checked) does (ran .reached r);
     lengths = same-through (ran .lengths) (does .lengths);
     answered = ap (λ (l : List ℕ). set (set l at number) (at + 1) value) (ran .answered)
         ∙ two-more before entry at number value (is ∙ sym (length-answers (capacities w) (state-of (shape-of w)) ops)) room
