@@ -315,10 +315,12 @@ fn compare_slots(live: &Live, rust: impl Fn(u32) -> bool, tally: &mut Tally) -> 
 }
 
 /// Random sequences of so many operations, all sequences of up to `depth` steps
-/// from four stores, strips of many operations, any two maps, and damaged stores.
+/// from four stores, fresh stores, strips of many operations, any two maps, and
+/// damaged stores.
 pub fn compare(operations: u64, depth: usize, seed: u64, tally: &mut Tally) -> Same {
     sequences::compare_random::<Ported>(operations, seed, tally);
     sequences::compare_exhaustive::<Ported>(depth, tally);
+    strips::compare_fresh(4_000, seed, tally)?;
     strips::compare(4_000, seed, tally)?;
     maps::compare(20_000, seed, tally)?;
     #[cfg(feature = "serde")]

@@ -80,6 +80,8 @@ things! {
         "Rules 1 to 5 and 7 are those of `validate.rs` in its order, rule 6 is added.";
     Call: "calls with lengths of lent slices",
         "a lent slice too short | 2 | length needed";
+    PortFresh: "port: fresh stores, in memory of any lengths",
+        "Fresh: 13, nodes before edges, then 2.";
     PortAnswer: "port: strips, by their own answers and all words of their answer slices",
         "Each operation leaves two words in the answer slice: number and value.";
     PortRefusal: "port: words after a refused strip, or a strip of refused operations",
@@ -261,11 +263,10 @@ impl fmt::Display for Tally {
             }
             writeln!(formatter)?;
         }
-        writeln!(
-            formatter,
-            "longest run of the port: {} entries",
-            self.longest_run
-        )?;
+        if self.longest_run > 0 {
+            let entries = self.longest_run;
+            writeln!(formatter, "longest run of the port: {entries} entries")?;
+        }
         writeln!(formatter, "compared:")?;
         for &thing in Thing::ALL {
             let (name, _) = thing.described();

@@ -7,7 +7,24 @@ ghost use mathlib.Core.Path.{_≡_};
 ghost use Rattle.plain.specs.Calls.{check as check-answer};
 ghost use Rattle.shape.specs.Shape.{store};
 ghost use Rattle.shape.specs.Rules.{broken};
+ghost use Rattle.strip.specs.Fresh.{FreshOf};
 ghost use Rattle.strip.specs.Strip.{StripOf};
+
+#[no_mangle]
+pub extern "C" fn lot_fresh(
+    nodes: &[u32],
+    edges: &[u32],
+    live_nodes: &[u64],
+    live_edges: &[u64],
+    outgoing: &[u32],
+    incoming: &[u32],
+) -> Changed
+    ensures { λ r. ⌜ FreshOf
+        (store (r .counts) (now (nodes .entry)) (now (edges .entry)) (now («live_nodes» .entry)) (now («live_edges» .entry)) (now (outgoing .entry)) (now (incoming .entry)))
+        (r .number) (r .value) ⌝ }
+{
+    strip::fresh(nodes, edges, live_nodes, live_edges, outgoing, incoming)
+}
 
 #[no_mangle]
 pub extern "C" fn lot_check(

@@ -167,6 +167,21 @@ unsafe extern "C" {
         incoming_length: usize,
     ) -> Answer;
 
+    pub fn lot_fresh(
+        nodes: *const u32,
+        nodes_length: usize,
+        edges: *const u32,
+        edges_length: usize,
+        live_nodes: *const u64,
+        live_nodes_length: usize,
+        live_edges: *const u64,
+        live_edges_length: usize,
+        outgoing: *const u32,
+        outgoing_length: usize,
+        incoming: *const u32,
+        incoming_length: usize,
+    ) -> Changed;
+
     pub fn lot_strip(
         counts: Counts,
         nodes: *mut u32,

@@ -37,12 +37,18 @@ impl Memory {
     /// An empty store over words that hold anything.
     pub fn fresh(Capacities { nodes, edges }: Capacities) -> Self {
         let mut rng = Rng::new(u64::from(nodes) << 32 | u64::from(edges));
-        Self {
+        let memory = Self {
             nodes: Live::new(nodes, &mut rng),
             edges: Live::new(edges, &mut rng),
             axes: [(); 2].map(|()| Axis::new(nodes, edges, &mut rng)),
             payloads: [nodes, edges].map(|slots| (0..slots).map(|_| rng.word()).collect()),
-        }
+        };
+        assert_eq!(
+            memory.words().make_fresh(),
+            Answer::done(0),
+            "the memory is long enough"
+        );
+        memory
     }
 
     /// The words of a store that was made elsewhere: its slots by the proved

@@ -1,6 +1,6 @@
 //! A store as it is lent: counts and six slices, which may hold anything.
 
-use super::exports::{self, Counts};
+use super::exports::{self, Changed, Counts};
 use crate::model::Answer;
 
 #[derive(Debug, Clone, PartialEq, Eq)]
@@ -15,7 +15,41 @@ pub struct Words {
 }
 
 impl Words {
-    /// The port's answer. It requires nothing.
+    /// Makes the store a fresh one. It requires nothing.
+    pub fn make_fresh(&mut self) -> Answer {
+        let [outgoing, incoming] = &self.axes;
+        // SAFETY: the slices are borrowed and as long as stated.
+        let changed = unsafe {
+            exports::lot_fresh(
+                self.nodes.as_ptr(),
+                self.nodes.len(),
+                self.edges.as_ptr(),
+                self.edges.len(),
+                self.live_nodes.as_ptr(),
+                self.live_nodes.len(),
+                self.live_edges.as_ptr(),
+                self.live_edges.len(),
+                outgoing.as_ptr(),
+                outgoing.len(),
+                incoming.as_ptr(),
+                incoming.len(),
+            )
+        };
+        self.changed(changed)
+    }
+
+    /// Takes over the counts afterwards.
+    const fn changed(&mut self, changed: Changed) -> Answer {
+        let Changed {
+            number,
+            value,
+            counts,
+        } = changed;
+        self.counts = counts;
+        Answer { number, value }
+    }
+
+    /// The answer of the check. It requires nothing.
     pub fn check(&self) -> Answer {
         let [outgoing, incoming] = &self.axes;
         // SAFETY: the slices are borrowed and as long as stated.
@@ -65,10 +99,6 @@ impl Words {
                 answers.len(),
             )
         };
-        self.counts = changed.counts;
-        Answer {
-            number: changed.number,
-            value: changed.value,
-        }
+        self.changed(changed)
     }
 }
