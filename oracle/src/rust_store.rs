@@ -234,6 +234,7 @@ pub fn record(graph: &Graph<u32, u32>, slot: u32) -> [u32; 3] {
 }
 
 /// The payloads of all nodes and of all edges, removed ones too.
+#[cfg(ported)]
 pub fn payloads(graph: &Graph<u32, u32>) -> [Vec<u32>; 2] {
     let nodes = 0..graph.node_bound() as u32;
     let edges = 0..graph.edge_bound() as u32;

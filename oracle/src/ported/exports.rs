@@ -30,8 +30,10 @@ pub struct Changed {
 }
 
 unsafe extern "C" {
+    #[cfg(feature = "serde")]
     pub fn lot_push_live(words: *mut u64, length: usize, slots: usize);
     pub fn lot_is_live(words: *const u64, length: usize, slots: usize, slot: usize) -> bool;
+    #[cfg(feature = "serde")]
     pub fn lot_clear(words: *mut u64, length: usize, slots: usize, slot: usize) -> bool;
     pub fn lot_count_live(words: *const u64, length: usize, slots: usize, live: *mut usize)
     -> bool;

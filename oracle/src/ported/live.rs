@@ -43,7 +43,8 @@ impl Live {
     }
 
     /// Appends a live slot and gives its number.
-    pub fn push(&mut self) -> u32 {
+    #[cfg(feature = "serde")]
+    fn push(&mut self) -> u32 {
         let slot = self.bound();
         assert!(
             slot < 64 * self.words.len(),
@@ -71,7 +72,8 @@ impl Live {
     }
 
     /// Makes a slot dead; whether it was live.
-    pub fn clear(&mut self, slot: u32) -> bool {
+    #[cfg(feature = "serde")]
+    fn clear(&mut self, slot: u32) -> bool {
         let slots = self.within();
         // SAFETY: the words are borrowed mutably and as long as stated; their
         // length was tested.
