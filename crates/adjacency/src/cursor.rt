@@ -40,7 +40,7 @@ pub struct Start {
 }
 
 // Whether an edge is listed: where no edge is removed, every edge is, and the bit is spared.
-fn is_listed(tombstoned: bool, live: &[u64], slots: usize, edge: u32) -> bool
+pub fn is_listed(tombstoned: bool, live: &[u64], slots: usize, edge: u32) -> bool
     requires { ⌜ slots ≤ 64 * length (now live) ⌝ }
     ensures { λ r. ⌜ r ≡ listed tombstoned (live-flags (now (live .entry)) slots) edge ⌝ }
 {

@@ -1,15 +1,15 @@
 -- Following a list of entries and marking each, up to the first that does not pass.
 use Prim.Native.Nat.{ℕ}
-use mathlib.Core.Path.{_≡_, refl, sym, ap, _∙_}
+use mathlib.Core.Path.{_≡_, refl, sym, ap, subst, _∙_}
 use mathlib.Core.Bool.{Bool, true, false, _||_, false≢true}
 use mathlib.Core.List.{List, [], _∷_}
 use lib.ListN.{length}
 use lib.Dec.{eqb}
 use borrow.Author.Tests.{not-true, not-false}
-use Rattle.plain.specs.Lists.{member, distinct, all}
-use Rattle.plain.specs.Laws.Booleans.{and-false, or-false}
+use Rattle.plain.specs.Lists.{member, distinct, all, keep}
+use Rattle.plain.specs.Laws.Booleans.{by-test, and-false, or-false}
 use Rattle.validate.specs.Passing.{passed}
-use Rattle.validate.specs.Marks.{marked, Marked, fresh, passes, Followed}
+use Rattle.validate.specs.Marks.{marked, Marked, Entered, fresh, passes, Followed}
 use Rattle.validate.proofs.Fresh.{or-swap, fresh-more, fresh-marked}
 
 module _ (test marks : ℕ → Bool) where
@@ -80,3 +80,53 @@ module _ {test : ℕ → Bool} {l seen₀ seen rest : List ℕ} (f : Following t
         ∙ ap (λ (r : List ℕ). marked seen i || member i r) (sym q) ∙ f .marks i;
     long = long ∙ f .long;
   }
+
+-- passing an entry: one that is not listed, one that does not pass, and one that is marked
+module _ {listed passing : Bool} {seen : List ℕ} {e : ℕ} where
+  pub entered-unlisted : listed ≡ false → Entered listed passing seen e true seen
+  entered-unlisted out = record {
+    unlisted = λ _. (refl, refl);
+    failing = λ h. absurd (false≢true (sym out ∙ h));
+    marking = λ h. absurd (false≢true (sym out ∙ h));
+  }
+
+  pub entered-failing : listed ≡ true → passing ≡ false → Entered listed passing seen e false seen
+  entered-failing there bad = record {
+    unlisted = λ h. absurd (false≢true (sym h ∙ there));
+    failing = λ _ _. refl;
+    marking = λ _ h. absurd (false≢true (sym bad ∙ h));
+  }
+
+  pub entered-marking : {answer : Bool} {exit : List ℕ} → listed ≡ true → passing ≡ true → Marked seen e answer exit → Entered listed passing seen e answer exit
+  entered-marking there good m = record {
+    unlisted = λ h. absurd (false≢true (sym h ∙ there));
+    failing = λ _ h. absurd (false≢true (sym h ∙ good));
+    marking = λ _ _. m;
+  }
+
+-- an entry of a walk, which is followed where it is listed
+module _ (listed : ℕ → Bool) {test : ℕ → Bool} {l seen₀ seen rest exit : List ℕ} {e : ℕ} (later : List ℕ) {answer : Bool}
+    (f : Following test l seen₀ seen rest) (q : rest ≡ keep listed (e ∷ later)) (n : Entered (listed e) (test e) seen e answer exit) where
+  -- what is left where it is, and where it is not
+  is-first : listed e ≡ true → rest ≡ e ∷ keep listed later
+  unfolding keep
+  is-first h = q ∙ rw h
+
+  is-passed : listed e ≡ false → rest ≡ keep listed later
+  unfolding keep
+  is-passed h = q ∙ rw h
+
+  -- it does not pass
+  pub enter-fails : (final : Bool) → answer ≡ false → Followed test final l seen₀ false exit
+  enter-fails final a =
+      by-test (listed e)
+      (λ h. by-test (test e) (λ t. follow-marked f (is-first h) final (n .marking h t) a) (λ t. follow-fails f (is-first h) final exit t))
+      (λ h. absurd (false≢true (sym a ∙ n .unlisted h .0)))
+
+  -- it passes, or is not listed
+  pub enter-more : answer ≡ true → length exit ≡ length seen → Following test l seen₀ exit (keep listed later)
+  enter-more a long =
+      by-test (listed e)
+      (λ h. by-test (test e) (λ t. follow-more f (is-first h) t (n .marking h t) a long) (λ t. absurd (false≢true (sym (n .failing h t) ∙ a))))
+      (λ h. subst (λ (s : List ℕ). Following test l seen₀ s (keep listed later)) (sym (n .unlisted h .1))
+      (subst (λ (r : List ℕ). Following test l seen₀ seen r) (is-passed h) f))

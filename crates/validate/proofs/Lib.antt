@@ -4,6 +4,7 @@ pub mod Ringing
 pub mod Marking
 pub mod Fresh
 pub mod Following
+pub mod Stepping
 pub mod Running
 pub mod Walking
 pub mod Deciding

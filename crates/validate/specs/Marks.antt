@@ -1,7 +1,7 @@
 -- Mark maps: which edges are marked, what marking one does, and what following a list of entries does that marks each as it is passed.
 use Prim.Native.Nat.{ℕ}
 use mathlib.Core.Path.{_≡_}
-use mathlib.Core.Bool.{Bool, true, _&&_, _||_, not}
+use mathlib.Core.Bool.{Bool, true, false, _&&_, _||_, not}
 use mathlib.Core.List.{List}
 use lib.Dec.{eqb}
 use Rattle.plain.specs.Lists.{member, distinct, all}
@@ -15,6 +15,12 @@ marked = live-bit
 pub record Marked (entry : List ℕ) (edge : ℕ) (answer : Bool) (exit : List ℕ) : Type 0 where
   pub answers : answer ≡ not (marked entry edge)
   pub marks : (e : ℕ) → marked exit e ≡ (eqb e edge || marked entry e)
+
+-- An entry is passed, whether it is listed and passes a test given: only a listed one is looked at, and marked.
+pub record Entered (listed passing : Bool) (entry : List ℕ) (edge : ℕ) (answer : Bool) (exit : List ℕ) : Type 0 where
+  pub unlisted : listed ≡ false → (answer ≡ true) × (exit ≡ entry)
+  pub failing : listed ≡ true → passing ≡ false → answer ≡ false
+  pub marking : listed ≡ true → passing ≡ true → Marked entry edge answer exit
 
 -- no entry is marked, and none comes twice
 unfoldable pub fresh : (ℕ → Bool) → List ℕ → Bool

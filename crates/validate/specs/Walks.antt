@@ -13,6 +13,12 @@ use Rattle.adjacency.specs.declared.cursor.AdjacencyCursor.{AdjacencyCursor}
 use Rattle.adjacency.specs.Cursor.{Seekable}
 use Rattle.adjacency.specs.Walk.{walk-in, Walkable}
 
+-- An edge that has a live bit below so many slots or none, an end and a mark.
+pub record EntryReadable (live : List ℕ) (slots : ℕ) (ends : List ℕ) (edge : ℕ) (seen : List ℕ) : Type 0 where
+  pub live-long : slots ≤ 64 * length live
+  pub end-there : edge < length ends
+  pub mark-there : edge < 64 * length seen
+
 -- A cursor over columns whose edges have ends, and a mark map for all of them.
 pub record ListReadable (linked : Bool) (entries next live : List ℕ) (slots : ℕ) (c : AdjacencyCursor) (ends seen : List ℕ) : Type 0 where
   pub seekable : Seekable linked entries next live slots c

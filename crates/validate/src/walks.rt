@@ -4,6 +4,7 @@
 use crate::marks::mark;
 use adjacency::cursor::AdjacencyCursor;
 use adjacency::cursor::Found;
+use adjacency::cursor::is_listed;
 use adjacency::walk;
 use liveness::is_live;
 use plain::Counts;
@@ -15,10 +16,33 @@ ghost use lib.Dec.{eqb};
 ghost use Rattle.plain.specs.Lists.{all, from};
 ghost use Rattle.liveness.specs.Flags.{live-flags};
 ghost use Rattle.shape.specs.Columns.{end-at};
-ghost use Rattle.adjacency.specs.Cursor.{listed-left};
+ghost use Rattle.adjacency.specs.Cursor.{listed, listed-left};
 ghost use Rattle.adjacency.specs.Walk.{walk-in};
-ghost use Rattle.validate.specs.Marks.{Followed};
-ghost use Rattle.validate.specs.Walks.{ListReadable, WalkReadable, WalksReadable, marked-if-live, walks-test};
+ghost use Rattle.validate.specs.Marks.{Entered, Followed};
+ghost use Rattle.validate.specs.Walks.{EntryReadable, ListReadable, WalkReadable, WalksReadable, marked-if-live, walks-test};
+
+// An entry that is listed ends at the node, by the column `ends`, and is not marked yet. Marks it where it is listed.
+fn entry_right(
+    tombstoned: bool,
+    live: &[u64],
+    slots: usize,
+    ends: &[u32],
+    node: u32,
+    edge: u32,
+    seen: &mut [u64],
+) -> bool
+    requires { ⌜ EntryReadable (now live) slots (now ends) edge (now seen) ⌝ }
+    ensures { λ r. ⌜ Entered (listed tombstoned (live-flags (now (live .entry)) slots) edge) (eqb (end-at (now (ends .entry)) edge) node) (now (seen .entry)) edge r (now (seen .exit)) ⌝ }
+{
+    let slot = edge as usize;
+    if !is_listed(tombstoned, live, slots, edge) {
+        return true;
+    }
+    if ends[slot] != node {
+        return false;
+    }
+    mark(seen, slot)
+}
 
 // The listed entries that a cursor has left: each ends at the node, by the column `ends`, and none is marked. Marks them.
 fn list_right(
@@ -38,14 +62,11 @@ fn list_right(
 {
     let mut cursor = start;
     loop {
-        let step = cursor.seek(linked, entries, next, tombstoned, live, slots);
+        let step = cursor.step(linked, entries, next);
         let found = step.found;
         match found {
             Found::Edge(edge) => {
-                if ends[edge as usize] != node {
-                    return false;
-                }
-                if !mark(seen, edge as usize) {
+                if !entry_right(tombstoned, live, slots, ends, node, edge, seen) {
                     return false;
                 }
             }
