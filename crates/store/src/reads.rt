@@ -18,8 +18,8 @@ const OUT_OF_RANGE_EDGE: u32 = 7;
 
 const REMOVED_EDGE: u32 = 8;
 
-// A yes or no as an answer: 1 or 0.
-fn yes_or_no(test: bool) -> Answer
+// A yes or no as an answer: 1 or 0. Internal.
+pub fn yes_or_no(test: bool) -> Answer
     ensures { λ r. ⌜ r ≡ answer-of test ⌝ }
 {
     if test {
