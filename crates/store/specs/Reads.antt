@@ -9,13 +9,15 @@ use Rattle.plain.specs.declared.TraversalDirection.{TraversalDirection}
 use Rattle.plain.specs.declared.TraversalDirection.the-variants.{Outgoing, Incoming}
 use Rattle.plain.specs.declared.Record.{Record}
 use Rattle.plain.specs.Numbers.{NONE}
-use Rattle.plain.specs.Plain.{NodeSlot, EdgeSlot, no-node, no-edge, end-of}
+use Rattle.plain.specs.Plain.{NodeSlot, EdgeSlot, no-node, no-edge, end-of, list-of}
 use Rattle.plain.specs.Reads.{answered, yes-or-no, no-record, node-payload, edge-record, live-edge-record, contains-node, contains-edge}
 use Rattle.plain.specs.Laws.CallCases.{node-payload-absent, node-payload-there, edge-record-absent, edge-record-there, live-edge-record-absent, live-edge-record-removed, live-edge-record-there, contains-node-is, contains-edge-is}
 use Rattle.liveness.specs.FlagLaws.{length-flags}
 use Rattle.shape.specs.Shape.{Words, Axis, node-live, edge-live, axis-words, shape-of, plain-of, lists}
 use Rattle.shape.specs.Laws.Reading.{made-at, node-bound-is, edge-bound-is, node-flags-are, edge-flags-are, axis-is, axis-end}
 use Rattle.shape.specs.Checked.{Checked}
+use Rattle.adjacency.specs.Walk.{walk-in}
+use Rattle.adjacency.specs.StoreWalks.{list-is-walk}
 
 module _ (w : Words) where
   -- the payload of a node slot
@@ -93,3 +95,11 @@ module _ {w : Words} (checked : Checked w) where
   pub edge-there : (e : ℕ) → contains-edge (lists w) e ≡ yes-or-no (getD (edge-live w) e false)
   unfolding plain-of
   edge-there e = contains-edge-is (lists w) e ∙ ap (λ (fs : List Bool). yes-or-no (getD fs e false)) (edge-flags-are w)
+
+  -- the degree of a node, by the walk of its words
+  pub degree-read : (d : TraversalDirection) (x : ℕ) → x < w .counts .nodes .bound → {live : Bool} → live ≡ getD (node-live w) x false → {answer : ℕ}
+      → answer ≡ length (walk-in (axis-words d w) (length (w .edges)) (length (w .nodes)) (w .counts) (w .live-edges) x live)
+      → answer ≡ length (list-of d (lists w) x)
+  degree-read d x below is walked =
+      walked ∙ ap (λ (b : Bool). length (walk-in (axis-words d w) (length (w .edges)) (length (w .nodes)) (w .counts) (w .live-edges) x b)) is
+      ∙ sym (ap length (list-is-walk w d x below))

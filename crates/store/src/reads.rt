@@ -1,11 +1,16 @@
-// Reads of a slot: payloads, records and whether it is live. Each answers what its definition says of the store's plain lists (crate `plain`, Reads.antt).
+// Reads of a slot: payloads, records, degrees and whether it is live. Each answers what its definition says of the store's plain lists (crate `plain`, Reads.antt).
 
+use adjacency::walk;
 use liveness;
 use plain::Answer;
 use plain::Counts;
 use plain::NONE;
 use plain::Record;
+use plain::TraversalDirection;
+ghost use Prim.Native.Nat.{_<_};
 ghost use mathlib.Core.Path.{_≡_};
+ghost use lib.ListN.{length};
+ghost use Rattle.plain.specs.Plain.{list-of};
 ghost use Rattle.plain.specs.Numbers.{NONE as none};
 ghost use Rattle.plain.specs.Reads.{no-record, node-payload, edge-record, live-edge-record, contains-node, contains-edge, yes-or-no as answer-of};
 ghost use Rattle.shape.specs.Checked.{Checked};
@@ -179,4 +184,51 @@ pub fn contains_edge(
     let slots = counts.edges;
     let bound = slots.bound as usize;
     yes_or_no(liveness::is_live(live_edges, bound, edge as usize))
+}
+
+// How many edges a node's list has, of a node slot below the bound.
+pub fn degree(
+    counts: Counts,
+    nodes: &[u32],
+    edges: &[u32],
+    live_nodes: &[u64],
+    live_edges: &[u64],
+    outgoing: &[u32],
+    incoming: &[u32],
+    direction: TraversalDirection,
+    node: u32,
+) -> usize
+    requires { ⌜ Checked (store counts (now nodes) (now edges) (now «live_nodes») (now «live_edges») (now outgoing) (now incoming)) ⌝ }
+    requires { ⌜ node < counts .nodes .bound ⌝ }
+    ensures { λ r. ⌜ r ≡ length (list-of direction (lists
+        (store counts (now (nodes .entry)) (now (edges .entry)) (now («live_nodes» .entry)) (now («live_edges» .entry)) (now (outgoing .entry)) (now (incoming .entry)))) node) ⌝ }
+{
+    let slots = counts.nodes;
+    let bound = slots.bound as usize;
+    let at = node as usize;
+    let live = liveness::is_live(live_nodes, bound, at);
+    match direction {
+        TraversalDirection::Outgoing => {
+            walk::degree(
+                outgoing,
+                edges.len(),
+                nodes.len(),
+                counts,
+                live_edges,
+                at,
+                live,
+            )
+        }
+        TraversalDirection::Incoming => {
+            walk::degree(
+                incoming,
+                edges.len(),
+                nodes.len(),
+                counts,
+                live_edges,
+                at,
+                live,
+            )
+        }
+    }
 }
