@@ -2,4 +2,5 @@
 // document 01's order of refusals. A read that refuses writes nothing.
 
 pub mod slots;
+pub mod walks;
 pub mod whole;
