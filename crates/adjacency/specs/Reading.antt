@@ -134,7 +134,7 @@ walked-few {test} r w =
 -- ---- a walk written to a slice
 
 -- one more word of a list that is written from the front
-write-one : (past out₀ : List ℕ) (n v : ℕ) → n ≡ length past → n < length out₀ → set (past ++ drop n out₀) n v ≡ (past ++ (v ∷ [])) ++ drop (n + 1) out₀
+pub write-one : (past out₀ : List ℕ) (n v : ℕ) → n ≡ length past → n < length out₀ → set (past ++ drop n out₀) n v ≡ (past ++ (v ∷ [])) ++ drop (n + 1) out₀
 write-one past out₀ n v q h =
     rw (drop-cons out₀ n 0 h, add-one n) (set-at past (getD out₀ n 0) (drop (suc n) out₀) v n (sym q) ∙ sym (append-snoc past v (drop (suc n) out₀)))
 
