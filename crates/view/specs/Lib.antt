@@ -1,3 +1,5 @@
 pub mod Calls
 pub mod Whole
 pub mod Walks
+pub mod Ids
+pub mod Finding

@@ -37,13 +37,13 @@ pub record ListFits (w : Words) (d : TraversalDirection) (x : ℕ) (slots : List
 
 -- ---- a node at or above the bound, and one below it
 
-module _ (w : Words) (d : TraversalDirection) (x : ℕ) where
-  absent : w .counts .nodes .bound ≤ x → Absent (node-flags (lists w)) x
-  unfolding plain-of
-  absent h = rw (node-flags-are w, length-flags (w .live-nodes) (w .counts .nodes .bound)) h
+pub absent : (w : Words) (x : ℕ) → w .counts .nodes .bound ≤ x → Absent (node-flags (lists w)) x
+unfolding plain-of
+absent w x h = rw (node-flags-are w, length-flags (w .live-nodes) (w .counts .nodes .bound)) h
 
+module _ (w : Words) (d : TraversalDirection) (x : ℕ) where
   pub degree-past : w .counts .nodes .bound ≤ x → record { number = 5; value = NONE } ≡ degree d (lists w) x
-  degree-past h = sym (degree-absent d (lists w) x 0 (absent h))
+  degree-past h = sym (degree-absent d (lists w) x 0 (absent w x h))
 
   pub degree-below : x < w .counts .nodes .bound → {n : ℕ} → n ≡ length (list-in d w x) → answered n ≡ degree d (lists w) x
   unfolding plain-of
@@ -51,14 +51,14 @@ module _ (w : Words) (d : TraversalDirection) (x : ℕ) where
 
   module _ (room : ℕ) where
     pub walk-past : w .counts .nodes .bound ≤ x → walk d (lists w) x room ≡ record { number = 5; value = NONE; words = [] }
-    walk-past h = walk-absent d (lists w) x room (absent h)
+    walk-past h = walk-absent d (lists w) x room (absent w x h)
 
     pub walk-below : x < w .counts .nodes .bound → walk d (lists w) x room ≡ listing room (list-in d w x)
     unfolding plain-of
     walk-below l = walk-there d (lists w) x room (rw (node-bound-is w) l)
 
     pub neighbors-past : w .counts .nodes .bound ≤ x → neighbors d (lists w) x room ≡ record { number = 5; value = NONE; words = [] }
-    neighbors-past h = neighbors-absent d (lists w) x room (absent h)
+    neighbors-past h = neighbors-absent d (lists w) x room (absent w x h)
 
     pub neighbors-below : x < w .counts .nodes .bound → neighbors d (lists w) x room ≡ listing room (far-ends-in d w x)
     unfolding plain-of
