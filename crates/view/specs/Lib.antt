@@ -3,3 +3,4 @@ pub mod Whole
 pub mod Walks
 pub mod Ids
 pub mod Finding
+pub mod Compact
