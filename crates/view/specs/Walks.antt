@@ -1,11 +1,12 @@
 -- Reads of a node's list: what they answer on the plain lists of a checked store, by the bound and the walk of its words.
 use Prim.Native.Nat.{ℕ, _≤_, _<_}
-use mathlib.Core.Path.{_≡_, sym, ap, subst, _∙_}
+use mathlib.Core.Path.{_≡_, refl, sym, ap, subst, _∙_}
 use native.Mathlib.Omega.{arith}
 use mathlib.Core.Bool.{Bool, false}
 use mathlib.Core.List.{List, [], map}
 use lib.ListN.{length, getD, length-map}
 use Rattle.plain.specs.declared.TraversalDirection.{TraversalDirection}
+use Rattle.plain.specs.declared.Answer.{Answer}
 use Rattle.plain.specs.Numbers.{NONE}
 use Rattle.plain.specs.Lists.{written}
 use Rattle.plain.specs.Plain.{node-flags, list-of, end-of, opposite}
@@ -18,8 +19,8 @@ use Rattle.shape.specs.Shape.{Words, node-live, axis-words, plain-of, lists}
 use Rattle.shape.specs.Checked.{Checked}
 use Rattle.shape.specs.Laws.Reading.{node-bound-is, node-flags-are}
 use Rattle.adjacency.specs.Walk.{walk-in, WalkFits}
-use Rattle.validate.specs.Judging.{Judged}
-use Rattle.view.specs.Calls.{Replied, list-short, list-done}
+use Rattle.validate.specs.Judging.{Judged, refusal}
+use Rattle.view.specs.Calls.{Replied, reply-refuses, reply-absent, list-short, list-done}
 use Rattle.adjacency.specs.StoreWalks.{checked-walkable, list-is-walk, far-ends}
 
 -- a node's list, and the far ends of it
@@ -50,17 +51,17 @@ module _ (w : Words) (d : TraversalDirection) (x : ℕ) where
   degree-below l is = ap answered is ∙ sym (degree-there d (lists w) x 0 (rw (node-bound-is w) l))
 
   module _ (room : ℕ) where
-    pub walk-past : w .counts .nodes .bound ≤ x → walk d (lists w) x room ≡ record { number = 5; value = NONE; words = [] }
+    walk-past : w .counts .nodes .bound ≤ x → walk d (lists w) x room ≡ record { number = 5; value = NONE; words = [] }
     walk-past h = walk-absent d (lists w) x room (absent w x h)
 
-    pub walk-below : x < w .counts .nodes .bound → walk d (lists w) x room ≡ listing room (list-in d w x)
+    walk-below : x < w .counts .nodes .bound → walk d (lists w) x room ≡ listing room (list-in d w x)
     unfolding plain-of
     walk-below l = walk-there d (lists w) x room (rw (node-bound-is w) l)
 
-    pub neighbors-past : w .counts .nodes .bound ≤ x → neighbors d (lists w) x room ≡ record { number = 5; value = NONE; words = [] }
+    neighbors-past : w .counts .nodes .bound ≤ x → neighbors d (lists w) x room ≡ record { number = 5; value = NONE; words = [] }
     neighbors-past h = neighbors-absent d (lists w) x room (absent w x h)
 
-    pub neighbors-below : x < w .counts .nodes .bound → neighbors d (lists w) x room ≡ listing room (far-ends-in d w x)
+    neighbors-below : x < w .counts .nodes .bound → neighbors d (lists w) x room ≡ listing room (far-ends-in d w x)
     unfolding plain-of
     neighbors-below l = neighbors-there d (lists w) x room (rw (node-bound-is w) l)
 
@@ -68,23 +69,59 @@ module _ (w : Words) (d : TraversalDirection) (x : ℕ) where
 far-ends-size : (w : Words) (d : TraversalDirection) (x : ℕ) {n : ℕ} → n ≡ length (list-in d w x) → n ≡ length (far-ends-in d w x)
 far-ends-size w d x size = size ∙ sym (length-map (list-in d w x) (end-of (opposite d) (lists w)))
 
--- ---- the answers of a walk and of its far ends, of a node below the bound, once its list is counted
+-- ---- what a read of a list comes to, before anything is written
 
-module _ {w : Words} {rule : ℕ} (j : Judged w rule) (zero : rule ≡ 0) (d : TraversalDirection) (x : ℕ) (below : x < w .counts .nodes .bound) {n : ℕ}
-    (size : n ≡ length (list-in d w x)) {entry : List ℕ} where
-  pub walk-short : length entry < n → Replied w (λ w room. walk d (lists w) x room) entry (record { number = 2; value = n }) entry
-  walk-short = list-short j zero (list-in d w x) (walk-below w d x (length entry) below) size
+pub data ListAnswer (w : Words) (d : TraversalDirection) (x room : ℕ) : Answer → Type 0 where
+  -- a rule is broken
+  no-store : {rule : ℕ} {r : Answer} → Judged w rule → (rule ≡ 0 → ⊥) → r ≡ refusal rule → ListAnswer w d x room r
+  -- the node is at or above the bound
+  past : {rule : ℕ} → Judged w rule → rule ≡ 0 → w .counts .nodes .bound ≤ x → ListAnswer w d x room (record { number = 5; value = NONE })
+  -- the slice is too short for the list
+  short : {rule n : ℕ} → Judged w rule → rule ≡ 0 → x < w .counts .nodes .bound → n ≡ length (list-in d w x) → room < n
+      → ListAnswer w d x room (record { number = 2; value = n })
+  -- it is not
+  fits : {rule n : ℕ} → Judged w rule → rule ≡ 0 → x < w .counts .nodes .bound → n ≡ length (list-in d w x) → n ≤ room
+      → ListAnswer w d x room (record { number = 0; value = n })
 
-  pub walk-done : {exit : List ℕ} → n ≤ length entry → exit ≡ written (list-in d w x) entry
-      → Replied w (λ w room. walk d (lists w) x room) entry (record { number = 0; value = n }) exit
-  walk-done = list-done j zero (list-in d w x) (walk-below w d x (length entry) below) size
+module _ {w : Words} {d : TraversalDirection} {x : ℕ} {entry : List ℕ} where
+  -- a list that fits can be written
+  pub list-fits : {r : Answer} → ListAnswer w d x (length entry) r → r .number ≡ 0 → ListFits w d x entry
+  list-fits (no-store j h is) zero = let one = ap (λ (a : Answer). a .number) is in absurd (omega arith)
+  list-fits (past j z b) zero = absurd (omega arith)
+  list-fits (short j z b size h) zero = absurd (omega arith)
+  list-fits (fits j z b size h) zero = record { checked = j .checked z; below = b; fits = omega (arith, size) }
 
-  pub neighbors-short : length entry < n → Replied w (λ w room. neighbors d (lists w) x room) entry (record { number = 2; value = n }) entry
-  neighbors-short = list-short j zero (far-ends-in d w x) (neighbors-below w d x (length entry) below) (far-ends-size w d x size)
+  -- a refusal is the read's, and writes nothing
+  pub walk-refused : {r : Answer} → ListAnswer w d x (length entry) r → (r .number ≡ 0 → ⊥) → Replied w (λ w room. walk d (lists w) x room) entry r entry
+  walk-refused (no-store j h is) some = reply-refuses j h is
+  walk-refused (past j z b) some = reply-absent j z (walk-past w d x (length entry) b)
+  walk-refused (short j z b size h) some = list-short j z (list-in d w x) (walk-below w d x (length entry) b) size h
+  walk-refused (fits j z b size h) some = absurd (some refl)
 
-  pub neighbors-done : {exit : List ℕ} → n ≤ length entry → exit ≡ written (far-ends-in d w x) entry
-      → Replied w (λ w room. neighbors d (lists w) x room) entry (record { number = 0; value = n }) exit
-  neighbors-done = list-done j zero (far-ends-in d w x) (neighbors-below w d x (length entry) below) (far-ends-size w d x size)
+  pub neighbors-refused : {r : Answer} → ListAnswer w d x (length entry) r → (r .number ≡ 0 → ⊥)
+      → Replied w (λ w room. neighbors d (lists w) x room) entry r entry
+  neighbors-refused (no-store j h is) some = reply-refuses j h is
+  neighbors-refused (past j z b) some = reply-absent j z (neighbors-past w d x (length entry) b)
+  neighbors-refused (short j z b size h) some =
+      list-short j z (far-ends-in d w x) (neighbors-below w d x (length entry) b) (far-ends-size w d x size) h
+  neighbors-refused (fits j z b size h) some = absurd (some refl)
+
+  module _ {exit : List ℕ} where
+    -- and else the list is written
+    pub walk-done : {r : Answer} → ListAnswer w d x (length entry) r → r .number ≡ 0 → exit ≡ written (list-in d w x) entry
+        → Replied w (λ w room. walk d (lists w) x room) entry r exit
+    walk-done (no-store j h is) zero wrote = let one = ap (λ (a : Answer). a .number) is in absurd (omega arith)
+    walk-done (past j z b) zero wrote = absurd (omega arith)
+    walk-done (short j z b size h) zero wrote = absurd (omega arith)
+    walk-done (fits j z b size h) zero wrote = list-done j z (list-in d w x) (walk-below w d x (length entry) b) size h wrote
+
+    pub neighbors-done : {r : Answer} → ListAnswer w d x (length entry) r → r .number ≡ 0 → exit ≡ written (far-ends-in d w x) entry
+        → Replied w (λ w room. neighbors d (lists w) x room) entry r exit
+    neighbors-done (no-store j h is) zero wrote = let one = ap (λ (a : Answer). a .number) is in absurd (omega arith)
+    neighbors-done (past j z b) zero wrote = absurd (omega arith)
+    neighbors-done (short j z b size h) zero wrote = absurd (omega arith)
+    neighbors-done (fits j z b size h) zero wrote =
+        list-done j z (far-ends-in d w x) (neighbors-below w d x (length entry) b) (far-ends-size w d x size) h wrote
 
 -- ---- the writing, by the words of one direction
 

@@ -1,4 +1,4 @@
-// Public reads of a node's list: degree, walk, and the far ends of a walk (successors or predecessors). "Walk: 1, 5, 2." "Degree and node payload: 1, 5."
+// Public reads of a node's list into a lent slice: the walk, and the far ends of a walk (successors or predecessors). "Walk: 1, 5, 2."
 
 use adjacency;
 use liveness;
@@ -11,10 +11,10 @@ use validate::judging::judge;
 use validate::judging::no_store;
 ghost use mathlib.Core.Path.{_≡_};
 ghost use Rattle.plain.specs.Lists.{written};
-ghost use Rattle.plain.specs.Reads.{degree as degree-of, walk as walk-of, neighbors as neighbors-of};
+ghost use Rattle.plain.specs.Reads.{walk as walk-of, neighbors as neighbors-of};
 ghost use Rattle.shape.specs.Shape.{store, lists};
-ghost use Rattle.view.specs.Calls.{Answered, Replied};
-ghost use Rattle.view.specs.Walks.{ListFits, list-in, far-ends-in};
+ghost use Rattle.view.specs.Calls.{Replied};
+ghost use Rattle.view.specs.Walks.{ListAnswer, ListFits, list-in, far-ends-in};
 
 // The numbers of document 01's table that these reads answer.
 const TOO_SHORT: u32 = 2;
@@ -121,8 +121,8 @@ fn write_far_ends(
     }
 }
 
-// How many edges a node's list has.
-pub fn degree(
+// What a read of a node's list answers where `room` words are lent: the refusals in their order, and how many entries there are. Internal: it writes nothing.
+fn list_answer(
     counts: Counts,
     nodes: &[u32],
     edges: &[u32],
@@ -132,10 +132,11 @@ pub fn degree(
     incoming: &[u32],
     direction: TraversalDirection,
     node: u32,
+    room: usize,
 ) -> Answer
-    ensures { λ r. ⌜ Answered
+    ensures { λ r. ⌜ ListAnswer
         (store counts (now (nodes .entry)) (now (edges .entry)) (now («live_nodes» .entry)) (now («live_edges» .entry)) (now (outgoing .entry)) (now (incoming .entry)))
-        (λ w. degree-of direction (lists w) node) r ⌝ }
+        direction node room r ⌝ }
 {
     let rule = judge(
         counts,
@@ -166,6 +167,12 @@ pub fn degree(
         direction,
         node,
     );
+    if room < entries {
+        return Answer {
+            number: TOO_SHORT,
+            value: entries as u64,
+        };
+    }
     Answer {
         number: 0,
         value: entries as u64,
@@ -189,25 +196,7 @@ pub fn walk(
         (store counts (now (nodes .entry)) (now (edges .entry)) (now («live_nodes» .entry)) (now («live_edges» .entry)) (now (outgoing .entry)) (now (incoming .entry)))
         (λ w room. walk-of direction (lists w) node room) (now (slots .entry)) r (now (slots .exit)) ⌝ }
 {
-    let rule = judge(
-        counts,
-        nodes,
-        edges,
-        live_nodes,
-        live_edges,
-        outgoing,
-        incoming,
-    );
-    if rule != 0 {
-        return no_store(rule);
-    }
-    if counts.nodes.bound <= node {
-        return Answer {
-            number: OUT_OF_RANGE_NODE,
-            value: NONE as u64,
-        };
-    }
-    let entries = reads::degree(
+    let answer = list_answer(
         counts,
         nodes,
         edges,
@@ -217,12 +206,10 @@ pub fn walk(
         incoming,
         direction,
         node,
+        slots.len(),
     );
-    if slots.len() < entries {
-        return Answer {
-            number: TOO_SHORT,
-            value: entries as u64,
-        };
+    if answer.number != 0 {
+        return answer;
     }
     write_list(
         counts,
@@ -236,10 +223,7 @@ pub fn walk(
         node,
         slots,
     );
-    Answer {
-        number: 0,
-        value: entries as u64,
-    }
+    answer
 }
 
 // The far ends of a node's list into `slots`: successors, or predecessors.
@@ -259,25 +243,7 @@ pub fn neighbors(
         (store counts (now (nodes .entry)) (now (edges .entry)) (now («live_nodes» .entry)) (now («live_edges» .entry)) (now (outgoing .entry)) (now (incoming .entry)))
         (λ w room. neighbors-of direction (lists w) node room) (now (slots .entry)) r (now (slots .exit)) ⌝ }
 {
-    let rule = judge(
-        counts,
-        nodes,
-        edges,
-        live_nodes,
-        live_edges,
-        outgoing,
-        incoming,
-    );
-    if rule != 0 {
-        return no_store(rule);
-    }
-    if counts.nodes.bound <= node {
-        return Answer {
-            number: OUT_OF_RANGE_NODE,
-            value: NONE as u64,
-        };
-    }
-    let entries = reads::degree(
+    let answer = list_answer(
         counts,
         nodes,
         edges,
@@ -287,12 +253,10 @@ pub fn neighbors(
         incoming,
         direction,
         node,
+        slots.len(),
     );
-    if slots.len() < entries {
-        return Answer {
-            number: TOO_SHORT,
-            value: entries as u64,
-        };
+    if answer.number != 0 {
+        return answer;
     }
     write_far_ends(
         counts,
@@ -306,8 +270,5 @@ pub fn neighbors(
         node,
         slots,
     );
-    Answer {
-        number: 0,
-        value: entries as u64,
-    }
+    answer
 }

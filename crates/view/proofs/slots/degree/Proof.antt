@@ -1,9 +1,9 @@
--- `walks::degree` meets its contract: a law for each way out.
+-- `slots::degree` meets its contract: a law for each way out.
 use borrow.Author.Needs.{needs}
 use Rattle.view.specs.Calls.{answer-refuses, answer-done}
 use Rattle.view.specs.Walks.{degree-past, degree-below}
-use Rattle.view.proofs.walks.degree.Statement.{statement}
-use Rattle.view.proofs.walks.degree.Tie as tie
+use Rattle.view.proofs.slots.degree.Statement.{statement}
+use Rattle.view.proofs.slots.degree.Tie as tie
 
 abbrev entry : tie.After-judge → tie.Start
 entry c = c .before .before .before .before .before .before .before
