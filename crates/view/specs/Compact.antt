@@ -1,8 +1,8 @@
 -- Whether a checked store is compact, by its counts and the marks of its runs.
 use Prim.Native.Nat.{ℕ, suc, _+_, _*_, _≤_}
 use native.Mathlib.Omega.{arith}
-use mathlib.Core.Path.{_≡_, refl, sym, ap, ap₂, _∙_}
-use mathlib.Core.Bool.{Bool, true, false, cond, _&&_, not}
+use mathlib.Core.Path.{_≡_, refl, sym, ap, _∙_}
+use mathlib.Core.Bool.{Bool, true, false, _&&_, not}
 use mathlib.Core.List.{List, [], _∷_, map}
 use lib.ListN.{length}
 use lib.Dec.{eqb, ltb}
@@ -17,7 +17,7 @@ use Rattle.plain.specs.Laws.Booleans.{by-test, eqb-same, refuted}
 use Rattle.plain.specs.Laws.ListLaws.{count-length}
 use Rattle.liveness.specs.FlagLaws.{length-flags}
 use Rattle.shape.specs.Columns.{cell, mark-at}
-use Rattle.shape.specs.Shape.{Words, Axis, axis-words, adjacency-in, axis-of, run-of, has-run, shape-of, node-flags-of, edge-flags-of, is-compact}
+use Rattle.shape.specs.Shape.{Words, axis-words, adjacency-in, axis-of, run-of, has-run, shape-of, is-compact}
 use Rattle.shape.specs.Checked.{Checked}
 use Rattle.shape.specs.Laws.Reading.{node-bound-is, edge-bound-is, node-flags-are, edge-flags-are, axis-is}
 use Rattle.validate.specs.Passing.{slots-agree}

@@ -1,8 +1,7 @@
 -- Finding an edge from one node to another: the first entry of the one node's out-list whose target is the other is a live edge between the two, and where there
 -- is none no live edge is.
 use Prim.Native.Nat.{ℕ, _≤_, _<_}
-use native.Mathlib.Omega.{arith}
-use mathlib.Core.Path.{_≡_, refl, sym, ap, ap₂, _∙_}
+use mathlib.Core.Path.{_≡_, refl, sym, ap, _∙_}
 use mathlib.Core.Bool.{Bool, true, false, _&&_}
 use mathlib.Core.List.{List, [], _∷_}
 use lib.ListN.{length, getD}
@@ -12,18 +11,16 @@ use Rattle.plain.specs.declared.TraversalDirection.the-variants.{Outgoing, Inco
 use Rattle.plain.specs.declared.Answer.{Answer}
 use Rattle.plain.specs.Numbers.{NONE}
 use Rattle.plain.specs.Lists.{member, keep}
-use Rattle.plain.specs.Plain.{Plain, node-flags, edge-flags, list-of, end-of}
+use Rattle.plain.specs.Plain.{Plain, edge-flags, list-of, end-of}
 use Rattle.plain.specs.Step.{Capacities}
 use Rattle.plain.specs.Reads.{live-slots, edges-between, one-of, may-find}
 use Rattle.plain.specs.Laws.Booleans.{true-false}
 use Rattle.plain.specs.Laws.ListLaws.{member-first, member-keep}
 use Rattle.plain.specs.Laws.Rank.{member-live-slots}
 use Rattle.plain.specs.Laws.WellFormed.{WellFormed}
-use Rattle.plain.specs.Laws.Cases.{Absent}
 use Rattle.plain.specs.Laws.CallCases.{find-first-absent, find-second-absent, find-there}
-use Rattle.shape.specs.Shape.{Words, node-live, axis-words, plain-of, lists}
+use Rattle.shape.specs.Shape.{Words, node-live, plain-of, lists}
 use Rattle.shape.specs.Rules.{broken}
-use Rattle.shape.specs.Checked.{Checked}
 use Rattle.shape.specs.Laws.Reading.{node-bound-is, plain-end}
 use Rattle.shape.specs.Laws.Taking.{keep-agree}
 use Rattle.adjacency.specs.Walk.{walk-in}

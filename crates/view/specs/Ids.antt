@@ -17,10 +17,8 @@ use Rattle.plain.specs.Laws.Booleans.{below-or-not}
 use Rattle.plain.specs.Laws.ListLaws.{count-length}
 use Rattle.plain.specs.Laws.Rank.{length-live-slots}
 use Rattle.liveness.specs.Flags.{live-flags, next-live}
-use Rattle.liveness.specs.FlagLaws.{length-flags}
-use Rattle.liveness.specs.Next.{Listed, listed-next, listed-end}
+use Rattle.liveness.specs.Next.{listed-next, listed-end}
 use Rattle.shape.specs.Shape.{Words, node-live, edge-live, plain-of, lists}
-use Rattle.shape.specs.Checked.{Checked}
 use Rattle.shape.specs.Laws.Reading.{node-flags-are, edge-flags-are}
 use Rattle.adjacency.specs.Reading.{write-one}
 use Rattle.validate.specs.Judging.{Judged}

@@ -20,7 +20,7 @@ use Rattle.shape.specs.Checked.{Checked}
 use Rattle.shape.specs.Laws.Reading.{node-bound-is, node-flags-are}
 use Rattle.adjacency.specs.Walk.{walk-in, WalkFits}
 use Rattle.validate.specs.Judging.{Judged, refusal}
-use Rattle.view.specs.Calls.{Replied, reply-refuses, reply-absent, list-short, list-done}
+use Rattle.view.specs.Calls.{Answered, Replied, answer-refuses, answer-done, reply-refuses, reply-absent, list-short, list-done}
 use Rattle.adjacency.specs.StoreWalks.{checked-walkable, list-is-walk, far-ends}
 
 -- a node's list, and the far ends of it
@@ -43,10 +43,10 @@ unfolding plain-of
 absent w x h = rw (node-flags-are w, length-flags (w .live-nodes) (w .counts .nodes .bound)) h
 
 module _ (w : Words) (d : TraversalDirection) (x : ℕ) where
-  pub degree-past : w .counts .nodes .bound ≤ x → record { number = 5; value = NONE } ≡ degree d (lists w) x
+  degree-past : w .counts .nodes .bound ≤ x → record { number = 5; value = NONE } ≡ degree d (lists w) x
   degree-past h = sym (degree-absent d (lists w) x 0 (absent w x h))
 
-  pub degree-below : x < w .counts .nodes .bound → {n : ℕ} → n ≡ length (list-in d w x) → answered n ≡ degree d (lists w) x
+  degree-below : x < w .counts .nodes .bound → {n : ℕ} → n ≡ length (list-in d w x) → answered n ≡ degree d (lists w) x
   unfolding plain-of
   degree-below l is = ap answered is ∙ sym (degree-there d (lists w) x 0 (rw (node-bound-is w) l))
 
@@ -69,39 +69,70 @@ module _ (w : Words) (d : TraversalDirection) (x : ℕ) where
 far-ends-size : (w : Words) (d : TraversalDirection) (x : ℕ) {n : ℕ} → n ≡ length (list-in d w x) → n ≡ length (far-ends-in d w x)
 far-ends-size w d x size = size ∙ sym (length-map (list-in d w x) (end-of (opposite d) (lists w)))
 
--- ---- what a read of a list comes to, before anything is written
+-- ---- what counting a list comes to, and a read of it before anything is written
+
+pub data CountAnswer (w : Words) (d : TraversalDirection) (x : ℕ) : Answer → Type 0 where
+  -- a rule is broken
+  no-store : {rule : ℕ} {r : Answer} → Judged w rule → (rule ≡ 0 → ⊥) → r ≡ refusal rule → CountAnswer w d x r
+  -- the node is at or above the bound
+  past : {rule : ℕ} → Judged w rule → rule ≡ 0 → w .counts .nodes .bound ≤ x → CountAnswer w d x (record { number = 5; value = NONE })
+  -- it is below
+  counted : {rule n : ℕ} → Judged w rule → rule ≡ 0 → x < w .counts .nodes .bound → n ≡ length (list-in d w x)
+      → CountAnswer w d x (record { number = 0; value = n })
 
 pub data ListAnswer (w : Words) (d : TraversalDirection) (x room : ℕ) : Answer → Type 0 where
-  -- a rule is broken
-  no-store : {rule : ℕ} {r : Answer} → Judged w rule → (rule ≡ 0 → ⊥) → r ≡ refusal rule → ListAnswer w d x room r
-  -- the node is at or above the bound
-  past : {rule : ℕ} → Judged w rule → rule ≡ 0 → w .counts .nodes .bound ≤ x → ListAnswer w d x room (record { number = 5; value = NONE })
-  -- the slice is too short for the list
+  -- the list is not counted
+  refused : {r : Answer} → CountAnswer w d x r → (r .number ≡ 0 → ⊥) → ListAnswer w d x room r
+  -- the slice is too short for it
   short : {rule n : ℕ} → Judged w rule → rule ≡ 0 → x < w .counts .nodes .bound → n ≡ length (list-in d w x) → room < n
       → ListAnswer w d x room (record { number = 2; value = n })
   -- it is not
   fits : {rule n : ℕ} → Judged w rule → rule ≡ 0 → x < w .counts .nodes .bound → n ≡ length (list-in d w x) → n ≤ room
       → ListAnswer w d x room (record { number = 0; value = n })
 
+-- a broken rule is not number 0
+no-zero : {A : Type 0} {rule : ℕ} {r : Answer} → r ≡ refusal rule → r .number ≡ 0 → A
+no-zero is zero = let one = ap (λ (a : Answer). a .number) is in absurd (omega arith)
+
+module _ {w : Words} {d : TraversalDirection} {x : ℕ} where
+  -- the degree is the count
+  pub count-degree : {r : Answer} → CountAnswer w d x r → Answered w (λ w. degree d (lists w) x) r
+  count-degree (no-store j h is) = answer-refuses j h is
+  count-degree (past j z b) = answer-done j z (degree-past w d x b)
+  count-degree (counted j z b size) = answer-done j z (degree-below w d x b size)
+
+  module _ {room : ℕ} where
+    -- the count beside the room
+    pub count-short : {r : Answer} → CountAnswer w d x r → r .number ≡ 0 → room < r .value → ListAnswer w d x room (record { number = 2; value = r .value })
+    count-short (no-store j h is) zero l = no-zero is zero
+    count-short (past j z b) zero l = absurd (omega arith)
+    count-short (counted j z b size) zero l = short j z b size l
+
+    pub count-fits : {r : Answer} → CountAnswer w d x r → r .number ≡ 0 → r .value ≤ room → ListAnswer w d x room r
+    count-fits (no-store j h is) zero l = no-zero is zero
+    count-fits (past j z b) zero l = absurd (omega arith)
+    count-fits (counted j z b size) zero l = fits j z b size l
+
 module _ {w : Words} {d : TraversalDirection} {x : ℕ} {entry : List ℕ} where
   -- a list that fits can be written
   pub list-fits : {r : Answer} → ListAnswer w d x (length entry) r → r .number ≡ 0 → ListFits w d x entry
-  list-fits (no-store j h is) zero = let one = ap (λ (a : Answer). a .number) is in absurd (omega arith)
-  list-fits (past j z b) zero = absurd (omega arith)
+  list-fits (refused c some) zero = absurd (some zero)
   list-fits (short j z b size h) zero = absurd (omega arith)
   list-fits (fits j z b size h) zero = record { checked = j .checked z; below = b; fits = omega (arith, size) }
 
   -- a refusal is the read's, and writes nothing
   pub walk-refused : {r : Answer} → ListAnswer w d x (length entry) r → (r .number ≡ 0 → ⊥) → Replied w (λ w room. walk d (lists w) x room) entry r entry
-  walk-refused (no-store j h is) some = reply-refuses j h is
-  walk-refused (past j z b) some = reply-absent j z (walk-past w d x (length entry) b)
+  walk-refused (refused (no-store j h is) k) some = reply-refuses j h is
+  walk-refused (refused (counted j z b size) k) some = absurd (some refl)
+  walk-refused (refused (past j z b) k) some = reply-absent j z (walk-past w d x (length entry) b)
   walk-refused (short j z b size h) some = list-short j z (list-in d w x) (walk-below w d x (length entry) b) size h
   walk-refused (fits j z b size h) some = absurd (some refl)
 
   pub neighbors-refused : {r : Answer} → ListAnswer w d x (length entry) r → (r .number ≡ 0 → ⊥)
       → Replied w (λ w room. neighbors d (lists w) x room) entry r entry
-  neighbors-refused (no-store j h is) some = reply-refuses j h is
-  neighbors-refused (past j z b) some = reply-absent j z (neighbors-past w d x (length entry) b)
+  neighbors-refused (refused (no-store j h is) k) some = reply-refuses j h is
+  neighbors-refused (refused (counted j z b size) k) some = absurd (some refl)
+  neighbors-refused (refused (past j z b) k) some = reply-absent j z (neighbors-past w d x (length entry) b)
   neighbors-refused (short j z b size h) some =
       list-short j z (far-ends-in d w x) (neighbors-below w d x (length entry) b) (far-ends-size w d x size) h
   neighbors-refused (fits j z b size h) some = absurd (some refl)
@@ -110,15 +141,13 @@ module _ {w : Words} {d : TraversalDirection} {x : ℕ} {entry : List ℕ} where
     -- and else the list is written
     pub walk-done : {r : Answer} → ListAnswer w d x (length entry) r → r .number ≡ 0 → exit ≡ written (list-in d w x) entry
         → Replied w (λ w room. walk d (lists w) x room) entry r exit
-    walk-done (no-store j h is) zero wrote = let one = ap (λ (a : Answer). a .number) is in absurd (omega arith)
-    walk-done (past j z b) zero wrote = absurd (omega arith)
+    walk-done (refused c some) zero wrote = absurd (some zero)
     walk-done (short j z b size h) zero wrote = absurd (omega arith)
     walk-done (fits j z b size h) zero wrote = list-done j z (list-in d w x) (walk-below w d x (length entry) b) size h wrote
 
     pub neighbors-done : {r : Answer} → ListAnswer w d x (length entry) r → r .number ≡ 0 → exit ≡ written (far-ends-in d w x) entry
         → Replied w (λ w room. neighbors d (lists w) x room) entry r exit
-    neighbors-done (no-store j h is) zero wrote = let one = ap (λ (a : Answer). a .number) is in absurd (omega arith)
-    neighbors-done (past j z b) zero wrote = absurd (omega arith)
+    neighbors-done (refused c some) zero wrote = absurd (some zero)
     neighbors-done (short j z b size h) zero wrote = absurd (omega arith)
     neighbors-done (fits j z b size h) zero wrote =
         list-done j z (far-ends-in d w x) (neighbors-below w d x (length entry) b) (far-ends-size w d x size) h wrote

@@ -1,10 +1,7 @@
 -- Bounds and counts: the plain lists of a checked store have them as its record of counts says.
 use mathlib.Core.Path.{_≡_, sym, ap, _∙_}
-use mathlib.Core.Bool.{Bool}
-use mathlib.Core.List.{List}
 use lib.Dec.{eqb}
 use Prim.Native.Nat.{ℕ}
-use Rattle.plain.specs.Plain.{node-flags, edge-flags}
 use Rattle.plain.specs.Reads.{answered, yes-or-no, live-count, live-nodes, live-edges, node-bound-answer, edge-bound-answer, node-count, edge-count, is-empty}
 use Rattle.shape.specs.Shape.{Words, plain-of, lists}
 use Rattle.shape.specs.Checked.{Checked}

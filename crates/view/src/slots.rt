@@ -1,20 +1,15 @@
-// Public reads of a slot: payloads, degrees, records and whether it is live. The check comes first, then what crate `store` reads of a checked store.
+// Public reads of a slot: payloads, records and whether it is live. The check comes first, then what crate `store` reads of a checked store.
 
 use plain::Answer;
 use plain::Counts;
-use plain::NONE;
 use plain::Record;
-use plain::TraversalDirection;
 use store::reads;
 use validate::judging::judge;
 use validate::judging::no_store;
 use validate::judging::no_store_record;
-ghost use Rattle.plain.specs.Reads.{degree as degree-of, node-payload, edge-record, live-edge-record, contains-node, contains-edge};
+ghost use Rattle.plain.specs.Reads.{node-payload, edge-record, live-edge-record, contains-node, contains-edge};
 ghost use Rattle.shape.specs.Shape.{store, lists};
 ghost use Rattle.view.specs.Calls.{Answered, Recorded};
-
-// The number of document 01's table for a node at or above the bound.
-const OUT_OF_RANGE_NODE: u32 = 5;
 
 // The payload of a node slot, also of a removed one. "Degree and node payload: 1, 5."
 pub fn node_payload(
@@ -53,57 +48,6 @@ pub fn node_payload(
         incoming,
         node,
     )
-}
-
-// How many edges a node's list has. "Degree and node payload: 1, 5."
-pub fn degree(
-    counts: Counts,
-    nodes: &[u32],
-    edges: &[u32],
-    live_nodes: &[u64],
-    live_edges: &[u64],
-    outgoing: &[u32],
-    incoming: &[u32],
-    direction: TraversalDirection,
-    node: u32,
-) -> Answer
-    ensures { λ r. ⌜ Answered
-        (store counts (now (nodes .entry)) (now (edges .entry)) (now («live_nodes» .entry)) (now («live_edges» .entry)) (now (outgoing .entry)) (now (incoming .entry)))
-        (λ w. degree-of direction (lists w) node) r ⌝ }
-{
-    let rule = judge(
-        counts,
-        nodes,
-        edges,
-        live_nodes,
-        live_edges,
-        outgoing,
-        incoming,
-    );
-    if rule != 0 {
-        return no_store(rule);
-    }
-    if counts.nodes.bound <= node {
-        return Answer {
-            number: OUT_OF_RANGE_NODE,
-            value: NONE as u64,
-        };
-    }
-    let entries = reads::degree(
-        counts,
-        nodes,
-        edges,
-        live_nodes,
-        live_edges,
-        outgoing,
-        incoming,
-        direction,
-        node,
-    );
-    Answer {
-        number: 0,
-        value: entries as u64,
-    }
 }
 
 // The record of an edge slot, also of a removed one: source, target and payload. "Record 1, 7."

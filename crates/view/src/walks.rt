@@ -1,4 +1,4 @@
-// Public reads of a node's list into a lent slice: the walk, and the far ends of a walk (successors or predecessors). "Walk: 1, 5, 2."
+// Public reads of a node's list: degree, walk, and the far ends of a walk (successors or predecessors). "Walk: 1, 5, 2." "Degree and node payload: 1, 5."
 
 use adjacency;
 use liveness;
@@ -11,10 +11,10 @@ use validate::judging::judge;
 use validate::judging::no_store;
 ghost use mathlib.Core.Path.{_≡_};
 ghost use Rattle.plain.specs.Lists.{written};
-ghost use Rattle.plain.specs.Reads.{walk as walk-of, neighbors as neighbors-of};
+ghost use Rattle.plain.specs.Reads.{degree as degree-of, walk as walk-of, neighbors as neighbors-of};
 ghost use Rattle.shape.specs.Shape.{store, lists};
-ghost use Rattle.view.specs.Calls.{Replied};
-ghost use Rattle.view.specs.Walks.{ListAnswer, ListFits, list-in, far-ends-in};
+ghost use Rattle.view.specs.Calls.{Answered, Replied};
+ghost use Rattle.view.specs.Walks.{CountAnswer, ListAnswer, ListFits, list-in, far-ends-in};
 
 // The numbers of document 01's table that these reads answer.
 const TOO_SHORT: u32 = 2;
@@ -121,8 +121,8 @@ fn write_far_ends(
     }
 }
 
-// What a read of a node's list answers where `room` words are lent: the refusals in their order, and how many entries there are. Internal: it writes nothing.
-fn list_answer(
+// How many entries a node's list has, behind the check and the bound: 1, 5. Internal.
+fn count_answer(
     counts: Counts,
     nodes: &[u32],
     edges: &[u32],
@@ -132,11 +132,10 @@ fn list_answer(
     incoming: &[u32],
     direction: TraversalDirection,
     node: u32,
-    room: usize,
 ) -> Answer
-    ensures { λ r. ⌜ ListAnswer
+    ensures { λ r. ⌜ CountAnswer
         (store counts (now (nodes .entry)) (now (edges .entry)) (now («live_nodes» .entry)) (now («live_edges» .entry)) (now (outgoing .entry)) (now (incoming .entry)))
-        direction node room r ⌝ }
+        direction node r ⌝ }
 {
     let rule = judge(
         counts,
@@ -167,16 +166,80 @@ fn list_answer(
         direction,
         node,
     );
-    if room < entries {
-        return Answer {
-            number: TOO_SHORT,
-            value: entries as u64,
-        };
-    }
     Answer {
         number: 0,
         value: entries as u64,
     }
+}
+
+// What a read of a node's list answers where `room` words are lent: 1, 5, 2, or how many entries there are. Internal: it writes nothing.
+fn list_answer(
+    counts: Counts,
+    nodes: &[u32],
+    edges: &[u32],
+    live_nodes: &[u64],
+    live_edges: &[u64],
+    outgoing: &[u32],
+    incoming: &[u32],
+    direction: TraversalDirection,
+    node: u32,
+    room: usize,
+) -> Answer
+    ensures { λ r. ⌜ ListAnswer
+        (store counts (now (nodes .entry)) (now (edges .entry)) (now («live_nodes» .entry)) (now («live_edges» .entry)) (now (outgoing .entry)) (now (incoming .entry)))
+        direction node room r ⌝ }
+{
+    let counted = count_answer(
+        counts,
+        nodes,
+        edges,
+        live_nodes,
+        live_edges,
+        outgoing,
+        incoming,
+        direction,
+        node,
+    );
+    if counted.number != 0 {
+        return counted;
+    }
+    let needed = counted.value;
+    if (room as u64) < needed {
+        return Answer {
+            number: TOO_SHORT,
+            value: needed,
+        };
+    }
+    counted
+}
+
+// How many edges a node's list has.
+pub fn degree(
+    counts: Counts,
+    nodes: &[u32],
+    edges: &[u32],
+    live_nodes: &[u64],
+    live_edges: &[u64],
+    outgoing: &[u32],
+    incoming: &[u32],
+    direction: TraversalDirection,
+    node: u32,
+) -> Answer
+    ensures { λ r. ⌜ Answered
+        (store counts (now (nodes .entry)) (now (edges .entry)) (now («live_nodes» .entry)) (now («live_edges» .entry)) (now (outgoing .entry)) (now (incoming .entry)))
+        (λ w. degree-of direction (lists w) node) r ⌝ }
+{
+    count_answer(
+        counts,
+        nodes,
+        edges,
+        live_nodes,
+        live_edges,
+        outgoing,
+        incoming,
+        direction,
+        node,
+    )
 }
 
 // A node's list into `slots`.

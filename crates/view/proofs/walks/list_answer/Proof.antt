@@ -1,31 +1,14 @@
--- `walks::list_answer` meets its contract: each way out is a case of it.
+-- `walks::list_answer` meets its contract: the refusals of counting, or the count beside the room.
 use borrow.Author.Needs.{needs}
-use Rattle.view.specs.Walks.{no-store, past, short, fits}
+use Rattle.view.specs.Walks.{refused, count-short, count-fits}
 use Rattle.view.proofs.walks.list_answer.Statement.{statement}
 use Rattle.view.proofs.walks.list_answer.Tie as tie
-
-degree-requires : tie.Need-degree-requires
-degree-requires c κs = (c .before .before .before .judge .ensures .checked (c .before .before .if1 .left), c .if2 .left)
-
-returns-3 : tie.Need-returns-3
-returns-3 c =
-    let below = c .before .before in
-    short (below .before .before .before .judge .ensures) (below .before .before .if1 .left) (below .if2 .left) (c .before .degree .ensures) (c .if3 .taken)
-
-returns-4 : tie.Need-returns-4
-returns-4 c =
-    let below = c .before .before in
-    fits (below .before .before .before .judge .ensures) (below .before .before .if1 .left) (below .if2 .left) (c .before .degree .ensures) (c .if3 .left)
 
 pub list-answer-spec : {M : Type 1} → statement M
 list-answer-spec =
     tie.close
     (tie.spec
     (λ c κs. search needs)
-    (λ c κs. search needs)
-    (λ c. no-store (c .before .before .judge .ensures) (c .before .if1 .taken) (c .no-store .ensures))
-    (λ c. search needs)
-    (λ c. past (c .before .before .before .judge .ensures) (c .before .before .if1 .left) (c .if2 .taken))
-    degree-requires
-    returns-3
-    returns-4)
+    (λ c. refused (c .before .before .count-answer .ensures) (c .if1 .taken))
+    (λ c. count-short (c .before .before .before .count-answer .ensures) (c .before .if1 .left) (c .if2 .taken))
+    (λ c. count-fits (c .before .before .before .count-answer .ensures) (c .before .if1 .left) (c .if2 .left)))
