@@ -54,6 +54,11 @@ strip caps s words room =
     (cond (ltb room needed) (record { number = too-short; value = needed; words = []; after = s })
     (record { number = done; value = 0; words = answers caps s ops; after = run caps s ops }))
 
+-- "Words are no store: 1 .. everything", a strip among the calls
+abbrev pub judged-strip : ℕ → State → Stripped → Stripped
+judged-strip zero s stripped = stripped
+judged-strip (suc rule) s stripped = record { number = no-store; value = suc rule; words = []; after = s }
+
 -- ---- fresh
 
 -- the state of a fresh store: "A fresh store is empty with bounds 0"; it is compact

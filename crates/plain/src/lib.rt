@@ -1,6 +1,8 @@
 // What the program and the definitions share: slot numbers and limits, the direction of an axis, an operation, the counts of a
 // store and the answers of its calls. The definitions of document 01 over these types stand in specs/.
 
+pub mod numbers;
+
 ghost use mathlib.Core.Path.{_≡_};
 ghost use Rattle.plain.specs.Operations.{decoded, unused};
 
@@ -73,6 +75,13 @@ pub struct Counts {
 pub struct Answer {
     pub number: u32,
     pub value: u64,
+}
+
+// What a call answers that makes or changes a store: number and value, and the counts afterwards.
+pub struct Changed {
+    pub number: u32,
+    pub value: u64,
+    pub counts: Counts,
 }
 
 // What reading a record answers: the edge's ends and payload beside number and value; all three are 0 where it is refused.

@@ -16,6 +16,7 @@ use Rattle.plain.specs.Plain.{list-of, end-of}
 use Rattle.plain.specs.Step.{Outcome, step}
 use Rattle.plain.specs.Laws.Booleans.{by-test, true-false}
 use Rattle.plain.specs.Laws.Cases.{comes-to, redirect, move}
+use Rattle.plain.specs.Laws.ListLaws.{no-entries}
 use Rattle.plain.specs.Laws.Rank.{live-below}
 use Rattle.plain.specs.Laws.Stepping.{Fitting}
 use Rattle.liveness.specs.FlagLaws.{length-flags}
@@ -159,11 +160,6 @@ redirecting {w} {edge} {new} pre d vs done long =
           (done .checked (node-live w) (checked-end k d edge (pre .alive)) (pre .new-live) (k .axis d));
       keeps = λ same. same-words w d vs (done .unchanged (sym (done .previous) ∙ same));
     }
-
--- a list with no entries
-no-entries : (l : List ℕ) → length l ≡ 0 → l ≡ []
-no-entries [] none = refl
-no-entries (e ∷ l) none = absurd (omega arith)
 
 -- the edges were moved
 pub moving : {w : Words} {old new : ℕ} (d : TraversalDirection) (pre : EdgesMovable d w old new) (vs : List ℕ) {answer : ℕ}

@@ -7,6 +7,7 @@ use plain::Counts;
 use plain::NONE;
 use plain::Record;
 use plain::TraversalDirection;
+use plain::numbers;
 ghost use Prim.Native.Nat.{_<_};
 ghost use mathlib.Core.Path.{_≡_};
 ghost use lib.ListN.{length};
@@ -15,13 +16,6 @@ ghost use Rattle.plain.specs.Numbers.{NONE as none};
 ghost use Rattle.plain.specs.Reads.{no-record, node-payload, edge-record, live-edge-record, contains-node, contains-edge, yes-or-no as answer-of};
 ghost use Rattle.shape.specs.Checked.{Checked};
 ghost use Rattle.shape.specs.Shape.{store, lists};
-
-// The numbers of document 01's table that these reads answer.
-const OUT_OF_RANGE_NODE: u32 = 5;
-
-const OUT_OF_RANGE_EDGE: u32 = 7;
-
-const REMOVED_EDGE: u32 = 8;
 
 // A yes or no as an answer: 1 or 0. Internal.
 pub fn yes_or_no(test: bool) -> Answer
@@ -76,7 +70,7 @@ pub fn node_payload(
         };
     }
     Answer {
-        number: OUT_OF_RANGE_NODE,
+        number: numbers::OUT_OF_RANGE_NODE,
         value: NONE as u64,
     }
 }
@@ -107,7 +101,7 @@ pub fn edge_record(
             payload: edges[at],
         };
     }
-    refused(OUT_OF_RANGE_EDGE)
+    refused(numbers::OUT_OF_RANGE_EDGE)
 }
 
 // The record of a live edge.
@@ -129,7 +123,7 @@ pub fn live_edge_record(
     let bound = slots.bound as usize;
     let at = edge as usize;
     if bound <= at {
-        return refused(OUT_OF_RANGE_EDGE);
+        return refused(numbers::OUT_OF_RANGE_EDGE);
     }
     if liveness::is_live(live_edges, bound, at) {
         return edge_record(
@@ -143,7 +137,7 @@ pub fn live_edge_record(
             edge,
         );
     }
-    refused(REMOVED_EDGE)
+    refused(numbers::REMOVED_EDGE)
 }
 
 // Whether a node slot is live; one at or above the bound is not.

@@ -1,24 +1,29 @@
--- The ways that a redirection ends, each by what the program has tested.
-use Prim.Native.Nat.{ℕ, _<_}
-use mathlib.Core.Path.{_≡_, refl, sym, subst, _∙_}
-use mathlib.Core.Bool.{true, false}
-use lib.ListN.{getD}
+-- The ways that redirections and moves end, each by what the program has tested.
+use Prim.Native.Nat.{ℕ, _≤_, _<_}
+use mathlib.Core.Path.{_≡_, refl, sym, ap, subst, _∙_}
+use mathlib.Core.Bool.{Bool, true, false}
+use mathlib.Core.List.{[]}
+use mathlib.Core.Logic.{_≢_}
+use lib.ListN.{length, getD}
 use lib.Dec.{eqb}
 use borrow.Author.Tests.{eqb-true, eqb-false, eq-eqb, ne-eqb}
 use Rattle.plain.specs.declared.TraversalDirection.{TraversalDirection}
-use Rattle.plain.specs.declared.Operation.the-variants.{Redirect}
+use Rattle.plain.specs.declared.Operation.the-variants.{Redirect, Move}
 use Rattle.plain.specs.Numbers.{NONE}
-use Rattle.plain.specs.Plain.{end-of}
+use Rattle.plain.specs.Plain.{end-of, list-of}
 use Rattle.plain.specs.Laws.Booleans.{by-test}
-use Rattle.plain.specs.Laws.Cases.{redirect-edge-absent, redirect-edge-removed, redirect-node-absent, redirect-node-removed, redirect-same, redirect}
+use Rattle.plain.specs.Laws.Cases.{redirect-edge-absent, redirect-edge-removed, redirect-node-absent, redirect-node-removed, redirect-same, redirect, move-onto-itself, move-old-absent, move-nothing, move-new-absent, move-new-removed, move}
+use Rattle.plain.specs.Laws.ListLaws.{no-entries}
 use Rattle.plain.specs.Laws.Rank.{live-below}
 use Rattle.liveness.specs.FlagLaws.{length-flags}
-use Rattle.shape.specs.Shape.{Words, node-live, edge-live, lists}
+use Rattle.shape.specs.Shape.{Words, node-live, edge-live, axis-words, lists}
 use Rattle.shape.specs.Checked.{Checked}
 use Rattle.shape.specs.Laws.Reading.{plain-end}
-use Rattle.store.specs.Operations.{RedirectedEdge}
+use Rattle.adjacency.specs.Walk.{walk-in}
+use Rattle.adjacency.specs.StoreWalks.{list-is-walk}
+use Rattle.store.specs.Operations.{RedirectedEdge, MovedEdges}
 use Rattle.strip.specs.Faults.{fault-of, by-fault}
-use Rattle.strip.specs.Step.{StepOf, absent-node, live-node, removed-node, absent-edge, live-edge, removed-edge, stays, done}
+use Rattle.strip.specs.Step.{StepOf, node-bound-of, absent-node, live-node, removed-node, absent-edge, live-edge, removed-edge, stays, done}
 
 module _ {w : Words} (c : Checked w) (d : TraversalDirection) (edge node : ℕ) where
   pub edge-fault : let number = fault-of (edge-live w) (w .counts .edges .bound) edge 7 8 in (number ≡ 0 → ⊥) → StepOf (Redirect d edge node) w w number NONE
@@ -52,3 +57,36 @@ module _ {w : Words} (c : Checked w) (d : TraversalDirection) (edge node : ℕ) 
 
         is : end-of d (lists w) edge ≡ answer
         is = plain-end w d edge below ∙ sym (r .previous)
+
+module _ {w : Words} (c : Checked w) (d : TraversalDirection) (old new : ℕ) where
+  -- ---- move
+
+  pub onto-itself : old ≡ new → StepOf (Move d old new) w w 9 NONE
+  onto-itself same = stays c (move-onto-itself same) refl
+
+  module _ (apart : old ≢ new) where
+    pub old-absent : w .counts .nodes .bound ≤ old → StepOf (Move d old new) w w 5 NONE
+    old-absent h = stays c (move-old-absent apart (absent-node w old h)) refl
+
+    module _ (below : old < w .counts .nodes .bound) where
+      pub nothing-moved : list-of d (lists w) old ≡ [] → StepOf (Move d old new) w w 0 0
+      nothing-moved empty = stays c (move-nothing apart (rw (node-bound-of w) below) empty) refl
+
+      module _ (some : list-of d (lists w) old ≢ []) where
+        pub new-fault : let number = fault-of (node-live w) (w .counts .nodes .bound) new 5 6 in (number ≡ 0 → ⊥) → StepOf (Move d old new) w w number NONE
+        new-fault =
+            by-fault (node-live w) (w .counts .nodes .bound) new 5 6 (λ n. StepOf (Move d old new) w w n NONE)
+            (λ h. stays c (move-new-absent apart (rw (node-bound-of w) below) some (absent-node w new h)) refl)
+            (λ l h. stays c (move-new-removed apart (rw (node-bound-of w) below) some (removed-node w new l h)) refl)
+
+        -- the old node is live: a removed node's list is empty
+        pub old-live : getD (node-live w) old false ≡ true
+        old-live =
+            by-test (getD (node-live w) old false) (λ t. t)
+            (λ t. absurd (some (list-is-walk w d old below
+            ∙ ap (λ (b : Bool). walk-in (axis-words d w) (length (w .edges)) (length (w .nodes)) (w .counts) (w .live-edges) old b) t)))
+
+        pub edges-moved : {v : Words} {answer : ℕ} → getD (node-live w) new false ≡ true → MovedEdges d old new w answer v → StepOf (Move d old new) w v 0 answer
+        edges-moved {v} on r =
+            subst (λ (n : ℕ). StepOf (Move d old new) w v 0 n) (sym (r .counted))
+            (done (move apart (rw (node-bound-of w) below) some (live-node w new on)) (rw (ne-eqb (length (list-of d (lists w) old)) 0 (λ q. some (no-entries (list-of d (lists w) old) q)))) refl (r .acts))

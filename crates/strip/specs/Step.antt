@@ -1,17 +1,22 @@
 -- What one operation of a strip comes to on a checked store: number and value of document 01's table, the shape's own step, the store checked again; a refused
 -- operation leaves every word. The laws say it case by case.
 use Prim.Native.Nat.{ℕ, _≤_, _<_}
-use mathlib.Core.Path.{_≡_, refl, sym, ap, _∙_}
+use mathlib.Core.Path.{_≡_, refl, sym, ap, subst, _∙_}
 use mathlib.Core.Bool.{Bool, true, false, cond}
 use lib.ListN.{length, getD}
 use Rattle.plain.specs.declared.Operation.{Operation}
 use Rattle.plain.specs.Plain.{node-flags, edge-flags, node-bound, edge-bound}
-use Rattle.plain.specs.Step.{Outcome, step}
-use Rattle.plain.specs.Laws.Cases.{Absent, Removed, Live, Case, comes-to}
+use Rattle.plain.specs.Step.{Outcome, step, stepped}
+use Rattle.plain.specs.declared.Operation.the-variants.{Unknown}
+use Rattle.plain.specs.Numbers.{NONE}
+use Rattle.plain.specs.Laws.Cases.{Absent, Removed, Live, Case, comes-to, unknown as unknown-code}
 use Rattle.liveness.specs.FlagLaws.{length-flags}
 use Rattle.shape.specs.Shape.{Words, capacities, node-live, edge-live, shape-of, plain-of, lists}
-use Rattle.shape.specs.Checked.{Checked}
-use Rattle.shape.specs.Steps.{acted, acts, shape-step}
+use Rattle.shape.specs.Checked.{Checked, Reached}
+use Rattle.shape.specs.Steps.{acted, acts, shape-step, state-of}
+use Rattle.shape.specs.Laws.CheckedShape.{checked-proper, checked-based}
+use Rattle.shape.specs.Laws.Reaching.{step-reached}
+use Rattle.shape.specs.Laws.Running.{step-state}
 use Rattle.shape.specs.Laws.Reading.{node-flags-are, edge-flags-are, node-bound-is, edge-bound-is}
 use Rattle.store.specs.Operations.{Acted, SameLengths}
 
@@ -28,6 +33,16 @@ pub record StepOf (operation : Operation) (w v : Words) (number value : ℕ) : T
   pub lengths : SameLengths w v
   -- "A refused operation changes nothing": not a word
   pub refused-keeps : (number ≡ 0 → ⊥) → v ≡ w
+
+-- the plain lists and the compact flag afterwards are document 01's
+pub step-lists : {operation : Operation} {w v : Words} {number value : ℕ} → Checked w → StepOf operation w v number value
+    → state-of (shape-of v) ≡ stepped (capacities w) (state-of (shape-of w)) operation
+step-lists {operation} {w} c does = ap state-of (does .shaped) ∙ step-state (checked-proper w c) (checked-based w c) operation
+
+-- and a store that a fresh one or an image led to stays one
+pub step-keeps : {operation : Operation} {w v : Words} {number value : ℕ} → Checked w → StepOf operation w v number value → Reached (shape-of w)
+    → Reached (shape-of v)
+step-keeps {operation} {w} c does r = subst Reached (sym (does .shaped)) (step-reached (checked-proper w c) r operation)
 
 -- ---- what the words tell of the plain lists
 
@@ -66,7 +81,7 @@ edge-bound-of w = edge-bound-is w
 
 -- ---- the two ways an operation ends
 
-same-lengths : (w : Words) → SameLengths w w
+pub same-lengths : (w : Words) → SameLengths w w
 same-lengths w = record { nodes = refl; edges = refl; live-nodes = refl; live-edges = refl; outgoing = refl; incoming = refl }
 
 -- it is refused, or done with nothing to change: every word stays
@@ -98,3 +113,8 @@ done {operation} {w} case busy zero a =
       lengths = a .lengths;
       refused-keeps = λ h. absurd (h zero);
     }
+
+-- ---- unknown codes
+
+pub unknown : {w : Words} → Checked w → StepOf Unknown w w 4 NONE
+unknown c = stays c unknown-code refl

@@ -1,312 +1,160 @@
-// One operation on a checked store, with document 01's refusals in their order, and the strip.
+// A fresh store, and the strip: document 01's list of operations on a store, behind the check. Port of what store.rs offers to its callers.
 
+pub mod step;
+
+use plain::Changed;
 use plain::Counts;
-use plain::TraversalDirection;
+use plain::LIMIT;
+use plain::Operation;
+use plain::Slots;
+use plain::numbers;
 ghost use mathlib.Core.Path.{_≡_};
-ghost use Prim.Native.Nat.{_*_, _≤_};
-ghost use lib.ListN.{length};
-ghost use Rattle.plain.specs.declared.Operation.the-variants.{AddNode, AddEdge, RemoveEdge, RemoveNode, Redirect, SetPayload};
-ghost use Rattle.shape.specs.Checked.{Checked};
+ghost use Prim.Native.Nat.{_+_, _*_, _≤_};
+ghost use lib.ListN.{length, getD, set};
+ghost use Rattle.plain.specs.declared.Operation.the-variants.{Unknown};
+ghost use Rattle.plain.specs.Operations.{operations};
 ghost use Rattle.shape.specs.Shape.{store};
-ghost use Rattle.liveness.specs.Flags.{live-flags};
-ghost use Rattle.strip.specs.Faults.{fault-of};
-ghost use Rattle.strip.specs.Step.{StepOf};
+ghost use Rattle.strip.specs.Fresh.{empty-counts, FreshOf};
+ghost use Rattle.strip.specs.Strip.{Runnable, Ran, StripOf};
 
-// What an operation comes to: its number and value, and the counts afterwards.
-pub struct Stepped {
-    pub number: u32,
-    pub value: u32,
-    pub counts: Counts,
-}
-
-// A slot's fault: `absent` at or above the bound, `removed` where it is dead, 0 where it is live.
-fn fault(live: &[u64], bound: u32, slot: u32, absent: u32, removed: u32) -> u32
-    requires { ⌜ bound ≤ 64 * length (now live) ⌝ }
-    ensures { λ r. ⌜ r ≡ fault-of (live-flags (now (live .entry)) bound) bound slot absent removed ⌝ }
+// An answer beside the counts of a store with no slot.
+fn empty(number: u32, value: usize) -> Changed
+    ensures { λ r. ⌜ r ≡ record { number = number; value = value; counts = empty-counts } ⌝ }
 {
-    if bound <= slot {
-        return absent;
+    let slots = Slots {
+        bound: 0,
+        base: 0,
+        live: 0,
+    };
+    Changed {
+        number,
+        value: value as u64,
+        counts: Counts {
+            nodes: slots,
+            edges: slots,
+        },
     }
-    if liveness::is_live(live, bound as usize, slot as usize) {
-        return 0;
-    }
-    removed
 }
 
-// "Add node: 4, 10."
-pub fn add_node(
+// A fresh store in the memory lent: "13, nodes before edges, then 2". It is empty with bounds 0, so that no word of it is a field, and none is written.
+pub fn fresh(
+    nodes: &[u32],
+    edges: &[u32],
+    live_nodes: &[u64],
+    live_edges: &[u64],
+    outgoing: &[u32],
+    incoming: &[u32],
+) -> Changed
+    ensures { λ r. ⌜ FreshOf
+        (store (r .counts) (now (nodes .entry)) (now (edges .entry)) (now («live_nodes» .entry)) (now («live_edges» .entry)) (now (outgoing .entry)) (now (incoming .entry)))
+        (r .number) (r .value) ⌝ }
+{
+    let n = nodes.len();
+    let e = edges.len();
+    let limit = LIMIT as usize;
+    if limit < n {
+        return empty(numbers::ABOVE_LIMIT, n);
+    }
+    if limit < e {
+        return empty(numbers::ABOVE_LIMIT, e);
+    }
+    let node_words = (n + 63) / 64;
+    if live_nodes.len() < node_words {
+        return empty(numbers::TOO_SHORT, node_words);
+    }
+    let edge_words = (e + 63) / 64;
+    if live_edges.len() < edge_words {
+        return empty(numbers::TOO_SHORT, edge_words);
+    }
+    let axis_words = 4 * e + 6 * n + 1;
+    if outgoing.len() < axis_words {
+        return empty(numbers::TOO_SHORT, axis_words);
+    }
+    if incoming.len() < axis_words {
+        return empty(numbers::TOO_SHORT, axis_words);
+    }
+    empty(numbers::DONE, 0)
+}
+
+// Operation i of a strip, from its four words.
+fn operation_at(words: &[u32], i: usize) -> Operation
+    requires { ⌜ 4 * i + 4 ≤ length (now words) ⌝ }
+    ensures { λ r. ⌜ r ≡ getD (operations (now (words .entry))) i Unknown ⌝ }
+{
+    let at = 4 * i;
+    Operation::decode(words[at], words[at + 1], words[at + 2], words[at + 3])
+}
+
+// Writes the two words of answer i.
+fn write_answer(answers: &mut [u32], i: usize, number: u32, value: u32)
+    requires { ⌜ 2 * i + 2 ≤ length (now answers) ⌝ }
+    ensures { λ _. ⌜ now (answers .exit) ≡ set (set (now (answers .entry)) (2 * i) number) (2 * i + 1) value ⌝ }
+{
+    let to = 2 * i;
+    answers[to] = number;
+    answers[to + 1] = value;
+}
+
+// The operations of a strip in turn, four words each, with two words of answer each. A refused operation changes nothing and the strip goes on.
+fn run(
     counts: Counts,
     nodes: &mut [u32],
-    edges: &[u32],
-    live_nodes: &mut [u64],
-    live_edges: &[u64],
-    outgoing: &mut [u32],
-    incoming: &mut [u32],
-    payload: u32,
-) -> Stepped
-    requires { ⌜ Checked (store counts (now nodes) (now edges) (now «live_nodes») (now «live_edges») (now outgoing) (now incoming)) ⌝ }
-    ensures { λ r. ⌜ StepOf (AddNode payload)
-        (store counts (now (nodes .entry)) (now (edges .entry)) (now («live_nodes» .entry)) (now («live_edges» .entry)) (now (outgoing .entry)) (now (incoming .entry)))
-        (store (r .counts) (now (nodes .exit)) (now (edges .exit)) (now («live_nodes» .exit)) (now («live_edges» .exit)) (now (outgoing .exit)) (now (incoming .exit)))
-        (r .number) (r .value) ⌝ }
-{
-    let slots = counts.nodes;
-    let bound = slots.bound;
-    if nodes.len() <= bound as usize {
-        return Stepped {
-            number: 10,
-            value: plain::NONE,
-            counts,
-        };
-    }
-    let after = store::add_node(
-        counts,
-        nodes,
-        edges,
-        live_nodes,
-        live_edges,
-        outgoing,
-        incoming,
-        payload,
-    );
-    Stepped {
-        number: 0,
-        value: bound,
-        counts: after,
-    }
-}
-
-// "Add edge: 4, source 5, 6, target 5, 6, then 10."
-pub fn add_edge(
-    counts: Counts,
-    nodes: &[u32],
     edges: &mut [u32],
-    live_nodes: &[u64],
-    live_edges: &mut [u64],
-    outgoing: &mut [u32],
-    incoming: &mut [u32],
-    source: u32,
-    target: u32,
-    payload: u32,
-) -> Stepped
-    requires { ⌜ Checked (store counts (now nodes) (now edges) (now «live_nodes») (now «live_edges») (now outgoing) (now incoming)) ⌝ }
-    ensures { λ r. ⌜ StepOf (AddEdge source target payload)
-        (store counts (now (nodes .entry)) (now (edges .entry)) (now («live_nodes» .entry)) (now («live_edges» .entry)) (now (outgoing .entry)) (now (incoming .entry)))
-        (store (r .counts) (now (nodes .exit)) (now (edges .exit)) (now («live_nodes» .exit)) (now («live_edges» .exit)) (now (outgoing .exit)) (now (incoming .exit)))
-        (r .number) (r .value) ⌝ }
-{
-    let others = counts.nodes;
-    let slots = counts.edges;
-    let bound = slots.bound;
-    let from = fault(live_nodes, others.bound, source, 5, 6);
-    if from != 0 {
-        return Stepped {
-            number: from,
-            value: plain::NONE,
-            counts,
-        };
-    }
-    let to = fault(live_nodes, others.bound, target, 5, 6);
-    if to != 0 {
-        return Stepped {
-            number: to,
-            value: plain::NONE,
-            counts,
-        };
-    }
-    if edges.len() <= bound as usize {
-        return Stepped {
-            number: 10,
-            value: plain::NONE,
-            counts,
-        };
-    }
-    let after = store::add_edge(
-        counts,
-        nodes,
-        edges,
-        live_nodes,
-        live_edges,
-        outgoing,
-        incoming,
-        source,
-        target,
-        payload,
-    );
-    Stepped {
-        number: 0,
-        value: bound,
-        counts: after,
-    }
-}
-
-// "Removals: 4."
-pub fn remove_edge(
-    counts: Counts,
-    nodes: &[u32],
-    edges: &[u32],
-    live_nodes: &[u64],
-    live_edges: &mut [u64],
-    outgoing: &[u32],
-    incoming: &[u32],
-    edge: u32,
-) -> Stepped
-    requires { ⌜ Checked (store counts (now nodes) (now edges) (now «live_nodes») (now «live_edges») (now outgoing) (now incoming)) ⌝ }
-    ensures { λ r. ⌜ StepOf (RemoveEdge edge)
-        (store counts (now (nodes .entry)) (now (edges .entry)) (now («live_nodes» .entry)) (now («live_edges» .entry)) (now (outgoing .entry)) (now (incoming .entry)))
-        (store (r .counts) (now (nodes .exit)) (now (edges .exit)) (now («live_nodes» .exit)) (now («live_edges» .exit)) (now (outgoing .exit)) (now (incoming .exit)))
-        (r .number) (r .value) ⌝ }
-{
-    let removal = store::remove_edge(
-        counts,
-        nodes,
-        edges,
-        live_nodes,
-        live_edges,
-        outgoing,
-        incoming,
-        edge,
-    );
-    let after = removal.counts;
-    if removal.removed {
-        return Stepped {
-            number: 0,
-            value: 1,
-            counts: after,
-        };
-    }
-    Stepped {
-        number: 0,
-        value: 0,
-        counts: after,
-    }
-}
-
-// "Removals: 4." The edges of both walks go with the node.
-pub fn remove_node(
-    counts: Counts,
-    nodes: &[u32],
-    edges: &[u32],
     live_nodes: &mut [u64],
     live_edges: &mut [u64],
-    outgoing: &[u32],
-    incoming: &[u32],
-    node: u32,
-) -> Stepped
-    requires { ⌜ Checked (store counts (now nodes) (now edges) (now «live_nodes») (now «live_edges») (now outgoing) (now incoming)) ⌝ }
-    ensures { λ r. ⌜ StepOf (RemoveNode node)
-        (store counts (now (nodes .entry)) (now (edges .entry)) (now («live_nodes» .entry)) (now («live_edges» .entry)) (now (outgoing .entry)) (now (incoming .entry)))
-        (store (r .counts) (now (nodes .exit)) (now (edges .exit)) (now («live_nodes» .exit)) (now («live_edges» .exit)) (now (outgoing .exit)) (now (incoming .exit)))
-        (r .number) (r .value) ⌝ }
-{
-    let removal = store::remove_node(
-        counts,
-        nodes,
-        edges,
-        live_nodes,
-        live_edges,
-        outgoing,
-        incoming,
-        node,
-    );
-    let after = removal.counts;
-    if removal.removed {
-        return Stepped {
-            number: 0,
-            value: 1,
-            counts: after,
-        };
-    }
-    Stepped {
-        number: 0,
-        value: 0,
-        counts: after,
-    }
-}
-
-// "Redirect: 4, 7, 8, 5, 6."
-pub fn redirect(
-    counts: Counts,
-    nodes: &[u32],
-    edges: &[u32],
-    live_nodes: &[u64],
-    live_edges: &[u64],
     outgoing: &mut [u32],
     incoming: &mut [u32],
-    direction: TraversalDirection,
-    edge: u32,
-    node: u32,
-) -> Stepped
-    requires { ⌜ Checked (store counts (now nodes) (now edges) (now «live_nodes») (now «live_edges») (now outgoing) (now incoming)) ⌝ }
-    ensures { λ r. ⌜ StepOf (Redirect direction edge node)
+    words: &[u32],
+    answers: &mut [u32],
+) -> Counts
+    requires { ⌜ Runnable (store counts (now nodes) (now edges) (now «live_nodes») (now «live_edges») (now outgoing) (now incoming)) (now words) (now answers) ⌝ }
+    ensures { λ r. ⌜ Ran
         (store counts (now (nodes .entry)) (now (edges .entry)) (now («live_nodes» .entry)) (now («live_edges» .entry)) (now (outgoing .entry)) (now (incoming .entry)))
-        (store (r .counts) (now (nodes .exit)) (now (edges .exit)) (now («live_nodes» .exit)) (now («live_edges» .exit)) (now (outgoing .exit)) (now (incoming .exit)))
-        (r .number) (r .value) ⌝ }
+        (operations (now (words .entry))) (now (answers .entry))
+        (store r (now (nodes .exit)) (now (edges .exit)) (now («live_nodes» .exit)) (now («live_edges» .exit)) (now (outgoing .exit)) (now (incoming .exit)))
+        (now (answers .exit)) ⌝ }
 {
-    let others = counts.nodes;
-    let slots = counts.edges;
-    let missing = fault(live_edges, slots.bound, edge, 7, 8);
-    if missing != 0 {
-        return Stepped {
-            number: missing,
-            value: plain::NONE,
+    let count = words.len() / 4;
+    let mut counts = counts;
+    let mut i: usize = 0;
+    while i < count {
+        let operation = operation_at(words, i);
+        let done = step::step(
             counts,
-        };
+            nodes,
+            edges,
+            live_nodes,
+            live_edges,
+            outgoing,
+            incoming,
+            operation,
+        );
+        write_answer(answers, i, done.number, done.value);
+        counts = done.counts;
+        i += 1;
     }
-    let to = fault(live_nodes, others.bound, node, 5, 6);
-    if to != 0 {
-        return Stepped {
-            number: to,
-            value: plain::NONE,
-            counts,
-        };
-    }
-    let previous = store::redirect(
-        counts,
-        nodes,
-        edges,
-        live_nodes,
-        live_edges,
-        outgoing,
-        incoming,
-        direction,
-        edge,
-        node,
-    );
-    Stepped {
-        number: 0,
-        value: previous,
-        counts,
-    }
+    counts
 }
 
-// "Set payload: 4, 7."
-pub fn set_payload(
+// A strip: "1, 3, 2", then its operations. The store is checked once. Refused, nothing is written.
+pub fn strip(
     counts: Counts,
-    nodes: &[u32],
+    nodes: &mut [u32],
     edges: &mut [u32],
-    live_nodes: &[u64],
-    live_edges: &[u64],
-    outgoing: &[u32],
-    incoming: &[u32],
-    edge: u32,
-    payload: u32,
-) -> Stepped
-    requires { ⌜ Checked (store counts (now nodes) (now edges) (now «live_nodes») (now «live_edges») (now outgoing) (now incoming)) ⌝ }
-    ensures { λ r. ⌜ StepOf (SetPayload edge payload)
+    live_nodes: &mut [u64],
+    live_edges: &mut [u64],
+    outgoing: &mut [u32],
+    incoming: &mut [u32],
+    words: &[u32],
+    answers: &mut [u32],
+) -> Changed
+    ensures { λ r. ⌜ StripOf
         (store counts (now (nodes .entry)) (now (edges .entry)) (now («live_nodes» .entry)) (now («live_edges» .entry)) (now (outgoing .entry)) (now (incoming .entry)))
+        (now (words .entry)) (now (answers .entry)) (r .number) (r .value)
         (store (r .counts) (now (nodes .exit)) (now (edges .exit)) (now («live_nodes» .exit)) (now («live_edges» .exit)) (now (outgoing .exit)) (now (incoming .exit)))
-        (r .number) (r .value) ⌝ }
+        (now (answers .exit)) ⌝ }
 {
-    let slots = counts.edges;
-    if slots.bound <= edge {
-        return Stepped {
-            number: 7,
-            value: plain::NONE,
-            counts,
-        };
-    }
-    store::set_payload(
+    let rule = validate::first_broken(
         counts,
         nodes,
         edges,
@@ -314,12 +162,44 @@ pub fn set_payload(
         live_edges,
         outgoing,
         incoming,
-        edge,
-        payload,
     );
-    Stepped {
-        number: 0,
-        value: 0,
+    if rule != 0 {
+        return Changed {
+            number: numbers::NO_STORE,
+            value: rule as u64,
+            counts,
+        };
+    }
+    let length = words.len();
+    if length % 4 != 0 {
+        return Changed {
+            number: numbers::RAGGED,
+            value: length as u64,
+            counts,
+        };
+    }
+    let needed = length / 2;
+    if answers.len() < needed {
+        return Changed {
+            number: numbers::TOO_SHORT,
+            value: needed as u64,
+            counts,
+        };
+    }
+    let after = run(
         counts,
+        nodes,
+        edges,
+        live_nodes,
+        live_edges,
+        outgoing,
+        incoming,
+        words,
+        answers,
+    );
+    Changed {
+        number: numbers::DONE,
+        value: 0,
+        counts: after,
     }
 }

@@ -5,13 +5,12 @@ use liveness;
 use plain::Answer;
 use plain::Counts;
 use plain::NONE;
+use plain::numbers::DONE;
+use plain::numbers::OUT_OF_RANGE_NODE;
 use validate::judging::judge;
 use validate::judging::no_store;
 ghost use Rattle.shape.specs.Shape.{store};
 ghost use Rattle.view.specs.Finding.{FoundEdge};
-
-// The number of document 01's table for a node at or above the bound.
-const OUT_OF_RANGE_NODE: u32 = 5;
 
 // Some live edge from `first` to `second`, or NONE where there is none and only then.
 pub fn find(
@@ -68,7 +67,7 @@ pub fn find(
         second,
     );
     Answer {
-        number: 0,
+        number: DONE,
         value: edge as u64,
     }
 }

@@ -3,6 +3,8 @@
 use liveness;
 use plain::Answer;
 use plain::Counts;
+use plain::numbers::DONE;
+use plain::numbers::TOO_SHORT;
 use validate::judging::judge;
 use validate::judging::no_store;
 ghost use mathlib.Core.Path.{_≡_};
@@ -58,13 +60,13 @@ pub fn node_ids(
     let bound = counts.nodes.bound;
     if slots.len() < live as usize {
         return Answer {
-            number: 2,
+            number: TOO_SHORT,
             value: live as u64,
         };
     }
     write_live(live_nodes, bound as usize, slots);
     Answer {
-        number: 0,
+        number: DONE,
         value: live as u64,
     }
 }
@@ -100,13 +102,13 @@ pub fn edge_ids(
     let bound = counts.edges.bound;
     if slots.len() < live as usize {
         return Answer {
-            number: 2,
+            number: TOO_SHORT,
             value: live as u64,
         };
     }
     write_live(live_edges, bound as usize, slots);
     Answer {
-        number: 0,
+        number: DONE,
         value: live as u64,
     }
 }

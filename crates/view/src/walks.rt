@@ -6,6 +6,9 @@ use plain::Answer;
 use plain::Counts;
 use plain::NONE;
 use plain::TraversalDirection;
+use plain::numbers::DONE;
+use plain::numbers::OUT_OF_RANGE_NODE;
+use plain::numbers::TOO_SHORT;
 use store::reads;
 use validate::judging::judge;
 use validate::judging::no_store;
@@ -15,11 +18,6 @@ ghost use Rattle.plain.specs.Reads.{degree as degree-of, walk as walk-of, neigh
 ghost use Rattle.shape.specs.Shape.{store, lists};
 ghost use Rattle.view.specs.Calls.{Answered, Replied};
 ghost use Rattle.view.specs.Walks.{CountAnswer, ListAnswer, ListFits, list-in, far-ends-in};
-
-// The numbers of document 01's table that these reads answer.
-const TOO_SHORT: u32 = 2;
-
-const OUT_OF_RANGE_NODE: u32 = 5;
 
 // Writes a node's list to the start of `slots`. Internal: the list has been counted.
 fn write_list(
@@ -167,7 +165,7 @@ fn count_answer(
         node,
     );
     Answer {
-        number: 0,
+        number: DONE,
         value: entries as u64,
     }
 }
@@ -200,7 +198,7 @@ fn list_answer(
         direction,
         node,
     );
-    if counted.number != 0 {
+    if counted.number != DONE {
         return counted;
     }
     let needed = counted.value;
@@ -271,7 +269,7 @@ pub fn walk(
         node,
         slots.len(),
     );
-    if answer.number != 0 {
+    if answer.number != DONE {
         return answer;
     }
     write_list(
@@ -318,7 +316,7 @@ pub fn neighbors(
         node,
         slots.len(),
     );
-    if answer.number != 0 {
+    if answer.number != DONE {
         return answer;
     }
     write_far_ends(

@@ -2,6 +2,7 @@
 
 use plain::Answer;
 use plain::Counts;
+use plain::numbers::DONE;
 use store::reads::yes_or_no;
 use validate::judging::judge;
 use validate::judging::no_store;
@@ -15,7 +16,7 @@ fn answered(value: u32) -> Answer
     ensures { λ r. ⌜ r ≡ answer-of value ⌝ }
 {
     Answer {
-        number: 0,
+        number: DONE,
         value: value as u64,
     }
 }

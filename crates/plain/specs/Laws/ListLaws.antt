@@ -419,3 +419,8 @@ distinct-joined owner a (l ∷ ls) once owned =
 pub map-snoc : {A B : Type 0} (f : A → B) (l : List A) (a : A) → map f (l ++ (a ∷ [])) ≡ map f l ++ (f a ∷ [])
 map-snoc f [] a = refl
 map-snoc f (x ∷ l) a = rw (map-snoc f l a)
+
+-- a list of no length
+pub no-entries : (l : List ℕ) → length l ≡ 0 → l ≡ []
+no-entries [] none = refl
+no-entries (e ∷ l) none = absurd (omega arith)

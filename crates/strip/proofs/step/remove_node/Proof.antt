@@ -1,8 +1,8 @@
--- `strip::remove_node` meets its contract: the value is whether something live was there.
+-- `step::remove_node` meets its contract: the value is whether something live was there.
 use borrow.Author.Needs.{needs}
 use Rattle.strip.specs.Additions.{node-removed, no-node-removed}
-use Rattle.strip.proofs.remove_node.Statement.{statement}
-use Rattle.strip.proofs.remove_node.Tie as tie
+use Rattle.strip.proofs.step.remove_node.Statement.{statement}
+use Rattle.strip.proofs.step.remove_node.Tie as tie
 
 abbrev called : tie.After-after → tie.After-remove-node
 called c = c .before .before .before .before .before

@@ -1,10 +1,10 @@
--- `strip::add_edge` meets its contract: the faults of source and target, then the room, then the store's addition.
+-- `step::add_edge` meets its contract: the faults of source and target, then the room, then the store's addition.
 use mathlib.Core.Path.{sym, _∙_}
 use borrow.Author.Needs.{needs}
 use Rattle.strip.specs.Faults.{no-node-fault}
 use Rattle.strip.specs.Additions.{source-fault, target-fault, edge-full, edge-added}
-use Rattle.strip.proofs.add_edge.Statement.{statement}
-use Rattle.strip.proofs.add_edge.Tie as tie
+use Rattle.strip.proofs.step.add_edge.Statement.{statement}
+use Rattle.strip.proofs.step.add_edge.Tie as tie
 
 -- the entry, and the places on the way
 abbrev entry : tie.After-slots → tie.Start

@@ -1,8 +1,8 @@
--- `strip::remove_edge` meets its contract: the value is whether something live was there.
+-- `step::remove_edge` meets its contract: the value is whether something live was there.
 use borrow.Author.Needs.{needs}
 use Rattle.strip.specs.Additions.{edge-removed, no-edge-removed}
-use Rattle.strip.proofs.remove_edge.Statement.{statement}
-use Rattle.strip.proofs.remove_edge.Tie as tie
+use Rattle.strip.proofs.step.remove_edge.Statement.{statement}
+use Rattle.strip.proofs.step.remove_edge.Tie as tie
 
 abbrev called : tie.After-after → tie.After-remove-edge
 called c = c .before .before .before

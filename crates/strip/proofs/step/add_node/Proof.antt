@@ -1,8 +1,8 @@
--- `strip::add_node` meets its contract: refused where the bound is the capacity, else the store's addition.
+-- `step::add_node` meets its contract: refused where the bound is the capacity, else the store's addition.
 use borrow.Author.Needs.{needs}
 use Rattle.strip.specs.Additions.{node-full, node-added}
-use Rattle.strip.proofs.add_node.Statement.{statement}
-use Rattle.strip.proofs.add_node.Tie as tie
+use Rattle.strip.proofs.step.add_node.Statement.{statement}
+use Rattle.strip.proofs.step.add_node.Tie as tie
 
 -- the entry, and the place after the call
 abbrev entry : tie.After-slots → tie.Start

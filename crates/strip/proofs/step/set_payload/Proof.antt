@@ -1,8 +1,8 @@
--- `strip::set_payload` meets its contract: refused at or above the bound, else the store's.
+-- `step::set_payload` meets its contract: refused at or above the bound, else the store's.
 use borrow.Author.Needs.{needs}
 use Rattle.strip.specs.Additions.{payload-absent, payload-set}
-use Rattle.strip.proofs.set_payload.Statement.{statement}
-use Rattle.strip.proofs.set_payload.Tie as tie
+use Rattle.strip.proofs.step.set_payload.Statement.{statement}
+use Rattle.strip.proofs.step.set_payload.Tie as tie
 
 abbrev entry : tie.After-struct-known → tie.Start
 entry c = c .before .before .before .before .before .before .before .before

@@ -1,10 +1,10 @@
--- `strip::fault` meets its contract: each way rewrites the tests that led to it.
+-- `step::fault` meets its contract: each way rewrites the tests that led to it.
 use mathlib.Core.Path.{sym, _∙_}
 use borrow.Author.Needs.{needs}
 use borrow.Author.Tests.{le-leb, lt-leb}
 use Rattle.strip.specs.Faults.{fault-of}
-use Rattle.strip.proofs.fault.Statement.{statement}
-use Rattle.strip.proofs.fault.Tie as tie
+use Rattle.strip.proofs.step.fault.Statement.{statement}
+use Rattle.strip.proofs.step.fault.Tie as tie
 
 returns : tie.Need-returns
 unfolding fault-of

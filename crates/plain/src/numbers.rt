@@ -1,0 +1,34 @@
+// The numbers of document 01's table, for the program; specs/Numbers.antt has them for the definitions.
+
+pub const DONE: u32 = 0;
+
+// Words are no store.
+pub const NO_STORE: u32 = 1;
+
+// A lent slice too short.
+pub const TOO_SHORT: u32 = 2;
+
+// Strip not a multiple of four.
+pub const RAGGED: u32 = 3;
+
+// Unknown code or unused word not 0.
+pub const UNKNOWN_CODE: u32 = 4;
+
+// Node at or above bound.
+pub const OUT_OF_RANGE_NODE: u32 = 5;
+
+pub const REMOVED_NODE: u32 = 6;
+
+// Edge at or above bound.
+pub const OUT_OF_RANGE_EDGE: u32 = 7;
+
+pub const REMOVED_EDGE: u32 = 8;
+
+// Move onto itself.
+pub const ONTO_ITSELF: u32 = 9;
+
+// Bound equals capacity.
+pub const FULL: u32 = 10;
+
+// Capacity above 32,768.
+pub const ABOVE_LIMIT: u32 = 13;

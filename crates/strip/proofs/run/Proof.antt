@@ -1,0 +1,78 @@
+-- `run` meets its contract. The loop's invariant: the first `i` operations are done and answered. The measure is the number of operations left.
+use Prim.Native.Nat.{_-_}
+use native.Mathlib.Omega.{arith}
+use borrow.Author.Needs.{needs}
+use Rattle.shape.specs.Shape.{store}
+use Rattle.strip.specs.Strip.{Running, running-start, running-turn, running-words, running-room, running-end}
+use Rattle.strip.proofs.run.Statement.{statement}
+use Rattle.strip.proofs.run.Tie as tie
+
+abbrev Inv-loop : tie.InvT-loop
+Inv-loop nodes₀ edges₀ live-nodes₀ live-edges₀ outgoing₀ incoming₀ words answers₀ count counts₀ i₀ nodes edges live-nodes live-edges outgoing incoming answers counts i =
+    Running (store counts₀ nodes₀ edges₀ live-nodes₀ live-edges₀ outgoing₀ incoming₀) words answers₀ count
+    (store counts nodes edges live-nodes live-edges outgoing incoming) answers i
+
+abbrev μ-loop : tie.MeasureT-loop
+μ-loop nodes₀ edges₀ live-nodes₀ live-edges₀ outgoing₀ incoming₀ words answers₀ count counts₀ i₀ nodes edges live-nodes live-edges outgoing incoming answers counts i =
+    count - i
+
+loop-holds : tie.Need-loop-holds Inv-loop μ-loop
+loop-holds c = running-start (c .before .before .before .before .before .before .before .before .pre)
+
+operation-at-requires : tie.Need-operation-at-requires Inv-loop μ-loop
+operation-at-requires c κs = running-words (c .before .loop .inv) (omega arith)
+
+step-requires : tie.Need-step-requires Inv-loop μ-loop
+step-requires c κs = c .before .before .before .before .before .before .before .before .loop .inv .ran .checked
+
+-- the places on the way: the turn's beginning, and the end of its step
+abbrev begun : tie.After-step Inv-loop μ-loop → tie.In-loop Inv-loop μ-loop
+begun c = c .before .before .before .before .before .before .before .before
+
+abbrev stepped : tie.After-slice-known13 Inv-loop μ-loop → tie.After-step Inv-loop μ-loop
+stepped c = c .before .before .before .before .before .before .before .before .before .before .before .before
+
+write-answer-requires : tie.Need-write-answer-requires Inv-loop μ-loop
+write-answer-requires c κs = let turn = begun (stepped (c .before)) in running-room (turn .before .loop .inv) (turn .loop-test .taken)
+
+add-i : tie.Need-add-i Inv-loop μ-loop
+add-i c =
+    let turn = begun (stepped (c .before .before .before .before .before)) in
+    let s = turn .before .before .before .before .before .before .before .before .before .before in
+    omega (arith, turn .loop-test .taken, s .good)
+
+loop-less : tie.Need-loop-less Inv-loop μ-loop
+loop-less c = let turn = begun (stepped (c .before .before .before .before .before)) in omega (arith, turn .loop-test .taken)
+
+loop-again : tie.Need-loop-again Inv-loop μ-loop
+loop-again c =
+    let answer = c .before .before .before in
+    let call = stepped (answer .before .before) in
+    let decoded = call .before .before .before .before .before .before .before in
+    let turn = decoded .before in
+    running-turn (turn .before .loop .inv) (turn .loop-test .taken) (decoded .operation-at .ensures) (call .step .ensures) (answer .write-answer .ensures)
+
+returns : tie.Need-returns Inv-loop μ-loop
+returns c = running-end (c .before .loop .inv) (omega arith)
+
+pub run-spec : {M : Type 1} → statement M
+run-spec =
+    tie.close
+    (tie.spec
+    Inv-loop
+    μ-loop
+    loop-holds
+    operation-at-requires
+    step-requires
+    write-answer-requires
+    add-i
+    loop-less
+    loop-again
+    (λ c. search needs)
+    (λ c. search needs)
+    (λ c. search needs)
+    (λ c. search needs)
+    (λ c. search needs)
+    (λ c. search needs)
+    (λ c. search needs)
+    returns)

@@ -1,0 +1,553 @@
+// One operation on a checked store, with document 01's refusals in their order. All functions are internal: the strip has checked the store.
+
+use plain::Counts;
+use plain::Operation;
+use plain::TraversalDirection;
+use plain::numbers;
+use store::reads;
+ghost use mathlib.Core.Path.{_≡_};
+ghost use Prim.Native.Nat.{_*_, _≤_};
+ghost use lib.ListN.{length};
+ghost use Rattle.plain.specs.declared.Operation.the-variants.{AddNode, AddEdge, RemoveEdge, RemoveNode, Redirect, Move, SetPayload};
+ghost use Rattle.shape.specs.Checked.{Checked};
+ghost use Rattle.shape.specs.Shape.{store};
+ghost use Rattle.liveness.specs.Flags.{live-flags};
+ghost use Rattle.strip.specs.Faults.{fault-of};
+ghost use Rattle.strip.specs.Step.{StepOf};
+
+// What an operation comes to: its number and value, and the counts afterwards.
+pub struct Stepped {
+    pub number: u32,
+    pub value: u32,
+    pub counts: Counts,
+}
+
+// A slot's fault: `absent` at or above the bound, `removed` where it is dead, 0 where it is live.
+fn fault(live: &[u64], bound: u32, slot: u32, absent: u32, removed: u32) -> u32
+    requires { ⌜ bound ≤ 64 * length (now live) ⌝ }
+    ensures { λ r. ⌜ r ≡ fault-of (live-flags (now (live .entry)) bound) bound slot absent removed ⌝ }
+{
+    if bound <= slot {
+        return absent;
+    }
+    if liveness::is_live(live, bound as usize, slot as usize) {
+        return 0;
+    }
+    removed
+}
+
+// "Add node: 4, 10."
+pub fn add_node(
+    counts: Counts,
+    nodes: &mut [u32],
+    edges: &[u32],
+    live_nodes: &mut [u64],
+    live_edges: &[u64],
+    outgoing: &mut [u32],
+    incoming: &mut [u32],
+    payload: u32,
+) -> Stepped
+    requires { ⌜ Checked (store counts (now nodes) (now edges) (now «live_nodes») (now «live_edges») (now outgoing) (now incoming)) ⌝ }
+    ensures { λ r. ⌜ StepOf (AddNode payload)
+        (store counts (now (nodes .entry)) (now (edges .entry)) (now («live_nodes» .entry)) (now («live_edges» .entry)) (now (outgoing .entry)) (now (incoming .entry)))
+        (store (r .counts) (now (nodes .exit)) (now (edges .exit)) (now («live_nodes» .exit)) (now («live_edges» .exit)) (now (outgoing .exit)) (now (incoming .exit)))
+        (r .number) (r .value) ⌝ }
+{
+    let slots = counts.nodes;
+    let bound = slots.bound;
+    if nodes.len() <= bound as usize {
+        return Stepped {
+            number: numbers::FULL,
+            value: plain::NONE,
+            counts,
+        };
+    }
+    let after = store::add_node(
+        counts,
+        nodes,
+        edges,
+        live_nodes,
+        live_edges,
+        outgoing,
+        incoming,
+        payload,
+    );
+    Stepped {
+        number: numbers::DONE,
+        value: bound,
+        counts: after,
+    }
+}
+
+// "Add edge: 4, source 5, 6, target 5, 6, then 10."
+pub fn add_edge(
+    counts: Counts,
+    nodes: &[u32],
+    edges: &mut [u32],
+    live_nodes: &[u64],
+    live_edges: &mut [u64],
+    outgoing: &mut [u32],
+    incoming: &mut [u32],
+    source: u32,
+    target: u32,
+    payload: u32,
+) -> Stepped
+    requires { ⌜ Checked (store counts (now nodes) (now edges) (now «live_nodes») (now «live_edges») (now outgoing) (now incoming)) ⌝ }
+    ensures { λ r. ⌜ StepOf (AddEdge source target payload)
+        (store counts (now (nodes .entry)) (now (edges .entry)) (now («live_nodes» .entry)) (now («live_edges» .entry)) (now (outgoing .entry)) (now (incoming .entry)))
+        (store (r .counts) (now (nodes .exit)) (now (edges .exit)) (now («live_nodes» .exit)) (now («live_edges» .exit)) (now (outgoing .exit)) (now (incoming .exit)))
+        (r .number) (r .value) ⌝ }
+{
+    let others = counts.nodes;
+    let slots = counts.edges;
+    let bound = slots.bound;
+    let from = fault(
+        live_nodes,
+        others.bound,
+        source,
+        numbers::OUT_OF_RANGE_NODE,
+        numbers::REMOVED_NODE,
+    );
+    if from != 0 {
+        return Stepped {
+            number: from,
+            value: plain::NONE,
+            counts,
+        };
+    }
+    let to = fault(
+        live_nodes,
+        others.bound,
+        target,
+        numbers::OUT_OF_RANGE_NODE,
+        numbers::REMOVED_NODE,
+    );
+    if to != 0 {
+        return Stepped {
+            number: to,
+            value: plain::NONE,
+            counts,
+        };
+    }
+    if edges.len() <= bound as usize {
+        return Stepped {
+            number: numbers::FULL,
+            value: plain::NONE,
+            counts,
+        };
+    }
+    let after = store::add_edge(
+        counts,
+        nodes,
+        edges,
+        live_nodes,
+        live_edges,
+        outgoing,
+        incoming,
+        source,
+        target,
+        payload,
+    );
+    Stepped {
+        number: numbers::DONE,
+        value: bound,
+        counts: after,
+    }
+}
+
+// "Removals: 4."
+pub fn remove_edge(
+    counts: Counts,
+    nodes: &[u32],
+    edges: &[u32],
+    live_nodes: &[u64],
+    live_edges: &mut [u64],
+    outgoing: &[u32],
+    incoming: &[u32],
+    edge: u32,
+) -> Stepped
+    requires { ⌜ Checked (store counts (now nodes) (now edges) (now «live_nodes») (now «live_edges») (now outgoing) (now incoming)) ⌝ }
+    ensures { λ r. ⌜ StepOf (RemoveEdge edge)
+        (store counts (now (nodes .entry)) (now (edges .entry)) (now («live_nodes» .entry)) (now («live_edges» .entry)) (now (outgoing .entry)) (now (incoming .entry)))
+        (store (r .counts) (now (nodes .exit)) (now (edges .exit)) (now («live_nodes» .exit)) (now («live_edges» .exit)) (now (outgoing .exit)) (now (incoming .exit)))
+        (r .number) (r .value) ⌝ }
+{
+    let removal = store::remove_edge(
+        counts,
+        nodes,
+        edges,
+        live_nodes,
+        live_edges,
+        outgoing,
+        incoming,
+        edge,
+    );
+    let after = removal.counts;
+    if removal.removed {
+        return Stepped {
+            number: numbers::DONE,
+            value: 1,
+            counts: after,
+        };
+    }
+    Stepped {
+        number: numbers::DONE,
+        value: 0,
+        counts: after,
+    }
+}
+
+// "Removals: 4." The edges of both walks go with the node.
+pub fn remove_node(
+    counts: Counts,
+    nodes: &[u32],
+    edges: &[u32],
+    live_nodes: &mut [u64],
+    live_edges: &mut [u64],
+    outgoing: &[u32],
+    incoming: &[u32],
+    node: u32,
+) -> Stepped
+    requires { ⌜ Checked (store counts (now nodes) (now edges) (now «live_nodes») (now «live_edges») (now outgoing) (now incoming)) ⌝ }
+    ensures { λ r. ⌜ StepOf (RemoveNode node)
+        (store counts (now (nodes .entry)) (now (edges .entry)) (now («live_nodes» .entry)) (now («live_edges» .entry)) (now (outgoing .entry)) (now (incoming .entry)))
+        (store (r .counts) (now (nodes .exit)) (now (edges .exit)) (now («live_nodes» .exit)) (now («live_edges» .exit)) (now (outgoing .exit)) (now (incoming .exit)))
+        (r .number) (r .value) ⌝ }
+{
+    let removal = store::remove_node(
+        counts,
+        nodes,
+        edges,
+        live_nodes,
+        live_edges,
+        outgoing,
+        incoming,
+        node,
+    );
+    let after = removal.counts;
+    if removal.removed {
+        return Stepped {
+            number: numbers::DONE,
+            value: 1,
+            counts: after,
+        };
+    }
+    Stepped {
+        number: numbers::DONE,
+        value: 0,
+        counts: after,
+    }
+}
+
+// "Redirect: 4, 7, 8, 5, 6."
+pub fn redirect(
+    counts: Counts,
+    nodes: &[u32],
+    edges: &[u32],
+    live_nodes: &[u64],
+    live_edges: &[u64],
+    outgoing: &mut [u32],
+    incoming: &mut [u32],
+    direction: TraversalDirection,
+    edge: u32,
+    node: u32,
+) -> Stepped
+    requires { ⌜ Checked (store counts (now nodes) (now edges) (now «live_nodes») (now «live_edges») (now outgoing) (now incoming)) ⌝ }
+    ensures { λ r. ⌜ StepOf (Redirect direction edge node)
+        (store counts (now (nodes .entry)) (now (edges .entry)) (now («live_nodes» .entry)) (now («live_edges» .entry)) (now (outgoing .entry)) (now (incoming .entry)))
+        (store (r .counts) (now (nodes .exit)) (now (edges .exit)) (now («live_nodes» .exit)) (now («live_edges» .exit)) (now (outgoing .exit)) (now (incoming .exit)))
+        (r .number) (r .value) ⌝ }
+{
+    let others = counts.nodes;
+    let slots = counts.edges;
+    let missing = fault(
+        live_edges,
+        slots.bound,
+        edge,
+        numbers::OUT_OF_RANGE_EDGE,
+        numbers::REMOVED_EDGE,
+    );
+    if missing != 0 {
+        return Stepped {
+            number: missing,
+            value: plain::NONE,
+            counts,
+        };
+    }
+    let to = fault(
+        live_nodes,
+        others.bound,
+        node,
+        numbers::OUT_OF_RANGE_NODE,
+        numbers::REMOVED_NODE,
+    );
+    if to != 0 {
+        return Stepped {
+            number: to,
+            value: plain::NONE,
+            counts,
+        };
+    }
+    let previous = store::redirect(
+        counts,
+        nodes,
+        edges,
+        live_nodes,
+        live_edges,
+        outgoing,
+        incoming,
+        direction,
+        edge,
+        node,
+    );
+    Stepped {
+        number: numbers::DONE,
+        value: previous,
+        counts,
+    }
+}
+
+// "Move: 4, 9, old 5; an empty walk is done, value 0; then new 5, 6."
+pub fn move_adjacency(
+    counts: Counts,
+    nodes: &[u32],
+    edges: &[u32],
+    live_nodes: &[u64],
+    live_edges: &[u64],
+    outgoing: &mut [u32],
+    incoming: &mut [u32],
+    direction: TraversalDirection,
+    old: u32,
+    new: u32,
+) -> Stepped
+    requires { ⌜ Checked (store counts (now nodes) (now edges) (now «live_nodes») (now «live_edges») (now outgoing) (now incoming)) ⌝ }
+    ensures { λ r. ⌜ StepOf (Move direction old new)
+        (store counts (now (nodes .entry)) (now (edges .entry)) (now («live_nodes» .entry)) (now («live_edges» .entry)) (now (outgoing .entry)) (now (incoming .entry)))
+        (store (r .counts) (now (nodes .exit)) (now (edges .exit)) (now («live_nodes» .exit)) (now («live_edges» .exit)) (now (outgoing .exit)) (now (incoming .exit)))
+        (r .number) (r .value) ⌝ }
+{
+    let slots = counts.nodes;
+    if old == new {
+        return Stepped {
+            number: numbers::ONTO_ITSELF,
+            value: plain::NONE,
+            counts,
+        };
+    }
+    if slots.bound <= old {
+        return Stepped {
+            number: numbers::OUT_OF_RANGE_NODE,
+            value: plain::NONE,
+            counts,
+        };
+    }
+    if reads::degree(
+        counts,
+        nodes,
+        edges,
+        live_nodes,
+        live_edges,
+        outgoing,
+        incoming,
+        direction,
+        old,
+    )
+        == 0
+    {
+        return Stepped {
+            number: numbers::DONE,
+            value: 0,
+            counts,
+        };
+    }
+    let to = fault(
+        live_nodes,
+        slots.bound,
+        new,
+        numbers::OUT_OF_RANGE_NODE,
+        numbers::REMOVED_NODE,
+    );
+    if to != 0 {
+        return Stepped {
+            number: to,
+            value: plain::NONE,
+            counts,
+        };
+    }
+    let moved = store::move_adjacency(
+        counts,
+        nodes,
+        edges,
+        live_nodes,
+        live_edges,
+        outgoing,
+        incoming,
+        direction,
+        old,
+        new,
+    );
+    Stepped {
+        number: numbers::DONE,
+        value: moved,
+        counts,
+    }
+}
+
+// "Set payload: 4, 7."
+pub fn set_payload(
+    counts: Counts,
+    nodes: &[u32],
+    edges: &mut [u32],
+    live_nodes: &[u64],
+    live_edges: &[u64],
+    outgoing: &[u32],
+    incoming: &[u32],
+    edge: u32,
+    payload: u32,
+) -> Stepped
+    requires { ⌜ Checked (store counts (now nodes) (now edges) (now «live_nodes») (now «live_edges») (now outgoing) (now incoming)) ⌝ }
+    ensures { λ r. ⌜ StepOf (SetPayload edge payload)
+        (store counts (now (nodes .entry)) (now (edges .entry)) (now («live_nodes» .entry)) (now («live_edges» .entry)) (now (outgoing .entry)) (now (incoming .entry)))
+        (store (r .counts) (now (nodes .exit)) (now (edges .exit)) (now («live_nodes» .exit)) (now («live_edges» .exit)) (now (outgoing .exit)) (now (incoming .exit)))
+        (r .number) (r .value) ⌝ }
+{
+    let slots = counts.edges;
+    if slots.bound <= edge {
+        return Stepped {
+            number: numbers::OUT_OF_RANGE_EDGE,
+            value: plain::NONE,
+            counts,
+        };
+    }
+    store::set_payload(
+        counts,
+        nodes,
+        edges,
+        live_nodes,
+        live_edges,
+        outgoing,
+        incoming,
+        edge,
+        payload,
+    );
+    Stepped {
+        number: numbers::DONE,
+        value: 0,
+        counts,
+    }
+}
+
+// One operation.
+pub fn step(
+    counts: Counts,
+    nodes: &mut [u32],
+    edges: &mut [u32],
+    live_nodes: &mut [u64],
+    live_edges: &mut [u64],
+    outgoing: &mut [u32],
+    incoming: &mut [u32],
+    operation: Operation,
+) -> Stepped
+    requires { ⌜ Checked (store counts (now nodes) (now edges) (now «live_nodes») (now «live_edges») (now outgoing) (now incoming)) ⌝ }
+    ensures { λ r. ⌜ StepOf operation
+        (store counts (now (nodes .entry)) (now (edges .entry)) (now («live_nodes» .entry)) (now («live_edges» .entry)) (now (outgoing .entry)) (now (incoming .entry)))
+        (store (r .counts) (now (nodes .exit)) (now (edges .exit)) (now («live_nodes» .exit)) (now («live_edges» .exit)) (now (outgoing .exit)) (now (incoming .exit)))
+        (r .number) (r .value) ⌝ }
+{
+    match operation {
+        Operation::AddNode { payload } => add_node(
+            counts,
+            nodes,
+            edges,
+            live_nodes,
+            live_edges,
+            outgoing,
+            incoming,
+            payload,
+        ),
+        Operation::AddEdge {
+            source,
+            target,
+            payload,
+        } => add_edge(
+            counts,
+            nodes,
+            edges,
+            live_nodes,
+            live_edges,
+            outgoing,
+            incoming,
+            source,
+            target,
+            payload,
+        ),
+        Operation::RemoveEdge { edge } => remove_edge(
+            counts,
+            nodes,
+            edges,
+            live_nodes,
+            live_edges,
+            outgoing,
+            incoming,
+            edge,
+        ),
+        Operation::RemoveNode { node } => remove_node(
+            counts,
+            nodes,
+            edges,
+            live_nodes,
+            live_edges,
+            outgoing,
+            incoming,
+            node,
+        ),
+        Operation::Redirect {
+            direction,
+            edge,
+            node,
+        } => redirect(
+            counts,
+            nodes,
+            edges,
+            live_nodes,
+            live_edges,
+            outgoing,
+            incoming,
+            direction,
+            edge,
+            node,
+        ),
+        Operation::Move {
+            direction,
+            old,
+            new,
+        } => move_adjacency(
+            counts,
+            nodes,
+            edges,
+            live_nodes,
+            live_edges,
+            outgoing,
+            incoming,
+            direction,
+            old,
+            new,
+        ),
+        Operation::SetPayload { edge, payload } => set_payload(
+            counts,
+            nodes,
+            edges,
+            live_nodes,
+            live_edges,
+            outgoing,
+            incoming,
+            edge,
+            payload,
+        ),
+        Operation::Unknown => Stepped {
+            number: numbers::UNKNOWN_CODE,
+            value: plain::NONE,
+            counts,
+        },
+    }
+}
