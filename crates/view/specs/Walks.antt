@@ -10,7 +10,7 @@ use Rattle.plain.specs.declared.Answer.{Answer}
 use Rattle.plain.specs.Numbers.{NONE}
 use Rattle.plain.specs.Lists.{written}
 use Rattle.plain.specs.Plain.{node-flags, list-of, end-of, opposite}
-use Rattle.plain.specs.Reads.{answered, listing, walk, neighbors, degree}
+use Rattle.plain.specs.Reads.{Reply, answered, listing, walk, neighbors, degree}
 use Rattle.plain.specs.Laws.Cases.{Absent}
 use Rattle.plain.specs.Laws.CallCases.{walk-absent, walk-there, neighbors-absent, neighbors-there, degree-absent, degree-there}
 use Rattle.liveness.specs.FlagLaws.{length-flags}
@@ -66,8 +66,8 @@ module _ (w : Words) (d : TraversalDirection) (x : ℕ) where
     neighbors-below l = neighbors-there d (lists w) x room (rw (node-bound-is w) l)
 
 -- as many far ends as entries
-far-ends-size : (w : Words) (d : TraversalDirection) (x : ℕ) {n : ℕ} → n ≡ length (list-in d w x) → n ≡ length (far-ends-in d w x)
-far-ends-size w d x size = size ∙ sym (length-map (list-in d w x) (end-of (opposite d) (lists w)))
+far-ends-long : (w : Words) (d : TraversalDirection) (x : ℕ) → length (list-in d w x) ≡ length (far-ends-in d w x)
+far-ends-long w d x = sym (length-map (list-in d w x) (end-of (opposite d) (lists w)))
 
 -- ---- what counting a list comes to, and a read of it before anything is written
 
@@ -120,37 +120,38 @@ module _ {w : Words} {d : TraversalDirection} {x : ℕ} {entry : List ℕ} where
   list-fits (short j z b size h) zero = absurd (omega arith)
   list-fits (fits j z b size h) zero = record { checked = j .checked z; below = b; fits = omega (arith, size) }
 
-  -- a refusal is the read's, and writes nothing
-  pub walk-refused : {r : Answer} → ListAnswer w d x (length entry) r → (r .number ≡ 0 → ⊥) → Replied w (λ w room. walk d (lists w) x room) entry r entry
-  walk-refused (refused (no-store j h is) k) some = reply-refuses j h is
-  walk-refused (refused (counted j z b size) k) some = absurd (some refl)
-  walk-refused (refused (past j z b) k) some = reply-absent j z (walk-past w d x (length entry) b)
-  walk-refused (short j z b size h) some = list-short j z (list-in d w x) (walk-below w d x (length entry) b) size h
-  walk-refused (fits j z b size h) some = absurd (some refl)
+-- a read of a node that is 5 above the bound and lists as many words below it as the node's list has entries
+module _ {w : Words} {d : TraversalDirection} {x : ℕ} {read : Words → ℕ → Reply} (list : List ℕ)
+    (past-is : (room : ℕ) → w .counts .nodes .bound ≤ x → read w room ≡ record { number = 5; value = NONE; words = [] })
+    (below-is : (room : ℕ) → x < w .counts .nodes .bound → read w room ≡ listing room list) (long : length (list-in d w x) ≡ length list) {entry : List ℕ}
+  where
+    -- a refusal is the read's, and writes nothing
+    read-refused : {r : Answer} → ListAnswer w d x (length entry) r → (r .number ≡ 0 → ⊥) → Replied w read entry r entry
+    read-refused (refused (no-store j h is) k) some = reply-refuses j h is
+    read-refused (refused (past j z b) k) some = reply-absent j z (past-is (length entry) b)
+    read-refused (refused (counted j z b size) k) some = absurd (some refl)
+    read-refused (short j z b size h) some = list-short j z list (below-is (length entry) b) (size ∙ long) h
+    read-refused (fits j z b size h) some = absurd (some refl)
 
-  pub neighbors-refused : {r : Answer} → ListAnswer w d x (length entry) r → (r .number ≡ 0 → ⊥)
-      → Replied w (λ w room. neighbors d (lists w) x room) entry r entry
-  neighbors-refused (refused (no-store j h is) k) some = reply-refuses j h is
-  neighbors-refused (refused (counted j z b size) k) some = absurd (some refl)
-  neighbors-refused (refused (past j z b) k) some = reply-absent j z (neighbors-past w d x (length entry) b)
-  neighbors-refused (short j z b size h) some =
-      list-short j z (far-ends-in d w x) (neighbors-below w d x (length entry) b) (far-ends-size w d x size) h
-  neighbors-refused (fits j z b size h) some = absurd (some refl)
-
-  module _ {exit : List ℕ} where
     -- and else the list is written
-    pub walk-done : {r : Answer} → ListAnswer w d x (length entry) r → r .number ≡ 0 → exit ≡ written (list-in d w x) entry
-        → Replied w (λ w room. walk d (lists w) x room) entry r exit
-    walk-done (refused c some) zero wrote = absurd (some zero)
-    walk-done (short j z b size h) zero wrote = absurd (omega arith)
-    walk-done (fits j z b size h) zero wrote = list-done j z (list-in d w x) (walk-below w d x (length entry) b) size h wrote
+    read-done : {exit : List ℕ} {r : Answer} → ListAnswer w d x (length entry) r → r .number ≡ 0 → exit ≡ written list entry → Replied w read entry r exit
+    read-done (refused c some) zero wrote = absurd (some zero)
+    read-done (short j z b size h) zero wrote = absurd (omega arith)
+    read-done (fits j z b size h) zero wrote = list-done j z list (below-is (length entry) b) (size ∙ long) h wrote
 
-    pub neighbors-done : {r : Answer} → ListAnswer w d x (length entry) r → r .number ≡ 0 → exit ≡ written (far-ends-in d w x) entry
-        → Replied w (λ w room. neighbors d (lists w) x room) entry r exit
-    neighbors-done (refused c some) zero wrote = absurd (some zero)
-    neighbors-done (short j z b size h) zero wrote = absurd (omega arith)
-    neighbors-done (fits j z b size h) zero wrote =
-        list-done j z (far-ends-in d w x) (neighbors-below w d x (length entry) b) (far-ends-size w d x size) h wrote
+module _ {w : Words} {d : TraversalDirection} {x : ℕ} {entry : List ℕ} {r : Answer} (a : ListAnswer w d x (length entry) r) where
+  pub walk-refused : (r .number ≡ 0 → ⊥) → Replied w (λ w room. walk d (lists w) x room) entry r entry
+  walk-refused = read-refused (list-in d w x) (walk-past w d x) (walk-below w d x) refl a
+
+  pub walk-done : {exit : List ℕ} → r .number ≡ 0 → exit ≡ written (list-in d w x) entry → Replied w (λ w room. walk d (lists w) x room) entry r exit
+  walk-done = read-done (list-in d w x) (walk-past w d x) (walk-below w d x) refl a
+
+  pub neighbors-refused : (r .number ≡ 0 → ⊥) → Replied w (λ w room. neighbors d (lists w) x room) entry r entry
+  neighbors-refused = read-refused (far-ends-in d w x) (neighbors-past w d x) (neighbors-below w d x) (far-ends-long w d x) a
+
+  pub neighbors-done : {exit : List ℕ} → r .number ≡ 0 → exit ≡ written (far-ends-in d w x) entry
+      → Replied w (λ w room. neighbors d (lists w) x room) entry r exit
+  neighbors-done = read-done (far-ends-in d w x) (neighbors-past w d x) (neighbors-below w d x) (far-ends-long w d x) a
 
 -- ---- the writing, by the words of one direction
 
