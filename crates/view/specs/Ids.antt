@@ -9,21 +9,23 @@ use mathlib.Core.List.{List, [], _∷_, _++_, append-nil}
 use lib.ListN.{length, set, drop, length-append, length-set}
 use lib.Seq.{append-snoc}
 use Rattle.plain.specs.declared.TraversalDirection.the-variants.{Outgoing}
+use Rattle.plain.specs.declared.Slots.{Slots}
 use Rattle.plain.specs.Numbers.{LIMIT}
 use Rattle.plain.specs.Lists.{written}
 use Rattle.plain.specs.Plain.{node-flags, edge-flags}
-use Rattle.plain.specs.Reads.{live-count, live-from, live-slots, node-slots, edge-slots}
+use Rattle.plain.specs.Memory.{live-words}
+use Rattle.plain.specs.Reads.{Reply, listing, live-count, live-from, live-slots, node-slots, edge-slots}
 use Rattle.plain.specs.Laws.Booleans.{below-or-not}
 use Rattle.plain.specs.Laws.ListLaws.{count-length}
 use Rattle.plain.specs.Laws.Rank.{length-live-slots}
 use Rattle.liveness.specs.Flags.{live-flags, next-live}
 use Rattle.liveness.specs.Next.{listed-next, listed-end}
+use Rattle.shape.specs.Checked.{Bounded, LiveRight}
 use Rattle.shape.specs.Shape.{Words, node-live, edge-live, plain-of, lists}
 use Rattle.shape.specs.Laws.Reading.{node-flags-are, edge-flags-are}
 use Rattle.adjacency.specs.Reading.{write-one}
 use Rattle.validate.specs.Judging.{Judged}
 use Rattle.view.specs.Calls.{Replied, list-short, list-done}
-use Rattle.view.specs.Whole.{live-nodes-are, live-edges-are}
 
 -- What it takes to write the live slots to a slice: the words of all slots, and room.
 pub record LiveFits (words : List ℕ) (bound : ℕ) (slots : List ℕ) : Type 0 where
@@ -104,54 +106,56 @@ module _ {flags : List Bool} {out₀ out : List ℕ} {n slot : ℕ} (i : Listing
       let all : live-slots flags ≡ i .past = i .whole ∙ rw nothing (append-nil (i .past)) in
       rw (all, ← i .counted) (i .wrote)
 
--- ---- the answers
+-- ---- the answers, of one kind of slot
 
-module _ {w : Words} {rule : ℕ} (j : Judged w rule) (zero : rule ≡ 0) where
-  node-size : w .counts .nodes .live ≡ length (live-slots (node-flags (lists w)))
-  node-size = live-nodes-are (j .checked zero) ∙ sym (length-live-slots (node-flags (lists w)))
+-- as many are listed as are live
+size : {words : List ℕ} {s : Slots} {flags : List Bool} → LiveRight words (live-flags words (s .bound)) s → flags ≡ live-flags words (s .bound)
+    → s .live ≡ length (live-slots flags)
+size {flags = flags} right same = right .live-right ∙ ap live-count (sym same) ∙ sym (length-live-slots flags)
 
-  edge-size : w .counts .edges .live ≡ length (live-slots (edge-flags (lists w)))
-  edge-size = live-edges-are (j .checked zero) ∙ sym (length-live-slots (edge-flags (lists w)))
+module _ {words : List ℕ} {s : Slots} (right : LiveRight words (live-flags words (s .bound)) s) {entry : List ℕ} where
+  -- there is room for as many as are live
+  ids-fit : {capacity : ℕ} → Bounded capacity s → capacity ≤ LIMIT → live-words capacity ≤ length words → s .live ≤ length entry
+      → LiveFits words (s .bound) entry
+  ids-fit bounded few long room = record {
+    long = omega (arith, bounded .bound-within);
+    few = omega (arith, bounded .bound-within);
+    fits = omega (arith, right .live-right);
+  }
 
-  module _ {entry : List ℕ} where
-    pub node-ids-short : length entry < w .counts .nodes .live
-        → Replied w (λ w room. node-slots (lists w) room) entry (record { number = 2; value = w .counts .nodes .live }) entry
-    unfolding node-slots
-    node-ids-short = list-short j zero (live-slots (node-flags (lists w))) refl node-size
+  module _ {w : Words} {rule : ℕ} (j : Judged w rule) (zero : rule ≡ 0) {read : Words → ℕ → Reply} (flags : List Bool)
+      (is : read w (length entry) ≡ listing (length entry) (live-slots flags)) (same : flags ≡ live-flags words (s .bound)) where
+    ids-short : length entry < s .live → Replied w read entry (record { number = 2; value = s .live }) entry
+    ids-short = list-short j zero (live-slots flags) is (size right same)
 
-    pub node-ids-done : {exit : List ℕ} → w .counts .nodes .live ≤ length entry → exit ≡ written (live-slots (node-live w)) entry
-        → Replied w (λ w room. node-slots (lists w) room) entry (record { number = 0; value = w .counts .nodes .live }) exit
-    unfolding node-slots plain-of
-    node-ids-done fits wrote =
-        list-done j zero (live-slots (node-flags (lists w))) refl node-size fits
-        (wrote ∙ ap (λ (flags : List Bool). written (live-slots flags) entry) (sym (node-flags-are w)))
+    ids-done : {exit : List ℕ} → s .live ≤ length entry → exit ≡ written (live-slots (live-flags words (s .bound))) entry
+        → Replied w read entry (record { number = 0; value = s .live }) exit
+    ids-done fits wrote =
+        list-done j zero (live-slots flags) is (size right same) fits (wrote ∙ ap (λ (flags : List Bool). written (live-slots flags) entry) (sym same))
 
-    pub node-ids-fit : w .counts .nodes .live ≤ length entry → LiveFits (w .live-nodes) (w .counts .nodes .bound) entry
-    node-ids-fit room =
-        let k = j .checked zero in
-        record {
-          long = omega (arith, k .live-nodes-long, k .nodes .bound-within);
-          few = omega (arith, k .nodes .bound-within, k .axis Outgoing .sized .nodes-within);
-          fits = omega (arith, k .nodes-live .live-right);
-        }
+module _ {w : Words} {rule : ℕ} (j : Judged w rule) (zero : rule ≡ 0) {entry : List ℕ} where
+  pub node-ids-fit : w .counts .nodes .live ≤ length entry → LiveFits (w .live-nodes) (w .counts .nodes .bound) entry
+  node-ids-fit = let k = j .checked zero in ids-fit (k .nodes-live) (k .nodes) (k .axis Outgoing .sized .nodes-within) (k .live-nodes-long)
 
-    pub edge-ids-short : length entry < w .counts .edges .live
-        → Replied w (λ w room. edge-slots (lists w) room) entry (record { number = 2; value = w .counts .edges .live }) entry
-    unfolding edge-slots
-    edge-ids-short = list-short j zero (live-slots (edge-flags (lists w))) refl edge-size
+  pub node-ids-short : length entry < w .counts .nodes .live
+      → Replied w (λ w room. node-slots (lists w) room) entry (record { number = 2; value = w .counts .nodes .live }) entry
+  unfolding node-slots plain-of
+  node-ids-short = ids-short (j .checked zero .nodes-live) j zero (node-flags (lists w)) refl (node-flags-are w)
 
-    pub edge-ids-done : {exit : List ℕ} → w .counts .edges .live ≤ length entry → exit ≡ written (live-slots (edge-live w)) entry
-        → Replied w (λ w room. edge-slots (lists w) room) entry (record { number = 0; value = w .counts .edges .live }) exit
-    unfolding edge-slots plain-of
-    edge-ids-done fits wrote =
-        list-done j zero (live-slots (edge-flags (lists w))) refl edge-size fits
-        (wrote ∙ ap (λ (flags : List Bool). written (live-slots flags) entry) (sym (edge-flags-are w)))
+  pub node-ids-done : {exit : List ℕ} → w .counts .nodes .live ≤ length entry → exit ≡ written (live-slots (node-live w)) entry
+      → Replied w (λ w room. node-slots (lists w) room) entry (record { number = 0; value = w .counts .nodes .live }) exit
+  unfolding node-slots plain-of
+  node-ids-done = ids-done (j .checked zero .nodes-live) j zero (node-flags (lists w)) refl (node-flags-are w)
 
-    pub edge-ids-fit : w .counts .edges .live ≤ length entry → LiveFits (w .live-edges) (w .counts .edges .bound) entry
-    edge-ids-fit room =
-        let k = j .checked zero in
-        record {
-          long = omega (arith, k .live-edges-long, k .edges .bound-within);
-          few = omega (arith, k .edges .bound-within, k .axis Outgoing .sized .edges-within);
-          fits = omega (arith, k .edges-live .live-right);
-        }
+  pub edge-ids-fit : w .counts .edges .live ≤ length entry → LiveFits (w .live-edges) (w .counts .edges .bound) entry
+  edge-ids-fit = let k = j .checked zero in ids-fit (k .edges-live) (k .edges) (k .axis Outgoing .sized .edges-within) (k .live-edges-long)
+
+  pub edge-ids-short : length entry < w .counts .edges .live
+      → Replied w (λ w room. edge-slots (lists w) room) entry (record { number = 2; value = w .counts .edges .live }) entry
+  unfolding edge-slots plain-of
+  edge-ids-short = ids-short (j .checked zero .edges-live) j zero (edge-flags (lists w)) refl (edge-flags-are w)
+
+  pub edge-ids-done : {exit : List ℕ} → w .counts .edges .live ≤ length entry → exit ≡ written (live-slots (edge-live w)) entry
+      → Replied w (λ w room. edge-slots (lists w) room) entry (record { number = 0; value = w .counts .edges .live }) exit
+  unfolding edge-slots plain-of
+  edge-ids-done = ids-done (j .checked zero .edges-live) j zero (edge-flags (lists w)) refl (edge-flags-are w)
