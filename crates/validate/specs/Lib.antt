@@ -5,4 +5,5 @@ pub mod Marks
 pub mod Runs
 pub mod Walks
 pub mod Broken
+pub mod Judging
 mod Examples
