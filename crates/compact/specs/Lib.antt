@@ -1,3 +1,4 @@
 pub mod Survivors
 pub mod Settled
 pub mod Bases
+pub mod Calls
