@@ -1,4 +1,5 @@
 pub mod Survivors
 pub mod Settled
+pub mod Slots
 pub mod Bases
 pub mod Calls
