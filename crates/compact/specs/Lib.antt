@@ -2,4 +2,5 @@ pub mod Survivors
 pub mod Settled
 pub mod Slots
 pub mod Bases
+pub mod Dropping
 pub mod Calls

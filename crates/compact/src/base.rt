@@ -1,7 +1,7 @@
 // A new compressed base of one direction. `edges` and `nodes` are the capacities of the axis.
 
-use adjacency::index;
 use crate::slots;
+use adjacency::index;
 use plain::NONE;
 ghost use Rattle.compact.specs.Bases.{Rebuildable, Rebuilt, Compactable, AxisCompacted};
 
