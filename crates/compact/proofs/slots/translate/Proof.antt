@@ -3,7 +3,6 @@
 use Prim.Native.Nat.{ℕ, _-_, _≤_, _<_}
 use mathlib.Core.Path.{_≡_, ap}
 use native.Mathlib.Omega.{arith}
-use borrow.Author.Needs.{needs}
 use lib.ListN.{length, getD}
 use Rattle.shape.specs.Laws.Indexing.{Rewritten, rewritten-none, rewritten-all}
 use Rattle.compact.specs.Slots.{translated-word}
@@ -18,7 +17,8 @@ abbrev μ-loop : tie.MeasureT-loop
 μ-loop words₀ count map i₀ words i = count - i
 
 -- the next word is as at entry
-word-kept : (s : tie.In-loop Inv-loop μ-loop) → getD (s .before .loop .words) (s .before .loop .i) 0 ≡ getD (s .before .before .args .words .now) (s .before .loop .i) 0
+word-kept : (s : tie.In-loop Inv-loop μ-loop)
+    → getD (s .before .loop .words) (s .before .loop .i) 0 ≡ getD (s .before .before .args .words .now) (s .before .loop .i) 0
 word-kept s = s .before .loop .inv .1 .above (s .before .loop .i) (omega arith)
 
 -- and an entry of the map

@@ -1,52 +1,43 @@
--- `compact::slots::write_map` meets its contract. The loop's invariant: the entries of the slots passed are written, all other words are as they were, and `next`
--- is the number of live slots passed. The measure is the number of slots left.
-use Prim.Native.Nat.{_-_, _≤_, _<_}
-use mathlib.Core.Path.{_≡_, sym, _∙_}
+-- `compact::slots::write_map` meets its contract. The loop's invariant: the entries of the slots passed are written, all other words are as they were, and
+-- `next` is the number of live slots passed. The measure is the number of slots left.
+use Prim.Native.Nat.{_-_}
+use mathlib.Core.Path.{sym, _∙_}
 use native.Mathlib.Omega.{arith}
 use borrow.Author.Needs.{needs}
-use lib.ListN.{length}
 use Rattle.plain.specs.Compaction.{renumbering}
 use Rattle.plain.specs.Renumbering.{lookup}
 use Rattle.liveness.specs.Flags.{live-flags}
-use Rattle.liveness.specs.FlagLaws.{length-flags}
 use Rattle.shape.specs.Laws.Indexing.{Rewritten, rewritten-none}
 use Rattle.compact.proofs.slots.Turns.{rewritten-next, Passed, passed-none, passed-live, passed-dead, mapped-live, mapped-dead, mapped-all}
 use Rattle.compact.proofs.slots.write_map.Statement.{statement}
 use Rattle.compact.proofs.slots.write_map.Tie as tie
 
 abbrev Inv-loop : tie.InvT-loop
-Inv-loop live bound map₀ next₀ slot₀ map next slot = Passed (live-flags live bound) slot next × Rewritten map₀ map 0 slot (lookup (renumbering (live-flags live bound)))
+Inv-loop live bound map₀ next₀ slot₀ map next slot =
+    Passed live bound slot next × Rewritten map₀ map 0 slot (lookup (renumbering (live-flags live bound)))
 
 abbrev μ-loop : tie.MeasureT-loop
 μ-loop live bound map₀ next₀ slot₀ map next slot = bound - slot
 
 loop-holds : tie.Need-loop-holds Inv-loop μ-loop
-loop-holds c = (passed-none _, rewritten-none _ _ _)
-
--- the slot is one of the flags
-slot-there : (s : tie.In-loop Inv-loop μ-loop)
-    → s .before .loop .slot < length (live-flags (s .before .before .before .before .args .live .now) (s .before .before .before .before .args .bound))
-slot-there s = rw length-flags (s .loop-test .taken)
+loop-holds c = (passed-none _ _, rewritten-none _ _ _)
 
 loop-again : tie.Need-loop-again Inv-loop μ-loop
 loop-again c =
     let s = c .before .before .before in
-    let live = sym (c .before .is-live .ensures) ∙ c .if1 .taken in
+    let alive = sym (c .before .is-live .ensures) ∙ c .if1 .taken in
     let passed = s .loop .inv .0 in
-    (passed-live _ passed (slot-there (c .before .before)) live, rewritten-next _ (s .loop .inv .1) (omega arith) (mapped-live _ passed live))
+    (passed-live passed (c .before .before .loop-test .taken) alive, rewritten-next _ (s .loop .inv .1) (omega arith) (mapped-live passed alive))
 
 loop-again-2 : tie.Need-loop-again-2 Inv-loop μ-loop
 loop-again-2 c =
     let s = c .before .before .before in
     let dead = sym (c .before .is-live .ensures) ∙ c .if1 .left in
-    (passed-dead _ (s .loop .inv .0) (slot-there (c .before .before)) dead, rewritten-next _ (s .loop .inv .1) (omega arith) (mapped-dead _ _ dead))
+    let passed = s .loop .inv .0 in
+    (passed-dead passed (c .before .before .loop-test .taken) dead, rewritten-next _ (s .loop .inv .1) (omega arith) (mapped-dead passed dead))
 
 returns : tie.Need-returns Inv-loop μ-loop
-returns c =
-    let a = c .before .before .before .before .args in
-    let long = length-flags (a .live .now) (a .bound) in
-    let within = c .before .loop .inv .0 .within in
-    mapped-all _ _ (c .before .loop .inv .1) (omega arith) (omega arith)
+returns c = mapped-all (c .before .loop .inv .0) (c .before .loop .inv .1) (c .loop-test .left) (omega arith)
 
 pub write-map-spec : {M : Type 1} → statement M
 write-map-spec =
