@@ -21,6 +21,7 @@ use Rattle.shape.specs.Shape.{Words, node-live, edge-live, axis-words}
 use Rattle.shape.specs.Checked.{Checked}
 use Rattle.shape.specs.Laws.Indexing.{Rewritten}
 use Rattle.relocate.specs.Stores.{checked-end}
+use Rattle.store.specs.Operations.{SameLengths}
 use Rattle.compact.specs.Slots.{kept-word, Keepable}
 use Rattle.compact.specs.Bases.{Compactable, AxisCompacted}
 
@@ -36,6 +37,7 @@ pub record Droppable (w : Words) (node-map work : List ℕ) : Type 0 where
   pub there : 2 * w .counts .edges .live ≤ length work
 
 pub record Dropped (w : Words) (node-map work : List ℕ) (v : Words) : Type 0 where
+  pub lengths : SameLengths w v
   pub counts : v .counts ≡ record { nodes = based (w .counts .nodes .live); edges = based (w .counts .edges .live) }
   pub nodes : Rewritten (w .nodes) (v .nodes) 0 (live-count (node-live w)) (kept-word (w .nodes) (node-live w))
   pub edges : Rewritten (w .edges) (v .edges) 0 (live-count (edge-live w)) (kept-word (w .edges) (edge-live w))

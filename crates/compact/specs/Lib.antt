@@ -3,4 +3,5 @@ pub mod Settled
 pub mod Slots
 pub mod Bases
 pub mod Dropping
+pub mod Compacted
 pub mod Calls

@@ -59,6 +59,14 @@ returns c =
     let ins = targets nodes-moved in
     let outs = sources ins in
     record {
+      lengths = record {
+        nodes = nodes-moved .keep-live .kept .0;
+        edges = edges-moved .keep-live2 .kept .0;
+        live-nodes = nodes-cleared .reset-all-live .kept .0;
+        live-edges = cleared .reset-all-live2 .kept .0;
+        outgoing = outs .compact-axis .kept .0;
+        incoming = ins .compact-axis2 .kept .0;
+      };
       counts = ap₂ {C = Counts} (λ (n e : Slots). record { nodes = n; edges = e }) (c .before .all-based .ensures) (c .all-based2 .ensures);
       nodes = nodes-moved .keep-live .ensures;
       edges = edges-moved .keep-live2 .ensures;
