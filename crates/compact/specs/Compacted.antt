@@ -16,10 +16,11 @@ use Rattle.plain.specs.Plain.{Plain, NodeSlot, EdgeSlot, no-node, no-edge, node
 use Rattle.plain.specs.Reads.{live-count, live-slots}
 use Rattle.plain.specs.Compaction.{Survivors, EdgeRecord, rank, survivors, surviving-edge, kept-node, kept-edge, source-of, target-of}
 use Rattle.plain.specs.Laws.ListLaws.{map-same, map-getD, member-below}
-use Rattle.plain.specs.Laws.Rank.{live-slot-live, length-live-slots, member-live-slots, live-all-live, live-count-all-live}
+use Rattle.plain.specs.Laws.Rank.{live-below, length-live-slots, member-live-slots, live-all-live, live-count-all-live}
 use Rattle.plain.specs.Laws.WellFormed.{Fitted, Sound, WellFormed}
 use Rattle.plain.specs.Laws.Compacting.{survivors-sound, of-survivors-well-formed, length-surviving-nodes, length-surviving-edges}
 use Rattle.liveness.specs.Flags.{live-flags}
+use Rattle.liveness.specs.FlagLaws.{length-flags}
 use Rattle.shape.specs.Columns.{end-at}
 use Rattle.shape.specs.Shape.{Words, capacities, node-live, edge-live, axis-words, shape-of, plain-of, settled}
 use Rattle.shape.specs.Checked.{Checked}
@@ -30,7 +31,7 @@ use Rattle.relocate.specs.Stores.{checked-end}
 use Rattle.compact.specs.Settled.{settled-well-formed}
 use Rattle.compact.specs.Slots.{kept-word, rewritten-through}
 use Rattle.compact.specs.Bases.{Compactable, AxisCompacted, rebuildable, rebuilt-base}
-use Rattle.compact.specs.Dropping.{Droppable, Dropped, axis-compactable}
+use Rattle.compact.specs.Dropping.{Droppable, Dropped, axis-compactable, first-half, drop-room}
 
 -- a function of the live slots, slot by slot
 slots-mapped : {A : Type 0} (f g : ℕ → A) (flags : List Bool) → ((i : ℕ) → i < live-count flags → f i ≡ g (getD (live-slots flags) i 0))
@@ -63,3 +64,93 @@ module _ {ws : List ℕ} {ce cn : ℕ} {live : List ℕ} {bound : ℕ} {node-map
       let t = subst (λ (k : ℕ). Rewritten ws (r .moved) 0 k (kept-word ws (live-flags live bound))) (pre .counted) (r .moves) in
       subst (λ (l : List ℕ). NewBase ws' ce cn counts l lists) same
       (rebuilt-base (rebuildable pre t (r .renumbers)) (r .rebuilds) counts lists a b c d lined (subst (λ (l : List ℕ). Fitted n l lists) (sym same) fitted))
+
+-- ---- the store
+
+-- what compaction sees has the store's slots and ends
+seen-nodes : (w : Words) → node-flags (settled (shape-of w)) ≡ node-live w
+unfolding settled
+seen-nodes w = node-flags-are w
+
+seen-edges : (w : Words) → edge-flags (settled (shape-of w)) ≡ edge-live w
+unfolding settled
+seen-edges w = edge-flags-are w
+
+seen-end : (w : Words) (d : TraversalDirection) (e : ℕ) → e < w .counts .edges .bound → end-of d (settled (shape-of w)) e ≡ end-at (axis-words d w) e
+unfolding settled plain-of
+seen-end w Outgoing e l = plain-end w Outgoing e l
+seen-end w Incoming e l = plain-end w Incoming e l
+
+module _ {w : Words} {node-map work : List ℕ} {v : Words} (pre : Droppable w node-map work) (r : Dropped w node-map work v) where
+  abbrev seen : Plain
+  seen = settled (shape-of w)
+
+  abbrev left : Survivors
+  left = survivors seen
+
+  few-nodes : length (w .nodes) ≤ LIMIT
+  few-nodes = pre .checked .axis Outgoing .sized .nodes-within
+
+  few-edges : length (w .edges) ≤ LIMIT
+  few-edges = pre .checked .axis Outgoing .sized .edges-within
+
+  left-sound : Sound left
+  left-sound = survivors-sound (capacities w) seen (settled-well-formed (shape-of w) (pre .checked .walks)) few-nodes few-edges
+
+  left-nodes : length (left .nodes) ≡ w .counts .nodes .live
+  left-nodes = length-surviving-nodes seen ∙ ap live-count (seen-nodes w) ∙ sym (pre .checked .nodes-live .live-right)
+
+  left-edges : length (left .edges) ≡ w .counts .edges .live
+  left-edges = length-surviving-edges seen ∙ ap live-count (seen-edges w) ∙ sym (pre .checked .edges-live .live-right)
+
+  live-edge-below : (e : ℕ) → getD (edge-live w) e false ≡ true → e < w .counts .edges .bound
+  live-edge-below e l = let low = live-below (edge-live w) e l in omega (arith, length-flags (w .live-edges) (w .counts .edges .bound))
+
+  -- the new number of a live edge's end
+  new-end : (d : TraversalDirection) (e : ℕ) → getD (edge-live w) e false ≡ true
+      → getD node-map (end-at (axis-words d w) e) 0 ≡ rank (node-flags seen) (end-of d seen e)
+  new-end d e l =
+      pre .mapped (end-at (axis-words d w) e) (checked-end (pre .checked) d e l)
+      ∙ ap₂ rank (sym (seen-nodes w)) (sym (seen-end w d e (live-edge-below e l)))
+
+  ends-left : (d : TraversalDirection) → map (λ e. getD node-map (end-at (axis-words d w) e) 0) (live-slots (edge-live w))
+      ≡ map (λ e. rank (node-flags seen) (end-of d seen e)) (live-slots (edge-flags seen))
+  ends-left d =
+      map-same (λ e. getD node-map (end-at (axis-words d w) e) 0) (λ e. rank (node-flags seen) (end-of d seen e)) (live-slots (edge-live w))
+      (λ e m. new-end d e (sym (member-live-slots (edge-live w) e) ∙ m))
+      ∙ ap (λ (f : List Bool). map (λ e. rank (node-flags seen) (end-of d seen e)) (live-slots f)) (sym (seen-edges w))
+
+  sources-left : map (λ e. getD node-map (end-at (w .outgoing) e) 0) (live-slots (edge-live w)) ≡ map source-of (left .edges)
+  unfolding survivors
+  sources-left = ends-left Outgoing ∙ sym (map-map source-of (surviving-edge seen) (live-slots (edge-flags seen)))
+
+  targets-left : map (λ e. getD node-map (end-at (w .incoming) e) 0) (live-slots (edge-live w)) ≡ map target-of (left .edges)
+  unfolding survivors
+  targets-left = ends-left Incoming ∙ sym (map-map target-of (surviving-edge seen) (live-slots (edge-flags seen)))
+
+  -- the counts
+  nodes-bound : v .counts .nodes .bound ≡ w .counts .nodes .live
+  nodes-bound = ap (λ (c : Counts). c .nodes .bound) (r .counts)
+
+  nodes-base : v .counts .nodes .base ≡ w .counts .nodes .live
+  nodes-base = ap (λ (c : Counts). c .nodes .base) (r .counts)
+
+  edges-bound : v .counts .edges .bound ≡ w .counts .edges .live
+  edges-bound = ap (λ (c : Counts). c .edges .bound) (r .counts)
+
+  edges-base : v .counts .edges .base ≡ w .counts .edges .live
+  edges-base = ap (λ (c : Counts). c .edges .base) (r .counts)
+
+  -- both directions, where the work slice holds the joined lists
+  module _ (outs : take (w .counts .edges .live) work ≡ joined (left .outs))
+      (ins : take (w .counts .edges .live) (drop (w .counts .edges .live) work) ≡ joined (left .ins)) where
+    out-base : NewBase (v .outgoing) (length (w .edges)) (length (w .nodes)) (v .counts) (map source-of (left .edges)) (left .outs)
+    out-base =
+        new-base-of (axis-compactable pre Outgoing work (first-half pre)) (r .outgoing) (v .counts) (left .outs) nodes-bound nodes-base edges-bound edges-base outs
+        (map source-of (left .edges)) sources-left (subst (λ (k : ℕ). Fitted k (map source-of (left .edges)) (left .outs)) left-nodes (left-sound .outs))
+
+    in-base-of : NewBase (v .incoming) (length (w .edges)) (length (w .nodes)) (v .counts) (map target-of (left .edges)) (left .ins)
+    in-base-of =
+        new-base-of (axis-compactable pre Incoming (drop (w .counts .edges .live) work) (drop-room pre)) (r .incoming) (v .counts) (left .ins) nodes-bound nodes-base
+        edges-bound edges-base ins (map target-of (left .edges)) targets-left
+        (subst (λ (k : ℕ). Fitted k (map target-of (left .edges)) (left .ins)) left-nodes (left-sound .ins))

@@ -104,8 +104,11 @@ module _ {w : Words} {node-map work : List ℕ} (pre : Droppable w node-map work
   pub first-half : w .counts .edges .live ≤ length work
   first-half = let room = pre .there in omega arith
 
+  pub drop-room : w .counts .edges .live ≤ length (drop (w .counts .edges .live) work)
+  drop-room = rw (length-drop (w .counts .edges .live) work) (let room = pre .there in omega arith)
+
   pub second-half : w .counts .edges .live ≤ length (take (length work - w .counts .edges .live) (drop (w .counts .edges .live) work))
-  second-half = rw (rest-whole (w .counts .edges .live) work, length-drop (w .counts .edges .live) work) (let room = pre .there in omega arith)
+  second-half = rw (rest-whole (w .counts .edges .live) work) drop-room
 
   pub nodes-keepable : Keepable (w .nodes) (w .live-nodes) (w .counts .nodes .bound)
   nodes-keepable = record { there = nodes-there; room = pre .checked .nodes .bound-within }
