@@ -14,7 +14,7 @@ use Rattle.plain.specs.Numbers.{LIMIT}
 use Rattle.plain.specs.Lists.{joined, from, member}
 use Rattle.plain.specs.Plain.{Plain, NodeSlot, EdgeSlot, no-node, no-edge, node-flags, edge-flags, end-of}
 use Rattle.plain.specs.Reads.{live-count, live-slots}
-use Rattle.plain.specs.Compaction.{Survivors, EdgeRecord, rank, survivors, surviving-edge, kept-node, kept-edge, source-of, target-of}
+use Rattle.plain.specs.Compaction.{Survivors, rank, survivors, surviving-edge, kept-node, kept-edge, source-of, target-of, compacted}
 use Rattle.plain.specs.Laws.ListLaws.{map-same, map-getD, member-below}
 use Rattle.plain.specs.Laws.Rank.{live-below, length-live-slots, member-live-slots, live-all-live, live-count-all-live}
 use Rattle.plain.specs.Laws.WellFormed.{Fitted, Sound, WellFormed}
@@ -22,12 +22,16 @@ use Rattle.plain.specs.Laws.Compacting.{survivors-sound, of-survivors-well-form
 use Rattle.liveness.specs.Flags.{live-flags}
 use Rattle.liveness.specs.FlagLaws.{length-flags}
 use Rattle.shape.specs.Columns.{end-at}
-use Rattle.shape.specs.Shape.{Words, capacities, node-live, edge-live, axis-words, shape-of, plain-of, settled}
-use Rattle.shape.specs.Checked.{Checked}
+use Rattle.shape.specs.Shape.{Words, Axis, capacities, node-live, edge-live, axis-words, axis-of, shape-of, plain-of, settled}
+use Rattle.shape.specs.Checked.{LiveRight, Checked, Reached}
+use Rattle.shape.specs.Steps.{state-of}
 use Rattle.shape.specs.Laws.Indexing.{Rewritten, ends-of}
-use Rattle.shape.specs.Laws.NewBase.{NewBase}
+use Rattle.shape.specs.Laws.NewBase.{NewBase, new-axis, new-checked}
 use Rattle.shape.specs.Laws.Reading.{node-flags-are, edge-flags-are, plain-end}
 use Rattle.relocate.specs.Stores.{checked-end}
+use Rattle.store.specs.Reads.{node-at, edge-at}
+use Rattle.store.specs.Acting.{shape-ext}
+use Rattle.compact.specs.Survivors.{shape-of-survivors, survivors-plain, survivors-state, survivors-reached}
 use Rattle.compact.specs.Settled.{settled-well-formed}
 use Rattle.compact.specs.Slots.{kept-word, rewritten-through}
 use Rattle.compact.specs.Bases.{Compactable, AxisCompacted, rebuildable, rebuilt-base}
@@ -41,6 +45,26 @@ slots-mapped f g flags each =
     (λ i m. each i (ltb-true i (live-count flags) (sym (member-below i (live-count flags)) ∙ m)))
     ∙ sym (map-map g (λ i. getD (live-slots flags) i 0) (from 0 (live-count flags)))
     ∙ ap (map g) (ap (λ (n : ℕ). map (λ i. getD (live-slots flags) i 0) (from 0 n)) (sym (length-live-slots flags)) ∙ map-getD (live-slots flags) 0)
+
+-- a slot, from its payload and its flag
+abbrev node-slot : ℕ → Bool → NodeSlot
+node-slot payload live = record { payload = payload; live = live }
+
+abbrev edge-slot : ℕ → Bool → EdgeSlot
+edge-slot payload live = record { payload = payload; live = live }
+
+-- slots whose words moved down, all live now
+kept-slots : {A : Type 0} (make : ℕ → Bool → A) {words words' : List ℕ} (flags flags' : List Bool)
+    → Rewritten words words' 0 (live-count flags) (kept-word words flags) → flags' ≡ replicate (live-count flags) true
+    → map (λ x. make (getD words' x 0) (getD flags' x false)) (from 0 (live-count flags)) ≡ map (λ x. make (getD words x 0) true) (live-slots flags)
+kept-slots {A} make {words} {words'} flags flags' r on =
+    slots-mapped (λ x. make (getD words' x 0) (getD flags' x false)) (λ x. make (getD words x 0) true) flags
+    (λ i h. ap₂ {C = A} make (ap (λ (z : ℕ). getD words' z 0) (sym (zero-add i)) ∙ r .within i h)
+    (ap (λ (f : List Bool). getD f i false) on ∙ live-all-live (live-count flags) i ∙ lt-ltb i (live-count flags) h))
+
+-- a live slot is below its bound
+slot-low : (live : List ℕ) (bound x : ℕ) → getD (live-flags live bound) x false ≡ true → x < bound
+slot-low live bound x l = let low = live-below (live-flags live bound) x l in omega (arith, length-flags live bound)
 
 -- ---- one direction
 
@@ -103,15 +127,12 @@ module _ {w : Words} {node-map work : List ℕ} {v : Words} (pre : Droppable w n
   left-edges : length (left .edges) ≡ w .counts .edges .live
   left-edges = length-surviving-edges seen ∙ ap live-count (seen-edges w) ∙ sym (pre .checked .edges-live .live-right)
 
-  live-edge-below : (e : ℕ) → getD (edge-live w) e false ≡ true → e < w .counts .edges .bound
-  live-edge-below e l = let low = live-below (edge-live w) e l in omega (arith, length-flags (w .live-edges) (w .counts .edges .bound))
-
   -- the new number of a live edge's end
   new-end : (d : TraversalDirection) (e : ℕ) → getD (edge-live w) e false ≡ true
       → getD node-map (end-at (axis-words d w) e) 0 ≡ rank (node-flags seen) (end-of d seen e)
   new-end d e l =
       pre .mapped (end-at (axis-words d w) e) (checked-end (pre .checked) d e l)
-      ∙ ap₂ rank (sym (seen-nodes w)) (sym (seen-end w d e (live-edge-below e l)))
+      ∙ ap₂ rank (sym (seen-nodes w)) (sym (seen-end w d e (slot-low (w .live-edges) (w .counts .edges .bound) e l)))
 
   ends-left : (d : TraversalDirection) → map (λ e. getD node-map (end-at (axis-words d w) e) 0) (live-slots (edge-live w))
       ≡ map (λ e. rank (node-flags seen) (end-of d seen e)) (live-slots (edge-flags seen))
@@ -154,3 +175,52 @@ module _ {w : Words} {node-map work : List ℕ} {v : Words} (pre : Droppable w n
         new-base-of (axis-compactable pre Incoming (drop (w .counts .edges .live) work) (drop-room pre)) (r .incoming) (v .counts) (left .ins) nodes-bound nodes-base
         edges-bound edges-base ins (map target-of (left .edges)) targets-left
         (subst (λ (k : ℕ). Fitted k (map target-of (left .edges)) (left .ins)) left-nodes (left-sound .ins))
+
+    -- every slot is live
+    all-nodes : node-live v ≡ replicate (w .counts .nodes .live) true
+    all-nodes = ap (live-flags (v .live-nodes)) nodes-bound ∙ r .live-nodes .flags
+
+    all-edges : edge-live v ≡ replicate (w .counts .edges .live) true
+    all-edges = ap (live-flags (v .live-edges)) edges-bound ∙ r .live-edges .flags
+
+    -- the node slots
+    node-slots-left : shape-of v .nodes ≡ map kept-node (left .nodes)
+    unfolding shape-of settled survivors
+    node-slots-left =
+        let flags = node-live w in
+        let payload : ℕ → ℕ = λ x. getD (shape-of w .nodes) x no-node .payload in
+        ap (λ (n : ℕ). map (λ x. node-slot (getD (v .nodes) x 0) (getD (node-live v) x false)) (from 0 n)) (nodes-bound ∙ pre .checked .nodes-live .live-right)
+        ∙ kept-slots node-slot flags (node-live v) (r .nodes) (all-nodes ∙ ap (λ (n : ℕ). replicate n true) (pre .checked .nodes-live .live-right))
+        ∙ map-same (λ x. kept-node (getD (w .nodes) x 0)) (λ x. kept-node (payload x)) (live-slots flags)
+        (λ x m. ap kept-node (sym (node-at w x (slot-low (w .live-nodes) (w .counts .nodes .bound) x (sym (member-live-slots flags x) ∙ m)))))
+        ∙ ap (λ (f : List Bool). map (λ x. kept-node (payload x)) (live-slots f)) (sym (seen-nodes w))
+        ∙ sym (map-map kept-node payload (live-slots (node-flags seen)))
+
+    -- the edge slots
+    edge-slots-left : shape-of v .edges ≡ map kept-edge (left .edges)
+    unfolding shape-of settled survivors
+    edge-slots-left =
+        let flags = edge-live w in
+        let payload : ℕ → ℕ = λ e. getD (shape-of w .edges) e no-edge .payload in
+        ap (λ (n : ℕ). map (λ x. edge-slot (getD (v .edges) x 0) (getD (edge-live v) x false)) (from 0 n)) (edges-bound ∙ pre .checked .edges-live .live-right)
+        ∙ kept-slots edge-slot flags (edge-live v) (r .edges) (all-edges ∙ ap (λ (n : ℕ). replicate n true) (pre .checked .edges-live .live-right))
+        ∙ map-same (λ e. edge-slot (getD (w .edges) e 0) true) (λ e. edge-slot (payload e) true) (live-slots flags)
+        (λ e m. ap (λ (p : ℕ). edge-slot p true) (sym (edge-at w e (slot-low (w .live-edges) (w .counts .edges .bound) e (sym (member-live-slots flags e) ∙ m)))))
+        ∙ ap (λ (f : List Bool). map (λ e. edge-slot (payload e) true) (live-slots f)) (sym (seen-edges w))
+        ∙ sym (map-map kept-edge (surviving-edge seen) (live-slots (edge-flags seen)))
+
+    -- the shape is that of the survivors
+    pub dropped-shape : shape-of v ≡ shape-of-survivors left
+    unfolding shape-of shape-of-survivors
+    dropped-shape =
+        let same = r .lengths in
+        shape-ext node-slots-left edge-slots-left (nodes-base ∙ sym left-nodes) (edges-base ∙ sym left-edges)
+        (ap₂ {C = Axis} (λ (ce cn : ℕ). axis-of (v .outgoing) ce cn (v .counts)) (same .edges) (same .nodes) ∙ new-axis out-base)
+        (ap₂ {C = Axis} (λ (ce cn : ℕ). axis-of (v .incoming) ce cn (v .counts)) (same .edges) (same .nodes) ∙ new-axis in-base-of)
+
+    pub dropped-state : state-of (shape-of v) ≡ record { lists = compacted seen; compact = true }
+    unfolding compacted
+    dropped-state = ap state-of dropped-shape ∙ survivors-state left left-sound
+
+    pub dropped-reached : Reached (shape-of v)
+    dropped-reached = subst Reached (sym dropped-shape) (survivors-reached left)
