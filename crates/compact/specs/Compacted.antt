@@ -1,6 +1,6 @@
 -- What is left once the dead slots are dropped: the survivors, all in the base, in a store that is checked again.
 use Prim.Native.Nat.{ℕ, _+_, _*_, _≤_, _<_}
-use mathlib.Core.Path.{_≡_, refl, sym, ap, ap₂, subst, _∙_}
+use mathlib.Core.Path.{_≡_, refl, sym, ap, ap₂, subst, subst₂, _∙_}
 use mathlib.Core.Bool.{Bool, true, false}
 use mathlib.Core.List.{List, [], map, map-map}
 use native.Mathlib.Omega.{arith}
@@ -9,6 +9,7 @@ use lib.ListN.{length, getD, take, drop, replicate}
 use borrow.Author.Tests.{lt-ltb, ltb-true}
 use Rattle.plain.specs.declared.TraversalDirection.{TraversalDirection}
 use Rattle.plain.specs.declared.TraversalDirection.the-variants.{Outgoing, Incoming}
+use Rattle.plain.specs.declared.Slots.{Slots}
 use Rattle.plain.specs.declared.Counts.{Counts}
 use Rattle.plain.specs.Numbers.{LIMIT}
 use Rattle.plain.specs.Lists.{joined, from, member}
@@ -20,10 +21,11 @@ use Rattle.plain.specs.Laws.Rank.{live-below, length-live-slots, member-live-sl
 use Rattle.plain.specs.Laws.WellFormed.{Fitted, Sound, WellFormed}
 use Rattle.plain.specs.Laws.Compacting.{survivors-sound, of-survivors-well-formed, length-surviving-nodes, length-surviving-edges}
 use Rattle.liveness.specs.Flags.{live-flags}
+use Rattle.liveness.specs.Calls.{Reset}
 use Rattle.liveness.specs.FlagLaws.{length-flags}
-use Rattle.shape.specs.Columns.{end-at}
+use Rattle.shape.specs.Columns.{Sized, end-at}
 use Rattle.shape.specs.Shape.{Words, Axis, capacities, node-live, edge-live, axis-words, axis-of, shape-of, plain-of, settled}
-use Rattle.shape.specs.Checked.{LiveRight, Checked, Reached}
+use Rattle.shape.specs.Checked.{LiveRight, AxisChecked, Checked, Reached}
 use Rattle.shape.specs.Steps.{state-of}
 use Rattle.shape.specs.Laws.Indexing.{Rewritten, ends-of}
 use Rattle.shape.specs.Laws.NewBase.{NewBase, new-axis, new-checked}
@@ -35,7 +37,7 @@ use Rattle.compact.specs.Survivors.{shape-of-survivors, survivors-plain,
 use Rattle.compact.specs.Settled.{settled-well-formed}
 use Rattle.compact.specs.Slots.{kept-word, rewritten-through}
 use Rattle.compact.specs.Bases.{Compactable, AxisCompacted, rebuildable, rebuilt-base}
-use Rattle.compact.specs.Dropping.{Droppable, Dropped, axis-compactable, first-half, drop-room}
+use Rattle.compact.specs.Dropping.{based, node-count, edge-count, Droppable, Dropped, axis-compactable, first-half, drop-room}
 
 -- a function of the live slots, slot by slot
 slots-mapped : {A : Type 0} (f g : ℕ → A) (flags : List Bool) → ((i : ℕ) → i < live-count flags → f i ≡ g (getD (live-slots flags) i 0))
@@ -65,6 +67,15 @@ kept-slots {A} make {words} {words'} flags flags' r on =
 -- a live slot is below its bound
 slot-low : (live : List ℕ) (bound x : ℕ) → getD (live-flags live bound) x false ≡ true → x < bound
 slot-low live bound x l = let low = live-below (live-flags live bound) x l in omega (arith, length-flags live bound)
+
+-- the live words of slots that are all live
+live-left : {words words' : List ℕ} {slots : Slots} (n : ℕ) → Reset words n words' → slots ≡ based n → LiveRight words' (live-flags words' (slots .bound)) slots
+live-left {words' = words'} n reset is =
+    subst (λ (s : Slots). LiveRight words' (live-flags words' (s .bound)) s) (sym is)
+    (record { unused-clear = reset .packs; live-right = sym (ap live-count (reset .flags) ∙ live-count-all-live n) })
+
+sized-as : {ws ws' : List ℕ} {ce cn : ℕ} → length ws' ≡ length ws → Sized ws ce cn → Sized ws' ce cn
+sized-as same sized = record { edges-within = sized .edges-within; nodes-within = sized .nodes-within; room = rw same (sized .room) }
 
 -- ---- one direction
 
@@ -224,3 +235,33 @@ module _ {w : Words} {node-map work : List ℕ} {v : Words} (pre : Droppable w n
 
     pub dropped-reached : Reached (shape-of v)
     dropped-reached = subst Reached (sym dropped-shape) (survivors-reached left)
+
+    -- each direction passes rules 3 to 6
+    axis-left : (d : TraversalDirection)
+        → AxisChecked (axis-words d v) (length (v .edges)) (length (v .nodes)) (v .counts) (node-live v) (edge-live v)
+    axis-left Outgoing =
+        subst₂ (λ (ce cn : ℕ). AxisChecked (v .outgoing) ce cn (v .counts) (node-live v) (edge-live v)) (sym (r .lengths .edges)) (sym (r .lengths .nodes))
+        (new-checked out-base (sized-as (r .lengths .outgoing) (pre .checked .axis Outgoing .sized)) (node-live v) (edge-live v))
+    axis-left Incoming =
+        subst₂ (λ (ce cn : ℕ). AxisChecked (v .incoming) ce cn (v .counts) (node-live v) (edge-live v)) (sym (r .lengths .edges)) (sym (r .lengths .nodes))
+        (new-checked in-base-of (sized-as (r .lengths .incoming) (pre .checked .axis Incoming .sized)) (node-live v) (edge-live v))
+
+    -- the store is checked again
+    pub dropped-checked : Checked v
+    dropped-checked =
+        let same = r .lengths in
+        let node-low = node-count pre in
+        let edge-low = edge-count pre in
+        let k = pre .checked in
+        record {
+          nodes = record { bound-within = omega (arith, nodes-bound, same .nodes, k .nodes .bound-within); base-within = omega (arith, nodes-bound, nodes-base) };
+          edges = record { bound-within = omega (arith, edges-bound, same .edges, k .edges .bound-within); base-within = omega (arith, edges-bound, edges-base) };
+          live-nodes-long = rw (same .nodes, same .live-nodes) (k .live-nodes-long);
+          live-edges-long = rw (same .edges, same .live-edges) (k .live-edges-long);
+          nodes-live = live-left (w .counts .nodes .live) (r .live-nodes) (ap (λ (c : Counts). c .nodes) (r .counts));
+          edges-live = live-left (w .counts .edges .live) (r .live-edges) (ap (λ (c : Counts). c .edges) (r .counts));
+          axis = axis-left;
+          walks = subst (WellFormed (capacities v)) (sym (ap plain-of dropped-shape ∙ survivors-plain left left-sound))
+              (of-survivors-well-formed (capacities v) left left-sound (omega (arith, left-nodes, same .nodes, k .nodes .bound-within))
+              (omega (arith, left-edges, same .edges, k .edges .bound-within)));
+        }

@@ -62,11 +62,11 @@ from-rest {ws} {ce} {cn} {live} {bound} {node-map} {n} {m} {ws'} k work a =
 -- ---- what the calls ask
 
 module _ {w : Words} {node-map work : List ℕ} (pre : Droppable w node-map work) where
-  node-count : w .counts .nodes .live ≤ w .counts .nodes .bound
+  pub node-count : w .counts .nodes .live ≤ w .counts .nodes .bound
   node-count = let right = pre .checked .nodes-live .live-right in
       omega (arith, count-length (λ f. f) (node-live w), length-flags (w .live-nodes) (w .counts .nodes .bound))
 
-  edge-count : w .counts .edges .live ≤ w .counts .edges .bound
+  pub edge-count : w .counts .edges .live ≤ w .counts .edges .bound
   edge-count = let right = pre .checked .edges-live .live-right in
       omega (arith, count-length (λ f. f) (edge-live w), length-flags (w .live-edges) (w .counts .edges .bound))
 
