@@ -129,13 +129,13 @@ module _ {w : Words} {node-map work : List ℕ} {v : Words} (pre : Droppable w n
   few-edges : length (w .edges) ≤ LIMIT
   few-edges = pre .checked .axis Outgoing .sized .edges-within
 
-  left-sound : Sound left
+  pub left-sound : Sound left
   left-sound = survivors-sound (capacities w) seen (settled-well-formed (shape-of w) (pre .checked .walks)) few-nodes few-edges
 
-  left-nodes : length (left .nodes) ≡ w .counts .nodes .live
+  pub left-nodes : length (left .nodes) ≡ w .counts .nodes .live
   left-nodes = length-surviving-nodes seen ∙ ap live-count (seen-nodes w) ∙ sym (pre .checked .nodes-live .live-right)
 
-  left-edges : length (left .edges) ≡ w .counts .edges .live
+  pub left-edges : length (left .edges) ≡ w .counts .edges .live
   left-edges = length-surviving-edges seen ∙ ap live-count (seen-edges w) ∙ sym (pre .checked .edges-live .live-right)
 
   -- the new number of a live edge's end
@@ -161,13 +161,13 @@ module _ {w : Words} {node-map work : List ℕ} {v : Words} (pre : Droppable w n
   targets-left = ends-left Incoming ∙ sym (map-map target-of (surviving-edge seen) (live-slots (edge-flags seen)))
 
   -- the counts
-  nodes-bound : v .counts .nodes .bound ≡ w .counts .nodes .live
+  pub nodes-bound : v .counts .nodes .bound ≡ w .counts .nodes .live
   nodes-bound = ap (λ (c : Counts). c .nodes .bound) (r .counts)
 
   nodes-base : v .counts .nodes .base ≡ w .counts .nodes .live
   nodes-base = ap (λ (c : Counts). c .nodes .base) (r .counts)
 
-  edges-bound : v .counts .edges .bound ≡ w .counts .edges .live
+  pub edges-bound : v .counts .edges .bound ≡ w .counts .edges .live
   edges-bound = ap (λ (c : Counts). c .edges .bound) (r .counts)
 
   edges-base : v .counts .edges .base ≡ w .counts .edges .live
@@ -176,12 +176,12 @@ module _ {w : Words} {node-map work : List ℕ} {v : Words} (pre : Droppable w n
   -- both directions, where the work slice holds the joined lists
   module _ (outs : take (w .counts .edges .live) work ≡ joined (left .outs))
       (ins : take (w .counts .edges .live) (drop (w .counts .edges .live) work) ≡ joined (left .ins)) where
-    out-base : NewBase (v .outgoing) (length (w .edges)) (length (w .nodes)) (v .counts) (map source-of (left .edges)) (left .outs)
+    pub out-base : NewBase (v .outgoing) (length (w .edges)) (length (w .nodes)) (v .counts) (map source-of (left .edges)) (left .outs)
     out-base =
         new-base-of (axis-compactable pre Outgoing work (first-half pre)) (r .outgoing) (v .counts) (left .outs) nodes-bound nodes-base edges-bound edges-base outs
         (map source-of (left .edges)) sources-left (subst (λ (k : ℕ). Fitted k (map source-of (left .edges)) (left .outs)) left-nodes (left-sound .outs))
 
-    in-base-of : NewBase (v .incoming) (length (w .edges)) (length (w .nodes)) (v .counts) (map target-of (left .edges)) (left .ins)
+    pub in-base-of : NewBase (v .incoming) (length (w .edges)) (length (w .nodes)) (v .counts) (map target-of (left .edges)) (left .ins)
     in-base-of =
         new-base-of (axis-compactable pre Incoming (drop (w .counts .edges .live) work) (drop-room pre)) (r .incoming) (v .counts) (left .ins) nodes-bound nodes-base
         edges-bound edges-base ins (map target-of (left .edges)) targets-left

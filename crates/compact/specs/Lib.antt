@@ -5,3 +5,4 @@ pub mod Bases
 pub mod Dropping
 pub mod Compacted
 pub mod Calls
+pub mod Again
