@@ -1,26 +1,35 @@
 -- Compacting again changes nothing: what compaction leaves is settled, and compacting a settled store leaves every word as it was.
 use Prim.Native.Nat.{ℕ, _+_, _*_, _≤_, _<_}
 use mathlib.Core.Path.{_≡_, refl, sym, ap, ap₂, subst, subst₂, _∙_}
-use mathlib.Core.Bool.{Bool, true, false}
+use mathlib.Core.Bool.{true}
+use mathlib.Core.Logic.{⊎-elim}
 use mathlib.Core.List.{List, [], map, _++_}
 use native.Mathlib.Omega.{arith}
 use native.Mathlib.Nat.{zero-add}
-use lib.ListN.{length, getD, take, drop, replicate, length-map}
+use lib.ListN.{length, getD, take, drop, replicate, List·getD-eq-default}
 use lib.Seq.{drop-append-seam, getD-take}
 use Rattle.plain.specs.declared.TraversalDirection.{TraversalDirection}
 use Rattle.plain.specs.declared.TraversalDirection.the-variants.{Outgoing, Incoming}
 use Rattle.plain.specs.declared.Slots.{Slots}
 use Rattle.plain.specs.declared.Counts.{Counts}
-use Rattle.plain.specs.Lists.{joined, from}
+use Rattle.plain.specs.Lists.{joined, from, member}
 use Rattle.plain.specs.Plain.{Plain, list-of}
 use Rattle.plain.specs.Compaction.{Survivors, survivors, of-survivors, source-of, target-of}
+use Rattle.plain.specs.Laws.AllLive.{AllLive, compacted-same}
+use Rattle.plain.specs.Laws.Booleans.{below-or-not}
 use Rattle.plain.specs.Laws.ListLaws.{map-getD, getD-map, length-from, getD-from}
 use Rattle.plain.specs.Laws.WellFormed.{Fitted}
 use Rattle.plain.specs.Laws.Fitting.{fitted-many}
 use Rattle.liveness.specs.Flags.{live-flags}
 use Rattle.liveness.specs.Calls.{Reset, all-live}
 use Rattle.shape.specs.Columns.{cell, end-at}
-use Rattle.shape.specs.Shape.{Words, axis-words, shape-of, plain-of, settled, lists}
+use Rattle.shape.specs.Chains.{ring}
+use Rattle.shape.specs.Shape.{Words, Adjacency, node-live, edge-live, axis-words, ring-of, axis-in, adjacency-of, no-adjacency, shape-of, plain-of, ascends, settled, lists}
+use Rattle.shape.specs.Checked.{Checked, Reached}
+use Rattle.shape.specs.Laws.Chains.{in-none}
+use Rattle.shape.specs.Laws.CheckedShape.{checked-proper}
+use Rattle.shape.specs.Laws.Settling.{settled-is-plain}
+use Rattle.shape.specs.Laws.Reading.{shape-adjacency, axis-is, axis-nodes, node-flags-are, edge-flags-are, node-bound-is, edge-bound-is}
 use Rattle.shape.specs.Laws.Indexing.{Rewritten, before, ends-of}
 use Rattle.shape.specs.Laws.NewBase.{NewBase}
 use Rattle.compact.specs.Survivors.{survivors-plain}
@@ -136,3 +145,39 @@ module _ {ws : List ℕ} {ce cn : ℕ} {live : List ℕ} {bound : ℕ} {node-map
   axis-again : ws' ≡ ws
   axis-again =
       rewritten-same (r .rebuilds .marks) (λ x h. sym (s .marks x h) ∙ ap (λ (l : List ℕ). cell l (4 * ce + 4 * cn) x) (sym emptied-same)) ∙ emptied-same
+
+-- no node of a settled store has a ring
+no-ring : {w : Words} → Settled w → (d : TraversalDirection) (x : ℕ) → adjacency-of d (shape-of w) x .ring ≡ []
+unfolding ring-of ring
+no-ring {w} s d x =
+    ⊎-elim
+    (λ l. ap (λ (a : Adjacency). a .ring) (shape-adjacency w d x l) ∙ rw (s .axis d .rings x l))
+    (λ l. ap (λ (a : Adjacency). a .ring)
+    (List·getD-eq-default (axis-in d (shape-of w) .nodes) no-adjacency
+    (rw (axis-is w d, axis-nodes (axis-words d w) (length (w .edges)) (length (w .nodes)) (w .counts)) l)))
+    (below-or-not x (w .counts .nodes .bound))
+
+settled-reached : {w : Words} → Settled w → Reached (shape-of w)
+unfolding ascends member
+settled-reached s = record {
+  rings = λ d x. ap ascends (no-ring s d x);
+  order = λ d x e f m k. in-none f (ap (member f) (sym (no-ring s d x)) ∙ k);
+}
+
+module _ {w : Words} (k : Checked w) (s : Settled w) where
+  -- compaction sees the plain lists
+  seen-lists : settled (shape-of w) ≡ lists w
+  seen-lists = settled-is-plain (checked-proper w k) (settled-reached s)
+
+  node-flags-on : node-live w ≡ replicate (w .counts .nodes .bound) true
+  node-flags-on = s .node-words .flags
+
+  edge-flags-on : edge-live w ≡ replicate (w .counts .edges .bound) true
+  edge-flags-on = s .edge-words .flags
+
+  every-live : AllLive (lists w)
+  unfolding plain-of
+  every-live = record {
+    nodes = node-flags-are w ∙ node-flags-on ∙ ap (λ (n : ℕ). replicate n true) (sym (node-bound-is w));
+    edges = edge-flags-are w ∙ edge-flags-on ∙ ap (λ (n : ℕ). replicate n true) (sym (edge-bound-is w));
+  }
