@@ -12,10 +12,10 @@ use Rattle.plain.specs.declared.TraversalDirection.{TraversalDirection}
 use Rattle.plain.specs.declared.TraversalDirection.the-variants.{Outgoing, Incoming}
 use Rattle.plain.specs.declared.Slots.{Slots}
 use Rattle.plain.specs.declared.Counts.{Counts}
-use Rattle.plain.specs.Lists.{joined, from, member}
-use Rattle.plain.specs.Plain.{Plain, list-of}
-use Rattle.plain.specs.Compaction.{Survivors, survivors, of-survivors, source-of, target-of}
-use Rattle.plain.specs.Laws.AllLive.{AllLive, compacted-same}
+use Rattle.plain.specs.Lists.{joined, from, member, written}
+use Rattle.plain.specs.Plain.{Plain, node-bound, list-of}
+use Rattle.plain.specs.Compaction.{Survivors, survivors, of-survivors, compacted}
+use Rattle.plain.specs.Laws.AllLive.{AllLive, live-slot, own-rank, compacted-same}
 use Rattle.plain.specs.Laws.Booleans.{below-or-not}
 use Rattle.plain.specs.Laws.ListLaws.{map-getD, getD-map, length-from, getD-from}
 use Rattle.plain.specs.Laws.WellFormed.{Fitted}
@@ -24,7 +24,7 @@ use Rattle.liveness.specs.Flags.{live-flags}
 use Rattle.liveness.specs.Calls.{Reset, all-live}
 use Rattle.shape.specs.Columns.{cell, end-at}
 use Rattle.shape.specs.Chains.{ring}
-use Rattle.shape.specs.Shape.{Words, Adjacency, node-live, edge-live, axis-words, ring-of, axis-in, adjacency-of, no-adjacency, shape-of, plain-of, ascends, settled, lists}
+use Rattle.shape.specs.Shape.{Words, Adjacency, capacities, node-live, edge-live, axis-words, ring-of, axis-in, adjacency-of, no-adjacency, shape-of, plain-of, ascends, settled, lists}
 use Rattle.shape.specs.Checked.{Checked, Reached}
 use Rattle.shape.specs.Laws.Chains.{in-none}
 use Rattle.shape.specs.Laws.CheckedShape.{checked-proper}
@@ -35,7 +35,7 @@ use Rattle.shape.specs.Laws.NewBase.{NewBase}
 use Rattle.compact.specs.Survivors.{survivors-plain}
 use Rattle.compact.specs.Slots.{kept-word, rewritten-same, kept-all-live}
 use Rattle.compact.specs.Bases.{Compactable, AxisCompacted}
-use Rattle.compact.specs.Dropping.{Droppable, Dropped}
+use Rattle.compact.specs.Dropping.{based, Droppable, Dropped, axis-compactable, first-half, drop-room}
 use Rattle.compact.specs.Compacted.{left-sound, left-nodes, left-edges, nodes-bound, edges-bound, out-base, in-base-of, dropped-shape}
 use Rattle.compact.specs.Calls.{AxisSettled, Settled}
 
@@ -164,6 +164,10 @@ settled-reached s = record {
   order = λ d x e f m k. in-none f (ap (member f) (sym (no-ring s d x)) ∙ k);
 }
 
+plain-bound : (w : Words) → node-bound (lists w) ≡ w .counts .nodes .bound
+unfolding plain-of
+plain-bound w = node-bound-is w
+
 module _ {w : Words} (k : Checked w) (s : Settled w) where
   -- compaction sees the plain lists
   seen-lists : settled (shape-of w) ≡ lists w
@@ -181,3 +185,79 @@ module _ {w : Words} (k : Checked w) (s : Settled w) where
     nodes = node-flags-are w ∙ node-flags-on ∙ ap (λ (n : ℕ). replicate n true) (sym (node-bound-is w));
     edges = edge-flags-are w ∙ edge-flags-on ∙ ap (λ (n : ℕ). replicate n true) (sym (edge-bound-is w));
   }
+
+  same-lists : compacted (lists w) ≡ lists w
+  same-lists =
+      compacted-same (capacities w) (lists w) (k .walks) every-live (k .axis Outgoing .sized .nodes-within) (k .axis Outgoing .sized .edges-within)
+
+  -- so the lists that are left are those that were there
+  outs-again : survivors (settled (shape-of w)) .outs ≡ map (list-of Outgoing (lists w)) (from 0 (w .counts .nodes .bound))
+  unfolding compacted of-survivors
+  outs-again =
+      ap (λ (p : Plain). survivors p .outs) seen-lists ∙ ap (λ (p : Plain). p .outgoing .lists) same-lists
+      ∙ sym (all-lists (w .counts .nodes .bound) (lists w .outgoing .lists) (k .walks .outgoing .lists-length ∙ plain-bound w))
+
+  ins-again : survivors (settled (shape-of w)) .ins ≡ map (list-of Incoming (lists w)) (from 0 (w .counts .nodes .bound))
+  unfolding compacted of-survivors
+  ins-again =
+      ap (λ (p : Plain). survivors p .ins) seen-lists ∙ ap (λ (p : Plain). p .incoming .lists) same-lists
+      ∙ sym (all-lists (w .counts .nodes .bound) (lists w .incoming .lists) (k .walks .incoming .lists-length ∙ plain-bound w))
+
+module _ {w : Words} {node-map work : List ℕ} {v : Words} (pre : Droppable w node-map work) (r : Dropped w node-map work v)
+    (outs : take (w .counts .edges .live) work ≡ joined (survivors (settled (shape-of w)) .outs))
+    (ins : take (w .counts .edges .live) (drop (w .counts .edges .live) work) ≡ joined (survivors (settled (shape-of w)) .ins)) (s : Settled w) where
+  abbrev k : Checked w
+  k = pre .checked
+
+  -- every node keeps its number
+  own-number : (d : TraversalDirection) (e : ℕ) → e < w .counts .edges .bound → getD node-map (end-at (axis-words d w) e) 0 ≡ end-at (axis-words d w) e
+  own-number d e h =
+      let x = end-at (axis-words d w) e in
+      let low : x < w .counts .nodes .bound = k .axis d .ends-below e h in
+      pre .mapped x (live-slot (node-live w) (w .counts .nodes .bound) x (node-flags-on k s) low)
+      ∙ own-rank (node-live w) (w .counts .nodes .bound) x (node-flags-on k s) low
+
+  direction-again : (d : TraversalDirection) (entries ws' : List ℕ)
+      → AxisCompacted (axis-words d w) (length (w .edges)) (length (w .nodes)) (w .live-edges) (w .counts .edges .bound) node-map (w .counts .nodes .live)
+      (w .counts .edges .live) entries ws'
+      → w .counts .edges .live ≤ length entries
+      → take (w .counts .edges .live) entries ≡ joined (map (list-of d (lists w)) (from 0 (w .counts .nodes .bound))) → ws' ≡ axis-words d w
+  direction-again d entries ws' a there lined =
+      axis-again (joined (map (list-of d (lists w)) (from 0 (w .counts .nodes .bound))))
+      (subst₂ (λ (n m : ℕ). Compactable (axis-words d w) (length (w .edges)) (length (w .nodes)) (w .live-edges) (w .counts .edges .bound) node-map n m entries)
+      (s .nodes-live) (s .edges-live) (axis-compactable pre d entries there))
+      (subst₂ (λ (n m : ℕ). AxisCompacted (axis-words d w) (length (w .edges)) (length (w .nodes)) (w .live-edges) (w .counts .edges .bound) node-map n m entries ws')
+      (s .nodes-live) (s .edges-live) a)
+      (edge-flags-on k s) (own-number d) (s .axis d) (ap (λ (m : ℕ). take m entries) (sym (s .edges-live)) ∙ lined)
+
+  -- compacting a settled store leaves every word, and the counts
+  pub dropped-again : v ≡ w
+  dropped-again =
+      let counts : v .counts ≡ w .counts = r .counts ∙ counts-again in
+      let nodes : v .nodes ≡ w .nodes = kept-all-live (node-live w) (w .counts .nodes .bound) (node-flags-on k s) (r .nodes) in
+      let edges : v .edges ≡ w .edges = kept-all-live (edge-live w) (w .counts .edges .bound) (edge-flags-on k s) (r .edges) in
+      let live-nodes : v .live-nodes ≡ w .live-nodes =
+      r .live-nodes .words ∙ ap (λ (n : ℕ). written (all-live n) (w .live-nodes)) (s .nodes-live) ∙ sym (s .node-words .words) in
+      let live-edges : v .live-edges ≡ w .live-edges =
+      r .live-edges .words ∙ ap (λ (n : ℕ). written (all-live n) (w .live-edges)) (s .edges-live) ∙ sym (s .edge-words .words) in
+      let outgoing : v .outgoing ≡ w .outgoing =
+      direction-again Outgoing work (v .outgoing) (r .outgoing) (first-half pre) (outs ∙ ap joined (outs-again k s)) in
+      let incoming : v .incoming ≡ w .incoming =
+      direction-again Incoming (drop (w .counts .edges .live) work) (v .incoming) (r .incoming) (drop-room pre) (ins ∙ ap joined (ins-again k s)) in
+      λ i. record {
+        counts = counts i;
+        nodes = nodes i;
+        edges = edges i;
+        live-nodes = live-nodes i;
+        live-edges = live-edges i;
+        outgoing = outgoing i;
+        incoming = incoming i;
+      }
+    where
+      slots-again : (slots : Slots) → slots .base ≡ slots .bound → slots .live ≡ slots .bound → based (slots .live) ≡ slots
+      slots-again slots base live = λ i. record { bound = live i; base = (live ∙ sym base) i; live = slots .live }
+
+      counts-again : _≡_ {A = Counts} (record { nodes = based (w .counts .nodes .live); edges = based (w .counts .edges .live) }) (w .counts)
+      counts-again =
+          ap₂ {C = Counts} (λ (n e : Slots). record { nodes = n; edges = e }) (slots-again (w .counts .nodes) (s .nodes-based) (s .nodes-live))
+          (slots-again (w .counts .edges) (s .edges-based) (s .edges-live))
