@@ -4,6 +4,7 @@ pub mod Rings
 pub mod Cursor
 pub mod CursorLaws
 pub mod Reading
+pub mod Finding
 pub mod Walk
 pub mod WalkLaws
 pub mod StoreWalks

@@ -10,6 +10,7 @@ ghost use Rattle.plain.specs.Numbers.{NONE as none};
 ghost use Rattle.plain.specs.Lists.{written};
 ghost use Rattle.liveness.specs.Flags.{live-flags};
 ghost use Rattle.adjacency.specs.Cursor.{word, part-count, exhausted as exhausted-cursor, base-at, delta-at, ring-step, step-of, listed, listed-left, Ready, Seekable, Sought, Writable};
+ghost use Rattle.adjacency.specs.Finding.{first-of, ends-at};
 use plain::NONE;
 
 // Where a walk stands. Of a base part `base` and `base_end` are positions in the adjacency column. Of a run `base` is the entry to read next
@@ -270,6 +271,40 @@ impl AdjacencyCursor {
                 }
             }
             n += 1;
+            cursor = step.cursor;
+        }
+    }
+
+    // The first listed entry that is left whose end, by the column `ends`, is `end`; NONE where there is none.
+    pub fn find(
+        self,
+        linked: bool,
+        entries: &[u32],
+        next: &[u32],
+        tombstoned: bool,
+        live: &[u64],
+        slots: usize,
+        ends: &[u32],
+        end: u32,
+    ) -> u32
+        requires { ⌜ Seekable linked (now entries) (now next) (now live) slots self ⌝ }
+        requires { ⌜ length (now next) ≤ length (now ends) ⌝ }
+        ensures { λ r. ⌜ r ≡ first-of (ends-at (now (ends .entry)) end) (listed-left linked (now (entries .entry)) (now (next .entry)) tombstoned (now (live .entry)) slots self) ⌝ }
+    {
+        let mut cursor = self;
+        loop {
+            let step = cursor.seek(linked, entries, next, tombstoned, live, slots);
+            let found = step.found;
+            match found {
+                Found::Edge(edge) => {
+                    if ends[edge as usize] == end {
+                        return edge;
+                    }
+                }
+                Found::Done => {
+                    return NONE;
+                }
+            }
             cursor = step.cursor;
         }
     }

@@ -9,6 +9,7 @@ ghost use lib.ListN.{length};
 ghost use Rattle.plain.specs.Lists.{written};
 ghost use Rattle.shape.specs.Columns.{end-at};
 ghost use Rattle.adjacency.specs.Walk.{walk-in, tombstoned-in, entries-column, next-column, ColumnsThere, Readable, Walkable, WalkFits, Started};
+ghost use Rattle.adjacency.specs.Finding.{first-of, ends-at};
 use crate::cursor::AdjacencyCursor;
 use crate::cursor::Start;
 use crate::index;
@@ -190,4 +191,37 @@ pub fn degree(
     let next = next_of(axis, edges);
     let ring = start.cursor.with_base(0, 0);
     start.cursor.part_count(start.linked) + ring.count(false, next, next, false, live_edges, 0)
+}
+
+// The first entry of a node's walk whose far end is `end`, NONE where there is none. `far` is the axis of the other direction.
+pub fn find(
+    axis: &[u32],
+    far: &[u32],
+    edges: usize,
+    nodes: usize,
+    counts: Counts,
+    live_edges: &[u64],
+    node: usize,
+    live: bool,
+    end: u32,
+) -> u32
+    requires { ⌜ Walkable (now axis) edges nodes counts (now «live_edges») node ⌝ }
+    requires { ⌜ edges ≤ length (now far) ⌝ }
+    ensures { λ r. ⌜ r ≡ first-of (ends-at (now (far .entry)) end) (walk-in (now (axis .entry)) edges nodes counts (now («live_edges» .entry)) node live) ⌝ }
+{
+    let start = start(axis, edges, nodes, counts, node, live);
+    let linked = start.linked;
+    let slots = counts.edges.bound as usize;
+    let entries = entries_of(axis, edges, linked);
+    let next = next_of(axis, edges);
+    start.cursor.find(
+        linked,
+        entries,
+        next,
+        tombstoned(counts),
+        live_edges,
+        slots,
+        far,
+        end,
+    )
 }

@@ -17,8 +17,8 @@ ghost use Rattle.plain.specs.Reads.{no-record, node-payload, edge-record, live-
 ghost use Rattle.shape.specs.Checked.{Checked};
 ghost use Rattle.shape.specs.Shape.{store, lists};
 
-// A yes or no as an answer: 1 or 0.
-fn yes_or_no(test: bool) -> Answer
+// A yes or no as an answer: 1 or 0. Internal.
+pub fn yes_or_no(test: bool) -> Answer
     ensures { λ r. ⌜ r ≡ answer-of test ⌝ }
 {
     if test {

@@ -5,3 +5,4 @@ pub mod Marks
 pub mod Runs
 pub mod Walks
 pub mod Broken
+pub mod Judging

@@ -10,8 +10,8 @@ ghost use Rattle.shape.specs.Columns.{cell};
 ghost use Rattle.shape.specs.Rules.{ends-right as ends-test, index-right as index-test};
 ghost use Rattle.validate.specs.Sizes.{AxisSized};
 
-// The words of a column, `count` of them from `at` on, are below a bound.
-fn words_below(axis: &[u32], at: usize, count: usize, bound: u32) -> bool
+// The words of a column, `count` of them from `at` on, are below a bound. Internal.
+pub fn words_below(axis: &[u32], at: usize, count: usize, bound: u32) -> bool
     requires { ⌜ at + count ≤ length (now axis) ⌝ }
     ensures { λ r. ⌜ r ≡ all (λ i. ltb (cell (now (axis .entry)) at i) bound) (from 0 count) ⌝ }
 {

@@ -1,0 +1,63 @@
+-- `finding::find` meets its contract: a law for each way out.
+use native.Mathlib.Omega.{arith}
+use borrow.Author.Needs.{needs}
+use Rattle.plain.specs.declared.TraversalDirection.the-variants.{Outgoing, Incoming}
+use Rattle.adjacency.specs.StoreWalks.{checked-walkable}
+use Rattle.view.specs.Finding.{find-refuses, first-past, second-past, find-done}
+use Rattle.view.proofs.finding.find.Statement.{statement}
+use Rattle.view.proofs.finding.find.Tie as tie
+
+abbrev entry : tie.After-judge → tie.Start
+entry c = c .before .before .before .before .before .before .before
+
+returns-2 : tie.Need-returns-2
+returns-2 c =
+    let judged = c .before .before in
+    let a = entry judged .args in
+    first-past (judged .judge .ensures) (c .before .if1 .left) (a .first) (a .second) (c .if2 .taken)
+
+returns-3 : tie.Need-returns-3
+returns-3 c =
+    let judged = c .before .before .before in
+    let a = entry judged .args in
+    second-past (judged .judge .ensures) (c .before .before .if1 .left) (a .first) (a .second) (c .before .if2 .left) (c .if3 .taken)
+
+is-live-requires : tie.Need-is-live-requires
+is-live-requires c κs =
+    let k = c .before .before .before .judge .ensures .checked (c .before .before .if1 .left) in
+    omega (arith, k .live-nodes-long, k .nodes .bound-within)
+
+find-requires : tie.Need-find-requires
+find-requires c κs =
+    let below = c .before .before in
+    let judged = below .before .before in
+    let k = judged .judge .ensures .checked (below .before .if1 .left) in (
+      checked-walkable k Outgoing (entry judged .args .first) (below .if2 .left),
+      omega (arith, k .axis Incoming .sized .room),
+    )
+
+returns-4 : tie.Need-returns-4
+returns-4 c =
+    let live = c .before in
+    let below = live .before .before in
+    let judged = below .before .before in
+    let a = entry judged .args in
+    find-done (judged .judge .ensures) (below .before .if1 .left) (a .first) (a .second) (below .if2 .left) (live .before .if3 .left) (live .is-live .ensures)
+    (c .find .ensures)
+
+pub find-spec : {M : Type 1} → statement M
+find-spec =
+    tie.close
+    (tie.spec
+    (λ c κs. search needs)
+    (λ c κs. search needs)
+    (λ c. find-refuses (c .before .before .judge .ensures) (c .before .if1 .taken) (c .no-store .ensures))
+    (λ c. search needs)
+    returns-2
+    (λ c. search needs)
+    returns-3
+    (λ c. search needs)
+    is-live-requires
+    find-requires
+    (λ c. search needs)
+    returns-4)

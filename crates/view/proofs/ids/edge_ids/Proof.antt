@@ -1,0 +1,34 @@
+-- `ids::edge_ids` meets its contract: a law for each way out.
+use borrow.Author.Needs.{needs}
+use Rattle.view.specs.Calls.{reply-refuses}
+use Rattle.view.specs.Ids.{edge-ids-short, edge-ids-done, edge-ids-fit}
+use Rattle.view.proofs.ids.edge_ids.Statement.{statement}
+use Rattle.view.proofs.ids.edge_ids.Tie as tie
+
+returns-2 : tie.Need-returns-2
+returns-2 c = edge-ids-short (c .before .before .judge .ensures) (c .before .if1 .left) (c .if2 .taken)
+
+write-live-requires : tie.Need-write-live-requires
+write-live-requires c κs = let room = c .before in edge-ids-fit (room .before .before .judge .ensures) (room .before .if1 .left) (room .if2 .left)
+
+returns-3 : tie.Need-returns-3
+returns-3 c =
+    let called = c .before .before in
+    let room = called .before .before in
+    edge-ids-done (room .before .before .judge .ensures) (room .before .if1 .left) (room .if2 .left) (called .write-live .ensures)
+
+pub edge-ids-spec : {M : Type 1} → statement M
+edge-ids-spec =
+    tie.close
+    (tie.spec
+    (λ c κs. search needs)
+    (λ c κs. search needs)
+    (λ c. reply-refuses (c .before .before .judge .ensures) (c .before .if1 .taken) (c .no-store .ensures))
+    (λ c. search needs)
+    (λ c. search needs)
+    returns-2
+    (λ c. search needs)
+    write-live-requires
+    (λ c. search needs)
+    (λ c. search needs)
+    returns-3)

@@ -1,0 +1,95 @@
+// Whether a store is compact: no slot behind the base, none removed, no run. The Rust knows whether any run exists; here the marks are read, once all else holds.
+
+use plain::Answer;
+use plain::Counts;
+use store::reads::yes_or_no;
+use validate::axes::words_below;
+use validate::judging::judge;
+use validate::judging::no_store;
+ghost use mathlib.Core.Path.{_≡_};
+ghost use Rattle.plain.specs.Reads.{is-compact as compact-answer};
+ghost use Rattle.shape.specs.Checked.{Checked};
+ghost use Rattle.shape.specs.Shape.{store, shape-of, is-compact};
+ghost use Rattle.shape.specs.Steps.{state-of};
+ghost use Rattle.view.specs.Calls.{Answered};
+ghost use Rattle.view.specs.Compact.{unmarked, MarksThere};
+
+// Whether no node below `bound` has a run in one direction: its mark is 0. Internal.
+fn no_runs(axis: &[u32], edges: usize, nodes: usize, bound: u32) -> bool
+    requires { ⌜ MarksThere (now axis) edges nodes bound ⌝ }
+    ensures { λ r. ⌜ r ≡ unmarked (now (axis .entry)) edges nodes bound ⌝ }
+{
+    words_below(axis, 4 * edges + 4 * nodes, bound as usize, 1)
+}
+
+// Whether a checked store is compact. Internal.
+pub fn is_compact_checked(
+    counts: Counts,
+    nodes: &[u32],
+    edges: &[u32],
+    live_nodes: &[u64],
+    live_edges: &[u64],
+    outgoing: &[u32],
+    incoming: &[u32],
+) -> bool
+    requires { ⌜ Checked (store counts (now nodes) (now edges) (now «live_nodes») (now «live_edges») (now outgoing) (now incoming)) ⌝ }
+    ensures { λ r. ⌜ r ≡ is-compact (shape-of
+        (store counts (now (nodes .entry)) (now (edges .entry)) (now («live_nodes» .entry)) (now («live_edges» .entry)) (now (outgoing .entry)) (now (incoming .entry)))) ⌝ }
+{
+    let node_slots = counts.nodes;
+    let edge_slots = counts.edges;
+    let bound = node_slots.bound;
+    if node_slots.base != bound {
+        return false;
+    }
+    if edge_slots.base != edge_slots.bound {
+        return false;
+    }
+    if node_slots.live != bound {
+        return false;
+    }
+    if edge_slots.live != edge_slots.bound {
+        return false;
+    }
+    if !no_runs(outgoing, edges.len(), nodes.len(), bound) {
+        return false;
+    }
+    no_runs(incoming, edges.len(), nodes.len(), bound)
+}
+
+// Whether the store is compact.
+pub fn is_compact(
+    counts: Counts,
+    nodes: &[u32],
+    edges: &[u32],
+    live_nodes: &[u64],
+    live_edges: &[u64],
+    outgoing: &[u32],
+    incoming: &[u32],
+) -> Answer
+    ensures { λ r. ⌜ Answered
+        (store counts (now (nodes .entry)) (now (edges .entry)) (now («live_nodes» .entry)) (now («live_edges» .entry)) (now (outgoing .entry)) (now (incoming .entry)))
+        (λ w. compact-answer (state-of (shape-of w))) r ⌝ }
+{
+    let rule = judge(
+        counts,
+        nodes,
+        edges,
+        live_nodes,
+        live_edges,
+        outgoing,
+        incoming,
+    );
+    if rule != 0 {
+        return no_store(rule);
+    }
+    yes_or_no(is_compact_checked(
+        counts,
+        nodes,
+        edges,
+        live_nodes,
+        live_edges,
+        outgoing,
+        incoming,
+    ))
+}

@@ -1,0 +1,73 @@
+// Finding an edge from one node to another: along the first node's out-list, to the first entry that ends at the second. "1, first 5, second 5."
+
+use adjacency;
+use liveness;
+use plain::Answer;
+use plain::Counts;
+use plain::NONE;
+use plain::numbers::DONE;
+use plain::numbers::OUT_OF_RANGE_NODE;
+use validate::judging::judge;
+use validate::judging::no_store;
+ghost use Rattle.shape.specs.Shape.{store};
+ghost use Rattle.view.specs.Finding.{FoundEdge};
+
+// Some live edge from `first` to `second`, or NONE where there is none and only then.
+pub fn find(
+    counts: Counts,
+    nodes: &[u32],
+    edges: &[u32],
+    live_nodes: &[u64],
+    live_edges: &[u64],
+    outgoing: &[u32],
+    incoming: &[u32],
+    first: u32,
+    second: u32,
+) -> Answer
+    ensures { λ r. ⌜ FoundEdge
+        (store counts (now (nodes .entry)) (now (edges .entry)) (now («live_nodes» .entry)) (now («live_edges» .entry)) (now (outgoing .entry)) (now (incoming .entry)))
+        first second r ⌝ }
+{
+    let rule = judge(
+        counts,
+        nodes,
+        edges,
+        live_nodes,
+        live_edges,
+        outgoing,
+        incoming,
+    );
+    if rule != 0 {
+        return no_store(rule);
+    }
+    let bound = counts.nodes.bound;
+    if bound <= first {
+        return Answer {
+            number: OUT_OF_RANGE_NODE,
+            value: NONE as u64,
+        };
+    }
+    if bound <= second {
+        return Answer {
+            number: OUT_OF_RANGE_NODE,
+            value: NONE as u64,
+        };
+    }
+    let at = first as usize;
+    let live = liveness::is_live(live_nodes, bound as usize, at);
+    let edge = adjacency::walk::find(
+        outgoing,
+        incoming,
+        edges.len(),
+        nodes.len(),
+        counts,
+        live_edges,
+        at,
+        live,
+        second,
+    );
+    Answer {
+        number: DONE,
+        value: edge as u64,
+    }
+}

@@ -1,0 +1,167 @@
+// Public reads of the whole store: bounds, counts, whether it is empty. "The check, the yes or no reads of a store, bounds and counts: 1."
+
+use plain::Answer;
+use plain::Counts;
+use plain::numbers::DONE;
+use store::reads::yes_or_no;
+use validate::judging::judge;
+use validate::judging::no_store;
+ghost use mathlib.Core.Path.{_≡_};
+ghost use Rattle.plain.specs.Reads.{answered as answer-of, node-bound-answer, edge-bound-answer, node-count, edge-count, is-empty};
+ghost use Rattle.shape.specs.Shape.{store, lists};
+ghost use Rattle.view.specs.Calls.{Answered};
+
+// A number as an answer.
+fn answered(value: u32) -> Answer
+    ensures { λ r. ⌜ r ≡ answer-of value ⌝ }
+{
+    Answer {
+        number: DONE,
+        value: value as u64,
+    }
+}
+
+// How many node slots there are, removed ones too.
+pub fn node_bound(
+    counts: Counts,
+    nodes: &[u32],
+    edges: &[u32],
+    live_nodes: &[u64],
+    live_edges: &[u64],
+    outgoing: &[u32],
+    incoming: &[u32],
+) -> Answer
+    ensures { λ r. ⌜ Answered
+        (store counts (now (nodes .entry)) (now (edges .entry)) (now («live_nodes» .entry)) (now («live_edges» .entry)) (now (outgoing .entry)) (now (incoming .entry)))
+        (λ w. node-bound-answer (lists w)) r ⌝ }
+{
+    let rule = judge(
+        counts,
+        nodes,
+        edges,
+        live_nodes,
+        live_edges,
+        outgoing,
+        incoming,
+    );
+    if rule != 0 {
+        return no_store(rule);
+    }
+    answered(counts.nodes.bound)
+}
+
+// How many edge slots there are, removed ones too.
+pub fn edge_bound(
+    counts: Counts,
+    nodes: &[u32],
+    edges: &[u32],
+    live_nodes: &[u64],
+    live_edges: &[u64],
+    outgoing: &[u32],
+    incoming: &[u32],
+) -> Answer
+    ensures { λ r. ⌜ Answered
+        (store counts (now (nodes .entry)) (now (edges .entry)) (now («live_nodes» .entry)) (now («live_edges» .entry)) (now (outgoing .entry)) (now (incoming .entry)))
+        (λ w. edge-bound-answer (lists w)) r ⌝ }
+{
+    let rule = judge(
+        counts,
+        nodes,
+        edges,
+        live_nodes,
+        live_edges,
+        outgoing,
+        incoming,
+    );
+    if rule != 0 {
+        return no_store(rule);
+    }
+    answered(counts.edges.bound)
+}
+
+// How many nodes are live.
+pub fn node_count(
+    counts: Counts,
+    nodes: &[u32],
+    edges: &[u32],
+    live_nodes: &[u64],
+    live_edges: &[u64],
+    outgoing: &[u32],
+    incoming: &[u32],
+) -> Answer
+    ensures { λ r. ⌜ Answered
+        (store counts (now (nodes .entry)) (now (edges .entry)) (now («live_nodes» .entry)) (now («live_edges» .entry)) (now (outgoing .entry)) (now (incoming .entry)))
+        (λ w. node-count (lists w)) r ⌝ }
+{
+    let rule = judge(
+        counts,
+        nodes,
+        edges,
+        live_nodes,
+        live_edges,
+        outgoing,
+        incoming,
+    );
+    if rule != 0 {
+        return no_store(rule);
+    }
+    answered(counts.nodes.live)
+}
+
+// How many edges are live.
+pub fn edge_count(
+    counts: Counts,
+    nodes: &[u32],
+    edges: &[u32],
+    live_nodes: &[u64],
+    live_edges: &[u64],
+    outgoing: &[u32],
+    incoming: &[u32],
+) -> Answer
+    ensures { λ r. ⌜ Answered
+        (store counts (now (nodes .entry)) (now (edges .entry)) (now («live_nodes» .entry)) (now («live_edges» .entry)) (now (outgoing .entry)) (now (incoming .entry)))
+        (λ w. edge-count (lists w)) r ⌝ }
+{
+    let rule = judge(
+        counts,
+        nodes,
+        edges,
+        live_nodes,
+        live_edges,
+        outgoing,
+        incoming,
+    );
+    if rule != 0 {
+        return no_store(rule);
+    }
+    answered(counts.edges.live)
+}
+
+// Whether no node is live.
+pub fn is_empty(
+    counts: Counts,
+    nodes: &[u32],
+    edges: &[u32],
+    live_nodes: &[u64],
+    live_edges: &[u64],
+    outgoing: &[u32],
+    incoming: &[u32],
+) -> Answer
+    ensures { λ r. ⌜ Answered
+        (store counts (now (nodes .entry)) (now (edges .entry)) (now («live_nodes» .entry)) (now («live_edges» .entry)) (now (outgoing .entry)) (now (incoming .entry)))
+        (λ w. is-empty (lists w)) r ⌝ }
+{
+    let rule = judge(
+        counts,
+        nodes,
+        edges,
+        live_nodes,
+        live_edges,
+        outgoing,
+        incoming,
+    );
+    if rule != 0 {
+        return no_store(rule);
+    }
+    yes_or_no(counts.nodes.live == 0)
+}
