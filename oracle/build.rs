@@ -75,18 +75,20 @@ fn main() {
     fs::write(out.join("graph.rs"), declaration).expect("OUT_DIR can be written");
 }
 
-/// The proved code: with `ORACLE_PORT`, the static library of crate `layers` is
-/// linked and `cfg(ported)` set.
+/// The proved code: `ORACLE_PORT` names the directory with its static libraries,
+/// which are linked, and `cfg(ported)` is set.
 fn link_port() {
     println!("cargo::rustc-check-cfg=cfg(ported)");
     println!("cargo::rerun-if-env-changed=ORACLE_PORT");
-    let Some(library) = env::var_os("ORACLE_PORT").map(PathBuf::from) else {
+    let Some(directory) = env::var_os("ORACLE_PORT").map(PathBuf::from) else {
         return;
     };
-    let directory = library.parent().expect("a file has a directory");
-    println!("cargo::rerun-if-changed={}", library.display());
     println!("cargo::rustc-link-search=native={}", directory.display());
-    println!("cargo::rustc-link-lib=static=layers");
+    for library in ["layers", "boundary"] {
+        let file = directory.join(format!("lib{library}.a"));
+        println!("cargo::rerun-if-changed={}", file.display());
+        println!("cargo::rustc-link-lib=static={library}");
+    }
     println!("cargo::rustc-cfg=ported");
 }
 

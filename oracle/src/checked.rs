@@ -22,12 +22,40 @@ use crate::tally::{Difference, Tally, Thing};
 type Store = Graph<u32, u32>;
 type Same = Result<(), Difference>;
 
+/// What `validate.rs` says where it refuses.
+const BITS: &str = "the liveness bitsets disagree with the slots or the live counts";
+const ENDS: &str = "an edge names a node the store does not hold";
+const NO_INDEX: &str = "a store with a compressed base has no adjacency index";
+const INDEX: &str = "the adjacency index does not describe the compressed base";
+const ENTRY: &str = "the adjacency index names an edge outside the compressed base";
+const CHAINS: &str = "the adjacency chains do not match the nodes and delta edges";
+const OUTSIDE: &str = "an adjacency chain ends outside the delta edges";
+const RING: &str = "an adjacency chain is not a ring of the node's own edges";
+const OWNER: &str = "an overlay run belongs to a node the store does not hold";
+const NAMED: &str = "an overlay run names an edge the store does not hold";
+const LEAVES: &str = "a node lists an edge that does not leave it, or lists it twice";
+const ENTERS: &str = "a node lists an edge that does not enter it, or lists it twice";
+const MISSING: &str = "a live edge is missing from its endpoints' adjacency";
+
+/// The rule of document 01 that a refusal speaks of.
+pub fn rule_of(text: &str) -> Option<u32> {
+    match text {
+        BITS => Some(2),
+        ENDS => Some(3),
+        NO_INDEX | INDEX | ENTRY => Some(4),
+        CHAINS | OUTSIDE | RING => Some(5),
+        OWNER | NAMED => Some(6),
+        LEAVES | ENTERS | MISSING => Some(7),
+        _ => None,
+    }
+}
+
 fn written(graph: &Store) -> Value {
     to_value(graph).expect("a store can be written")
 }
 
 /// The store, or the text of the rule that it breaks.
-fn read(value: Value) -> Result<Store, String> {
+pub fn read(value: Value) -> Result<Store, String> {
     from_value(value).map_err(|error| error.to_string())
 }
 
@@ -77,48 +105,20 @@ fn broken_samples() -> Vec<Broken> {
         ("/live_node_count", json!(2)),
     ];
 
-    let bits = Some("the liveness bitsets disagree with the slots or the live counts");
-    let ends = Some("an edge names a node the store does not hold");
-    let index = Some("the adjacency index does not describe the compressed base");
-    let chains = Some("the adjacency chains do not match the nodes and delta edges");
-    let ring = Some("an adjacency chain is not a ring of the node's own edges");
-    let leaves = Some("a node lists an edge that does not leave it, or lists it twice");
-    let enters = Some("a node lists an edge that does not enter it, or lists it twice");
-    let missing = Some("a live edge is missing from its endpoints' adjacency");
     vec![
-        (2, bits, vec![("/live_node_count", json!(2))]),
-        (2, bits, vec![("/live_edges/words/0", json!(31))]),
-        (2, bits, vec![("/live_nodes/len", json!(2))]),
-        (3, ends, vec![("/delta_edges/0/target", json!(3))]),
-        (
-            4,
-            Some("a store with a compressed base has no adjacency index"),
-            vec![("/out_offsets", json!([]))],
-        ),
-        (4, index, vec![("/out_offsets/1", json!(3))]),
-        (4, index, vec![("/in_offsets/0", json!(1))]),
-        (
-            4,
-            Some("the adjacency index names an edge outside the compressed base"),
-            vec![("/in_edges/0", json!(2))],
-        ),
-        (5, chains, vec![("/chains/next", json!([[0, 0]]))]),
-        (
-            5,
-            Some("an adjacency chain ends outside the delta edges"),
-            vec![("/chains/last/0/0", json!(5))],
-        ),
-        (5, ring, vec![("/chains/next/0/0", json!(1))]),
-        (
-            6,
-            Some("an overlay run belongs to a node the store does not hold"),
-            vec![outgoing(json!({"3": []}))],
-        ),
-        (
-            6,
-            Some("an overlay run names an edge the store does not hold"),
-            vec![incoming(json!({"0": [4]}))],
-        ),
+        (2, Some(BITS), vec![("/live_node_count", json!(2))]),
+        (2, Some(BITS), vec![("/live_edges/words/0", json!(31))]),
+        (2, Some(BITS), vec![("/live_nodes/len", json!(2))]),
+        (3, Some(ENDS), vec![("/delta_edges/0/target", json!(3))]),
+        (4, Some(NO_INDEX), vec![("/out_offsets", json!([]))]),
+        (4, Some(INDEX), vec![("/out_offsets/1", json!(3))]),
+        (4, Some(INDEX), vec![("/in_offsets/0", json!(1))]),
+        (4, Some(ENTRY), vec![("/in_edges/0", json!(2))]),
+        (5, Some(CHAINS), vec![("/chains/next", json!([[0, 0]]))]),
+        (5, Some(OUTSIDE), vec![("/chains/last/0/0", json!(5))]),
+        (5, Some(RING), vec![("/chains/next/0/0", json!(1))]),
+        (6, Some(OWNER), vec![outgoing(json!({"3": []}))]),
+        (6, Some(NAMED), vec![incoming(json!({"0": [4]}))]),
         (
             6,
             None,
@@ -137,11 +137,19 @@ fn broken_samples() -> Vec<Broken> {
             ]
             .concat(),
         ),
-        (7, leaves, vec![outgoing(json!({"0": [0, 1], "1": [0]}))]),
-        (7, leaves, vec![outgoing(json!({"0": [0, 1, 0]}))]),
-        (7, enters, vec![incoming(json!({"0": [0], "1": [0, 1]}))]),
-        (7, missing, vec![outgoing(json!({"0": []}))]),
-        (7, missing, node_1_removed.to_vec()),
+        (
+            7,
+            Some(LEAVES),
+            vec![outgoing(json!({"0": [0, 1], "1": [0]}))],
+        ),
+        (7, Some(LEAVES), vec![outgoing(json!({"0": [0, 1, 0]}))]),
+        (
+            7,
+            Some(ENTERS),
+            vec![incoming(json!({"0": [0], "1": [0, 1]}))],
+        ),
+        (7, Some(MISSING), vec![outgoing(json!({"0": []}))]),
+        (7, Some(MISSING), node_1_removed.to_vec()),
     ]
 }
 
@@ -154,6 +162,9 @@ fn compare_broken(tally: &mut Tally) -> Same {
         }
         let outcome = read(value).err();
         tally.same(Thing::Check, place, text, outcome.as_deref())?;
+        if let Some(text) = text {
+            tally.same(Thing::Check, place, Some(rule), rule_of(text))?;
+        }
     }
     Ok(())
 }

@@ -36,7 +36,8 @@ use std::{env, fs};
 use compare::Trio;
 use tally::{Difference, Tally};
 
-const USAGE: &str = "usage: oracle/run [--operations N] [--seed S] [--depth D] [--record DIR]";
+const USAGE: &str =
+    "usage: oracle/run [--operations N] [--seed S] [--depth D] [--record DIR | --benchmark]";
 
 struct Options {
     /// How many operations the random sequences make, at the least.
@@ -46,6 +47,8 @@ struct Options {
     depth: usize,
     /// Where to write recorded sequences, in place of comparing.
     record: Option<PathBuf>,
+    /// Times the port's check and the Rust's, in place of comparing.
+    benchmark: bool,
 }
 
 fn options() -> Result<Options, String> {
@@ -54,9 +57,14 @@ fn options() -> Result<Options, String> {
         seed: 1,
         depth: 4,
         record: None,
+        benchmark: false,
     };
     let mut arguments = env::args().skip(1);
     while let Some(name) = arguments.next() {
+        if name == "--benchmark" {
+            options.benchmark = true;
+            continue;
+        }
         let value = arguments.next().ok_or(USAGE)?;
         let number = || value.parse::<u64>().map_err(|_| USAGE);
         match name.as_str() {
@@ -74,6 +82,7 @@ fn main() -> ExitCode {
     panics::hide_awaited();
     let outcome = options().and_then(|options| match &options.record {
         Some(directory) => write_recorded(directory, options.seed),
+        None if options.benchmark => benchmark(options.seed),
         None => Ok(compare(&options)),
     });
     match outcome {
@@ -154,6 +163,20 @@ fn compare_ported(options: &Options, tally: &mut Tally) -> Result<(), Difference
 
 #[cfg(not(ported))]
 fn compare_ported(_: &Options, _: &mut Tally) -> Result<(), Difference> {
-    println!("the port is not compared: built without the static library of crate layers");
+    println!("the port is not compared: built without the static libraries of the proved code");
     Ok(())
+}
+
+#[cfg(all(ported, feature = "serde"))]
+fn benchmark(seed: u64) -> Result<bool, String> {
+    if cfg!(debug_assertions) {
+        return Err("the benchmark needs a build without debug assertions".to_string());
+    }
+    ported::benchmark::run(seed);
+    Ok(true)
+}
+
+#[cfg(not(all(ported, feature = "serde")))]
+fn benchmark(_: u64) -> Result<bool, String> {
+    Err("the benchmark needs the proved code and validate.rs".to_string())
 }

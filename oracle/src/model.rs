@@ -17,7 +17,9 @@ pub const DIRECTIONS: [TraversalDirection; 2] =
     [TraversalDirection::Outgoing, TraversalDirection::Incoming];
 
 /// "Each operation leaves two words in the answer slice: number and value." A
-/// call's own value is wider, so that it can name any length.
+/// call's own value is wider, so that it can name any length. Laid out as `Answer`
+/// of crate `plain`.
+#[repr(C)]
 #[derive(Debug, Clone, Copy, PartialEq, Eq)]
 pub struct Answer {
     pub number: u32,

@@ -1,16 +1,25 @@
-//! The proved Rattle code beside the Rust store: the static library of crate
-//! `layers` is linked, the same steps are made on both, and what both tell is
-//! compared.
+//! The proved Rattle code beside the Rust store: the static libraries of crates
+//! `layers` and `boundary` are linked, the same steps are made on both, and what
+//! both tell is compared.
 //!
 //! The modules below own the memory and test what each contract requires before
 //! the call. What does not hold after a step is a difference, and what does not
 //! hold in the middle of one panics, which is a difference too.
 
 mod axis;
+#[cfg(feature = "serde")]
+pub mod benchmark;
+mod columns;
+#[cfg(feature = "serde")]
+mod damaged;
 mod exports;
 mod live;
 mod maps;
 mod memory;
+#[cfg(feature = "serde")]
+mod rules;
+mod strips;
+mod words;
 
 use crate::calls::{self, Lots};
 use crate::compare::Touched;
@@ -72,11 +81,10 @@ impl Sides for Ported {
         let mut touched = Vec::new();
         match step {
             Step::Operation(words) => {
-                let operation = Operation::decode(*words);
-                if let Some(operation) = operation {
+                if let Some(operation) = Operation::decode(*words) {
                     touched = Touched::by(operation, &self.model.plain).nodes;
                 }
-                self.operation(*words, operation, tally)?;
+                self.strip(words, 2, tally)?;
             }
             Step::Compact => self.compact(tally)?,
             Step::Read(bytes) => self.read(bytes, tally)?,
@@ -105,62 +113,32 @@ impl Ported {
         }
     }
 
-    /// Makes an operation on the Rust and, where it is done, on the memory:
-    /// additions and removals by the proved functions, the rest from the Rust.
-    fn operation(
-        &mut self,
-        words: [u32; 4],
-        operation: Option<Operation>,
-        tally: &mut Tally,
-    ) -> Same {
-        // What a redirection or a move takes from where, found beforehand.
-        let graph = &self.rust.graph;
-        let relocated = match operation {
-            Some(Operation::Redirect {
-                direction,
-                edge,
-                node,
-            }) if (edge as usize) < graph.edge_bound() => {
-                let old = record(graph, edge)[side_of(direction)];
-                (old != node).then(|| (direction, vec![edge], [old, node]))
-            }
-            Some(Operation::Move {
-                direction,
-                old,
-                new,
-            }) if (old as usize) < graph.node_bound() => {
-                let moved = rust_store::walk(graph, direction, old);
-                (!moved.is_empty()).then_some((direction, moved, [old, new]))
-            }
-            _ => None,
-        };
-        let answer = self.rust.operation(words);
-        self.model.operation(words);
-        tally.answered(words, answer);
-        let (Some(operation), 0) = (operation, answer.number) else {
-            return Ok(());
-        };
-        let value = match operation {
-            Operation::AddNode { .. } => self.memory.add_node(),
-            Operation::AddEdge { source, target, .. } => self.memory.add_edge([source, target]),
-            Operation::RemoveEdge { edge } => self.memory.remove_edge(edge).into(),
-            Operation::RemoveNode { node } => self.memory.remove_node(node).into(),
-            Operation::Redirect { .. } | Operation::Move { .. } => {
-                if let Some((direction, moved, ends)) = relocated {
-                    let parts = self.rust.graph.parts(direction);
-                    let runs = ends.map(|node| {
-                        let run = parts[node as usize].run.as_deref();
-                        (node, run.expect("a redirection or a move leaves runs"))
-                    });
-                    self.memory.relocate(direction, &moved, runs);
-                }
-                return Ok(());
-            }
-            Operation::SetPayload { .. } => return Ok(()),
-        };
-        let place = || format!("{words:?}");
-        let given = Answer::done(value.into());
-        tally.same(Thing::PortAnswer, place, answer, given)
+    /// Makes a strip on both sides, with an answer slice of so many words. Where
+    /// the strip or each of its operations is refused, every word of the memory
+    /// stays.
+    fn strip(&mut self, words: &[u32], length: usize, tally: &mut Tally) -> Same {
+        let place = || format!("strip {words:?}, answer slice {length}");
+        let answered = calls::strip(&mut self.rust, words, length);
+        calls::strip(&mut self.model, words, length).ok();
+        let mut given = vec![NONE - 1; length];
+        let mut expected = given.clone();
+        let mut refused = true;
+        let answers = answered.as_deref().unwrap_or_default();
+        let (operations, _) = words.as_chunks();
+        let (pairs, _) = expected.as_chunks_mut();
+        for ((&operation, &answer), pair) in operations.iter().zip(answers).zip(pairs) {
+            tally.answered(operation, answer);
+            refused &= answer.number != 0;
+            *pair = [answer.number, answer.value as u32];
+        }
+        let before = refused.then(|| self.memory.words());
+        let expected = (answered.err().unwrap_or(Answer::done(0)), expected);
+        let given = (self.memory.strip(words, &mut given), given);
+        tally.same(Thing::PortAnswer, place, expected, given)?;
+        if let Some(before) = before {
+            tally.same(Thing::PortRefusal, place, before, self.memory.words())?;
+        }
+        Ok(())
     }
 
     fn compact(&mut self, tally: &mut Tally) -> Same {
@@ -195,7 +173,8 @@ impl Ported {
         let bases = graph.compressed_base();
         let sides = [(&*ends[0], bases[0].1), (&*ends[1], bases[1].1)];
         let nodes = graph.node_bound();
-        self.memory.rebuild(nodes as u32, sides);
+        let payloads = rust_store::payloads(graph);
+        self.memory.rebuild([&payloads[0], &payloads[1]], sides);
 
         for (side, direction) in DIRECTIONS.into_iter().enumerate() {
             let place = || format!("base, {direction:?}");
@@ -214,7 +193,11 @@ impl Ported {
 
     pub fn compare_everything(&self, tally: &mut Tally) -> Same {
         let reader = self.compare_whole(tally)?;
+        let place = || "the store".to_string();
+        let answer = self.memory.words().check();
+        tally.same(Thing::PortCheck, place, Answer::done(0), answer)?;
         self.compare_live(tally)?;
+        self.compare_records(tally)?;
         self.compare_parts(&reader, tally)?;
         for node in 0..self.rust.graph.node_bound() as u32 {
             self.compare_node(&reader, node, tally)?;
@@ -252,11 +235,28 @@ impl Ported {
         compare_slots(&memory.edges, |slot| graph.contains_edge(edge(slot)), tally)
     }
 
+    /// Payloads of nodes, ends and payloads of edges, removed ones too.
+    fn compare_records(&self, tally: &mut Tally) -> Same {
+        let (graph, memory) = (&self.rust.graph, &self.memory);
+        for slot in 0..graph.node_bound() as u32 {
+            let place = || format!("node {slot}");
+            let (expected, given) = (*graph.node(node(slot)), memory.node_payload(slot as usize));
+            tally.same(Thing::PortRecord, place, expected, given)?;
+        }
+        for slot in 0..graph.edge_bound() as u32 {
+            let place = || format!("edge {slot}");
+            let (expected, given) = (record(graph, slot), memory.record(slot as usize));
+            tally.same(Thing::PortRecord, place, expected, given)?;
+        }
+        Ok(())
+    }
+
     /// Base parts, runs and rings of every node, as the columns hold them.
     fn compare_parts(&self, reader: &Reader, tally: &mut Tally) -> Same {
         for (side, direction) in reader.sides.iter().zip(DIRECTIONS) {
             for (node, part) in self.rust.graph.parts(direction).iter().enumerate() {
                 let place = || format!("node {node}, {direction:?}");
+                tally.ran(part.run.as_ref().map_or(0, Vec::len));
                 tally.same(Thing::PortPart, place, part, &side.part(node))?;
                 let ends = [part.ring.first(), part.ring.last()];
                 let expected = ends.map(|end| end.copied().unwrap_or(NONE));
@@ -315,9 +315,15 @@ fn compare_slots(live: &Live, rust: impl Fn(u32) -> bool, tally: &mut Tally) -> 
 }
 
 /// Random sequences of so many operations, all sequences of up to `depth` steps
-/// from four stores, and any two maps.
+/// from four stores, fresh stores, strips of many operations, any two maps, and
+/// damaged stores.
 pub fn compare(operations: u64, depth: usize, seed: u64, tally: &mut Tally) -> Same {
     sequences::compare_random::<Ported>(operations, seed, tally);
     sequences::compare_exhaustive::<Ported>(depth, tally);
-    maps::compare(20_000, seed, tally)
+    strips::compare_fresh(4_000, seed, tally)?;
+    strips::compare(4_000, seed, tally)?;
+    maps::compare(20_000, seed, tally)?;
+    #[cfg(feature = "serde")]
+    damaged::compare(60_000, seed, tally)?;
+    Ok(())
 }

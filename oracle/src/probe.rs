@@ -4,10 +4,17 @@
 //! place, so it is a child of `store`. The methods are visible in the whole
 //! program. None of them changes what the Rust does.
 
+#[cfg(feature = "serde")]
+use std::time::{Duration, Instant};
+
 use crate::graph::traverse::TraversalDirection;
 use crate::shape::Part;
 
 use super::adjacency::compress;
+#[cfg(feature = "serde")]
+use super::relocate::Encoded;
+#[cfg(feature = "serde")]
+use super::validate::Stored;
 use super::{EdgeRecord, Graph, NodeId, Renumbering};
 
 impl Graph<u32, u32> {
@@ -57,14 +64,33 @@ impl Graph<u32, u32> {
         compress(&self.base_edges, self.base_nodes.len(), direction)
     }
 
+    /// What `validate.rs` makes of the columns of a written store, and how long it
+    /// takes once they are decoded; then how long of that it takes to make the runs
+    /// from the map that was decoded, measured by itself.
+    #[cfg(feature = "serde")]
+    pub(crate) fn judged(value: serde_json::Value) -> (Result<Self, &'static str>, [Duration; 2]) {
+        let encoded: Result<Option<Encoded>, _> =
+            serde_json::from_value(value["relocations"].clone());
+        let encoded = encoded.expect("a store's runs can be decoded");
+        let decoded: Result<Stored<u32, u32, _>, _> = serde_json::from_value(value);
+        let stored = decoded.expect("a store's columns can be decoded");
+        let began = Instant::now();
+        let outcome = Self::try_from(stored);
+        let whole = began.elapsed();
+        let bounds = outcome
+            .as_ref()
+            .map_or((0, 0), |graph| (graph.node_bound(), graph.edge_bound()));
+        let began = Instant::now();
+        let runs = encoded.map(|encoded| encoded.into_relocations(bounds.0, bounds.1));
+        let making = began.elapsed();
+        drop(runs);
+        (outcome, [whole, making])
+    }
+
     /// A store whose compressed base holds these nodes, edges (source, target,
     /// payload) and lists, out then in. The Rust has no image reading; this
     /// stands for what it would leave.
-    pub(crate) fn from_base(
-        nodes: &[u32],
-        edges: &[[u32; 3]],
-        lists: [&[Vec<u32>]; 2],
-    ) -> Self {
+    pub(crate) fn from_base(nodes: &[u32], edges: &[[u32; 3]], lists: [&[Vec<u32>]; 2]) -> Self {
         let record = |&[source, target, payload]: &[u32; 3]| {
             EdgeRecord::new(NodeId::from_raw(source), NodeId::from_raw(target), payload)
         };

@@ -233,6 +233,17 @@ pub fn record(graph: &Graph<u32, u32>, slot: u32) -> [u32; 3] {
     [ends[0], ends[1], *record.payload()]
 }
 
+/// The payloads of all nodes and of all edges, removed ones too.
+#[cfg(ported)]
+pub fn payloads(graph: &Graph<u32, u32>) -> [Vec<u32>; 2] {
+    let nodes = 0..graph.node_bound() as u32;
+    let edges = 0..graph.edge_bound() as u32;
+    [
+        nodes.map(|slot| *graph.node(node(slot))).collect(),
+        edges.map(|slot| record(graph, slot)[2]).collect(),
+    ]
+}
+
 /// `EdgeView::edge`, which panics for removed edges.
 pub fn live_record(graph: &Graph<u32, u32>, slot: u32) -> [u32; 3] {
     let record = EdgeView::edge(graph, edge(slot));

@@ -20,7 +20,7 @@ pub struct Part {
 
 impl Part {
     /// What is read before the ring: a run hides the base, an empty one too.
-    fn front(&self) -> &[u32] {
+    pub fn front(&self) -> &[u32] {
         self.run.as_deref().unwrap_or(&self.base)
     }
 }

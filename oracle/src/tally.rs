@@ -76,18 +76,28 @@ things! {
         "Panics become numbers.";
     Check: "answers of validate.rs",
         "Rules 1 to 5 and 7 are those of `validate.rs` in its order";
+    Damaged: "rules of validate.rs for damaged stores",
+        "Rules 1 to 5 and 7 are those of `validate.rs` in its order, rule 6 is added.";
     Call: "calls with lengths of lent slices",
         "a lent slice too short | 2 | length needed";
-    PortAnswer: "port: answers of additions and removals",
+    PortFresh: "port: fresh stores, in memory of any lengths",
+        "Fresh: 13, nodes before edges, then 2.";
+    PortAnswer: "port: strips, by their own answers and all words of their answer slices",
         "Each operation leaves two words in the answer slice: number and value.";
+    PortRefusal: "port: words after a refused strip, or a strip of refused operations",
+        "A refused operation changes nothing";
     PortCount: "port: counts, and live bits counted",
         "a new slot is the bound, which rises by one; a bound or count itself";
     PortLive: "port: live bits, ranks and next live slots",
         "it is live until removed; Out of range is not live.";
     PortRules: "port: rules 1, 2, 4, 5 and 6, which the contracts require",
         "Rules 1 to 5 and 7 are those of `validate.rs` in its order";
+    PortRecord: "port: node payloads, ends and payloads of edges",
+        "a payload is the one last given; Removed edges keep their last ends.";
+    PortCheck: "port: the check, of stores that steps led to and of damaged ones",
+        "The first broken rule is the value of answer 1.";
     PortPart: "port: base parts, runs and rings",
-        "Adding an edge appends it to its source's out-list and target's in-list.";
+        "`sweep` drops dead slots only if some edge is removed and the run's length is a power of two.";
     PortRingEnds: "port: ends of rings",
         "Adding an edge appends it to its source's out-list and target's in-list.";
     PortIndex: "port: offsets and joined lists",
@@ -143,6 +153,8 @@ const NUMBERS: usize = 11;
 pub struct Tally {
     compared: Vec<u64>,
     answers: [[u64; NUMBERS]; CODES],
+    /// The most entries of a run that was compared.
+    longest_run: usize,
     pub differences: u64,
 }
 
@@ -151,6 +163,7 @@ impl Tally {
         Self {
             compared: vec![0; Thing::ALL.len()],
             answers: [[0; NUMBERS]; CODES],
+            longest_run: 0,
             differences: 0,
         }
     }
@@ -185,6 +198,12 @@ impl Tally {
             _ => 0,
         };
         self.answers[code][answer.number as usize] += 1;
+    }
+
+    /// Notes the length of a run.
+    #[cfg(ported)]
+    pub fn ran(&mut self, entries: usize) {
+        self.longest_run = self.longest_run.max(entries);
     }
 
     pub fn operations(&self) -> u64 {
@@ -243,6 +262,10 @@ impl fmt::Display for Tally {
                 write!(formatter, " {:>9}", row[number])?;
             }
             writeln!(formatter)?;
+        }
+        if self.longest_run > 0 {
+            let entries = self.longest_run;
+            writeln!(formatter, "longest run of the port: {entries} entries")?;
         }
         writeln!(formatter, "compared:")?;
         for &thing in Thing::ALL {

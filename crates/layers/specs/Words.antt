@@ -1,7 +1,6 @@
 -- What the exported forms return where the wrapped function returns an enum or a record.
 use Prim.Native.Nat.{ℕ}
 use mathlib.Core.Bool.{Bool, true, false}
-use Rattle.plain.specs.declared.Answer.{Answer}
 use Rattle.liveness.specs.declared.Counted.{Counted}
 use Rattle.liveness.specs.declared.Counted.the-variants.{Live, Unpacked}
 use Rattle.adjacency.specs.declared.rings.RingEnds.{RingEnds}
@@ -10,10 +9,6 @@ use Rattle.adjacency.specs.declared.rings.RingEnds.{RingEnds}
 abbrev pub counted-as : Bool → ℕ → Counted
 counted-as true n = Live n
 counted-as false n = Unpacked
-
--- an answer by its number and its value
-abbrev pub of : ℕ → ℕ → Answer
-of number value = record { number = number; value = value }
 
 -- the ends of a ring, first and last
 abbrev pub ends-as : ℕ → ℕ → RingEnds

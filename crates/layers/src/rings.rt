@@ -1,24 +1,8 @@
 // Rings of one direction, over its packed axis. `edges` and `nodes` are the capacities of the axis.
 
 ghost use mathlib.Core.Path.{_≡_};
-ghost use Rattle.adjacency.specs.Rings.{Appendable, Appended, Openable, Opened, EndsReadable, ring-ends, Detachable, Detached};
+ghost use Rattle.adjacency.specs.Rings.{Openable, Opened, EndsReadable, ring-ends};
 ghost use Rattle.layers.specs.Words.{ends-as};
-
-#[no_mangle]
-pub extern "C" fn lot_append(
-    axis: &mut [u32],
-    edges: usize,
-    nodes: usize,
-    bound: usize,
-    base: usize,
-    node: usize,
-    appended: u32,
-)
-    requires { ⌜ Appendable (now axis) edges nodes bound base node appended ⌝ }
-    ensures { λ _. ⌜ Appended (now (axis .entry)) (now (axis .exit)) edges bound base node appended ⌝ }
-{
-    adjacency::rings::append(axis, edges, nodes, bound, base, node, appended);
-}
 
 #[no_mangle]
 pub extern "C" fn lot_open_node(axis: &mut [u32], edges: usize, nodes: usize, node: usize)
@@ -37,12 +21,4 @@ pub extern "C" fn lot_ring_ends(axis: &[u32], edges: usize, node: usize, first: 
     let ends = adjacency::rings::ring_ends(axis, edges, node);
     *first = ends.first;
     ends.last
-}
-
-#[no_mangle]
-pub extern "C" fn lot_detach(axis: &mut [u32], edges: usize, node: usize)
-    requires { ⌜ Detachable (now axis) edges node ⌝ }
-    ensures { λ _. ⌜ Detached (now (axis .entry)) (now (axis .exit)) edges node ⌝ }
-{
-    adjacency::rings::detach(axis, edges, node);
 }

@@ -1,4 +1,4 @@
-// Walks, degrees, far ends and clearing of one direction, over its packed axis. `edges` and `nodes` are the capacities of the axis; `live` says whether the node is live.
+// Walks, degrees and far ends of one direction, over its packed axis. `edges` and `nodes` are the capacities of the axis; `live` says whether the node is live.
 
 use plain::Counts;
 ghost use mathlib.Core.Path.{_≡_};
@@ -8,7 +8,6 @@ ghost use lib.ListN.{length};
 ghost use Rattle.plain.specs.Lists.{written};
 ghost use Rattle.shape.specs.Columns.{end-at};
 ghost use Rattle.adjacency.specs.Walk.{walk-in, Walkable, WalkFits};
-ghost use Rattle.adjacency.specs.Clear.{Clearable, Retired};
 
 #[no_mangle]
 pub extern "C" fn lot_count_walk(
@@ -79,18 +78,3 @@ pub extern "C" fn lot_write_neighbors(
 }
 
 // The edges of the walk are made dead; how many were live is returned.
-#[no_mangle]
-pub extern "C" fn lot_clear_adjacency(
-    axis: &[u32],
-    edges: usize,
-    nodes: usize,
-    counts: Counts,
-    live_edges: &mut [u64],
-    node: usize,
-    live: bool,
-) -> u32
-    requires { ⌜ Clearable (now axis) edges nodes counts (now «live_edges») node ⌝ }
-    ensures { λ r. ⌜ Retired (counts .edges .bound) (walk-in (now (axis .entry)) edges nodes counts (now («live_edges» .entry)) node live) (now («live_edges» .entry)) (now («live_edges» .exit)) r ⌝ }
-{
-    adjacency::clear::clear_adjacency(axis, edges, nodes, counts, live_edges, node, live)
-}

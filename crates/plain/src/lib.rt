@@ -72,12 +72,14 @@ pub struct Counts {
 }
 
 // What a call answers: the number and the value of document 01's table. The value is wide enough for any length or capacity.
+#[repr(C)]
 pub struct Answer {
     pub number: u32,
     pub value: u64,
 }
 
 // What a call answers that makes or changes a store: number and value, and the counts afterwards.
+#[repr(C)]
 pub struct Changed {
     pub number: u32,
     pub value: u64,
@@ -85,6 +87,7 @@ pub struct Changed {
 }
 
 // What reading a record answers: the edge's ends and payload beside number and value; all three are 0 where it is refused.
+#[repr(C)]
 pub struct Record {
     pub number: u32,
     pub value: u64,

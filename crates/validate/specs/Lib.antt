@@ -6,3 +6,4 @@ pub mod Runs
 pub mod Walks
 pub mod Broken
 pub mod Judging
+mod Examples

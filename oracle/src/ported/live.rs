@@ -32,17 +32,6 @@ impl Live {
         self.slots.bound as usize
     }
 
-    /// `LiveRight`, and a bit for each slot: as many live bits as counted, and no
-    /// other bit of the last word.
-    pub fn is_right(&self, slots: Slots) -> bool {
-        let bound = slots.bound as usize;
-        let needed = bound.div_ceil(64);
-        let ones = |words: &[u64]| words.iter().map(|word| word.count_ones()).sum::<u32>();
-        needed <= self.words.len()
-            && (bound.is_multiple_of(64) || self.words[needed - 1] >> (bound % 64) == 0)
-            && ones(&self.words[..needed]) == slots.live
-    }
-
     /// The slots that the words are asked for, which every function but `push`
     /// requires to be no more than the bits there are.
     fn within(&self) -> usize {
@@ -54,7 +43,8 @@ impl Live {
     }
 
     /// Appends a live slot and gives its number.
-    pub fn push(&mut self) -> u32 {
+    #[cfg(feature = "serde")]
+    fn push(&mut self) -> u32 {
         let slot = self.bound();
         assert!(
             slot < 64 * self.words.len(),
@@ -82,7 +72,8 @@ impl Live {
     }
 
     /// Makes a slot dead; whether it was live.
-    pub fn clear(&mut self, slot: u32) -> bool {
+    #[cfg(feature = "serde")]
+    fn clear(&mut self, slot: u32) -> bool {
         let slots = self.within();
         // SAFETY: the words are borrowed mutably and as long as stated; their
         // length was tested.
@@ -98,9 +89,9 @@ impl Live {
         live
     }
 
-    /// Lends the words to a function that makes slots dead and answers how many.
-    pub fn retire(&mut self, clear: impl FnOnce(&mut [u64]) -> u32) {
-        self.slots.live -= clear(&mut self.words);
+    /// The words, and the counts, for a function that writes both.
+    pub const fn parts(&mut self) -> (&mut Vec<u64>, &mut Slots) {
+        (&mut self.words, &mut self.slots)
     }
 
     /// So many slots, all of them base and live.
@@ -146,4 +137,15 @@ impl Live {
         // SAFETY: as in `is_live`.
         unsafe { exports::lot_next_live(self.words.as_ptr(), self.words.len(), slots, from) }
     }
+}
+
+/// `LiveRight`, and a bit for each slot: as many live bits as counted, and no
+/// other bit of the last word.
+pub fn is_right(words: &[u64], slots: Slots) -> bool {
+    let bound = slots.bound as usize;
+    let needed = bound.div_ceil(64);
+    let ones = |words: &[u64]| words.iter().map(|word| word.count_ones()).sum::<u32>();
+    needed <= words.len()
+        && (bound.is_multiple_of(64) || words[needed - 1] >> (bound % 64) == 0)
+        && ones(&words[..needed]) == slots.live
 }

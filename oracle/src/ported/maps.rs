@@ -12,34 +12,18 @@ use crate::sequences::Same;
 use crate::tally::{Tally, Thing};
 
 fn lookup(map: &[u32], slot: u32) -> Answer {
-    let mut value = 0;
-    // SAFETY: the map is borrowed and as long as stated; `value` is borrowed
-    // mutably.
-    let number = unsafe { exports::lot_lookup(map.as_ptr(), map.len(), slot, &raw mut value) };
-    Answer { number, value }
+    // SAFETY: the map is borrowed and as long as stated.
+    unsafe { exports::lot_lookup(map.as_ptr(), map.len(), slot) }
 }
 
 fn is_identity(nodes: &[u32], edges: &[u32]) -> Answer {
-    let mut value = 0;
-    // SAFETY: the maps are borrowed and as long as stated; `value` is borrowed
-    // mutably.
-    let number = unsafe {
-        exports::lot_is_identity(
-            nodes.as_ptr(),
-            nodes.len(),
-            edges.as_ptr(),
-            edges.len(),
-            &raw mut value,
-        )
-    };
-    Answer { number, value }
+    // SAFETY: the maps are borrowed and as long as stated.
+    unsafe { exports::lot_is_identity(nodes.as_ptr(), nodes.len(), edges.as_ptr(), edges.len()) }
 }
 
 fn compose(first: &[u32], second: &[u32], result: &mut [u32]) -> Answer {
-    let mut value = 0;
-    // SAFETY: the slices are borrowed and as long as stated, `result` and
-    // `value` mutably.
-    let number = unsafe {
+    // SAFETY: the slices are borrowed and as long as stated, `result` mutably.
+    unsafe {
         exports::lot_compose(
             first.as_ptr(),
             first.len(),
@@ -47,10 +31,8 @@ fn compose(first: &[u32], second: &[u32], result: &mut [u32]) -> Answer {
             second.len(),
             result.as_mut_ptr(),
             result.len(),
-            &raw mut value,
         )
-    };
-    Answer { number, value }
+    }
 }
 
 /// Lookups of every old slot and of some above, and the identity test.

@@ -1,18 +1,21 @@
-//! The port's memory: counts, live words and two axes, owned here and lent to
-//! the proved functions. Additions and removals are made by them alone; what
-//! redirections, moves and compactions leave is put there from the Rust, as long
-//! as no exported function makes those.
+//! The port's memory: counts and six slices, owned here and lent to the proved
+//! functions. Operations are made by them alone; ends and joined lists that
+//! compactions and image readings leave are put there from the Rust, as long as no
+//! exported function makes those.
+
+use std::mem::take;
 
 use super::axis::{Axis, Readable};
 use super::exports::Counts;
 use super::live::Live;
-use crate::graph::traverse::TraversalDirection;
-use crate::model::Capacities;
+use super::words::Words;
 #[cfg(feature = "serde")]
 use crate::model::DIRECTIONS;
+use crate::model::{Answer, Capacities};
 use crate::rng::Rng;
 #[cfg(feature = "serde")]
-use crate::rust_store::{RustStore, edge, node, record};
+use crate::rust_store::{RustStore, edge, node, payloads, record};
+#[cfg(feature = "serde")]
 use crate::shape::side_of;
 
 #[derive(Clone)]
@@ -20,6 +23,8 @@ pub struct Memory {
     pub nodes: Live,
     pub edges: Live,
     axes: [Axis; 2],
+    /// Of nodes and edges; their lengths are the capacities.
+    payloads: [Vec<u32>; 2],
 }
 
 /// Both directions, tested, and the live bits of the nodes.
@@ -32,11 +37,18 @@ impl Memory {
     /// An empty store over words that hold anything.
     pub fn fresh(Capacities { nodes, edges }: Capacities) -> Self {
         let mut rng = Rng::new(u64::from(nodes) << 32 | u64::from(edges));
-        Self {
+        let memory = Self {
             nodes: Live::new(nodes, &mut rng),
             edges: Live::new(edges, &mut rng),
             axes: [(); 2].map(|()| Axis::new(nodes, edges, &mut rng)),
-        }
+            payloads: [nodes, edges].map(|slots| (0..slots).map(|_| rng.word()).collect()),
+        };
+        assert_eq!(
+            memory.words().make_fresh(),
+            Answer::done(0),
+            "the memory is long enough"
+        );
+        memory
     }
 
     /// The words of a store that was made elsewhere: its slots by the proved
@@ -66,6 +78,10 @@ impl Memory {
                 }
             }
         }
+        let payloads = payloads(graph);
+        for (slots, payloads) in memory.payloads.iter_mut().zip(&payloads) {
+            slots[..payloads.len()].copy_from_slice(payloads);
+        }
         memory
     }
 
@@ -73,6 +89,20 @@ impl Memory {
         Counts {
             nodes: self.nodes.slots(),
             edges: self.edges.slots(),
+        }
+    }
+
+    /// A copy of all that is lent for a store.
+    pub fn words(&self) -> Words {
+        let [nodes, edges] = self.payloads.clone();
+        let [outgoing, incoming] = &self.axes;
+        Words {
+            counts: self.counts(),
+            nodes,
+            edges,
+            live_nodes: self.nodes.words().to_vec(),
+            live_edges: self.edges.words().to_vec(),
+            axes: [outgoing, incoming].map(|axis| axis.words().to_vec()),
         }
     }
 
@@ -90,65 +120,54 @@ impl Memory {
         })
     }
 
-    pub fn add_node(&mut self) -> u32 {
-        let node = self.nodes.push();
-        for axis in &mut self.axes {
-            axis.open_node(node);
-        }
-        node
-    }
-
-    /// Source and target are live.
-    pub fn add_edge(&mut self, ends: [u32; 2]) -> u32 {
+    /// Makes the operations of a strip, and gives the call's own answer.
+    pub fn strip(&mut self, words: &[u32], answers: &mut [u32]) -> Answer {
         let counts = self.counts();
-        let edge = self.edges.push();
-        for (axis, end) in self.axes.iter_mut().zip(ends) {
-            axis.append(counts, end, edge);
+        let (live_nodes, node_slots) = self.nodes.parts();
+        let (live_edges, edge_slots) = self.edges.parts();
+        let mut axes = self.axes.each_mut().map(Axis::words_mut);
+        let mut payloads = self.payloads.each_mut();
+        let [nodes, edges] = payloads.each_mut().map(|payloads| take(*payloads));
+        // The words go out and come back: nothing is copied.
+        let mut lent = Words {
+            counts,
+            nodes,
+            edges,
+            live_nodes: take(live_nodes),
+            live_edges: take(live_edges),
+            axes: axes.each_mut().map(|words| take(*words)),
+        };
+        let answer = lent.strip(words, answers);
+        [*node_slots, *edge_slots] = [lent.counts.nodes, lent.counts.edges];
+        [*live_nodes, *live_edges] = [lent.live_nodes, lent.live_edges];
+        self.payloads = [lent.nodes, lent.edges];
+        for (words, lent) in axes.into_iter().zip(lent.axes) {
+            *words = lent;
         }
-        edge
+        answer
     }
 
-    pub fn remove_edge(&mut self, edge: u32) -> bool {
-        self.edges.clear(edge)
+    /// Source, target and payload of an edge.
+    pub fn record(&self, edge: usize) -> [u32; 3] {
+        let [outgoing, incoming] = &self.axes;
+        let [_, payloads] = &self.payloads;
+        [outgoing.end(edge), incoming.end(edge), payloads[edge]]
     }
 
-    /// As the Rust: the edges of both walks are removed, then the node.
-    pub fn remove_node(&mut self, node: u32) -> bool {
-        if !self.nodes.is_live(node) {
-            return false;
-        }
-        for axis in &self.axes {
-            let counts = self.counts();
-            axis.clear_adjacency(counts, &mut self.edges, node);
-        }
-        self.nodes.clear(node)
+    pub fn node_payload(&self, node: usize) -> u32 {
+        let [payloads, _] = &self.payloads;
+        payloads[node]
     }
 
-    /// What a redirection or a move has left: the moved edges end at the new
-    /// node, and both nodes' rings have gone into their runs.
-    pub fn relocate(
-        &mut self,
-        direction: TraversalDirection,
-        moved: &[u32],
-        runs: [(u32, &[u32]); 2],
-    ) {
-        let axis = &mut self.axes[side_of(direction)];
-        let [_, (new, _)] = runs;
-        for (node, run) in runs {
-            axis.detach(node);
-            axis.put_run(node, run);
+    /// What a compaction or an image reading leaves: payloads of nodes and edges,
+    /// and of each direction the ends and the joined lists.
+    pub fn rebuild(&mut self, payloads: [&[u32]; 2], sides: [(&[u32], &[u32]); 2]) {
+        for (slots, payloads) in self.payloads.iter_mut().zip(payloads) {
+            slots[..payloads.len()].copy_from_slice(payloads);
         }
-        for &edge in moved {
-            axis.put_end(edge, new);
-        }
-    }
-
-    /// What a compaction or an image reading leaves: of each direction the ends
-    /// and the joined lists.
-    pub fn rebuild(&mut self, nodes: u32, sides: [(&[u32], &[u32]); 2]) {
-        let [(ends, _), _] = sides;
+        let [nodes, edges] = payloads.map(|payloads| payloads.len() as u32);
         self.nodes.reset(nodes);
-        self.edges.reset(ends.len() as u32);
+        self.edges.reset(edges);
         for (axis, (ends, joined)) in self.axes.iter_mut().zip(sides) {
             axis.index(nodes as usize, ends, joined);
             for node in 0..nodes {

@@ -1,0 +1,81 @@
+// A store: the counts by value and the six lent slices.
+
+use plain::Answer;
+use plain::Changed;
+use plain::Counts;
+ghost use mathlib.Core.Path.{_≡_};
+ghost use Rattle.plain.specs.Calls.{check as check-answer};
+ghost use Rattle.shape.specs.Shape.{store};
+ghost use Rattle.shape.specs.Rules.{broken};
+ghost use Rattle.strip.specs.Fresh.{FreshOf};
+ghost use Rattle.strip.specs.Strip.{StripOf};
+
+#[no_mangle]
+pub extern "C" fn lot_fresh(
+    nodes: &[u32],
+    edges: &[u32],
+    live_nodes: &[u64],
+    live_edges: &[u64],
+    outgoing: &[u32],
+    incoming: &[u32],
+) -> Changed
+    ensures { λ r. ⌜ FreshOf
+        (store (r .counts) (now (nodes .entry)) (now (edges .entry)) (now («live_nodes» .entry)) (now («live_edges» .entry)) (now (outgoing .entry)) (now (incoming .entry)))
+        (r .number) (r .value) ⌝ }
+{
+    strip::fresh(nodes, edges, live_nodes, live_edges, outgoing, incoming)
+}
+
+#[no_mangle]
+pub extern "C" fn lot_check(
+    counts: Counts,
+    nodes: &[u32],
+    edges: &[u32],
+    live_nodes: &[u64],
+    live_edges: &[u64],
+    outgoing: &[u32],
+    incoming: &[u32],
+) -> Answer
+    ensures { λ r. ⌜ r ≡ check-answer (broken (store counts (now (nodes .entry)) (now (edges .entry)) (now («live_nodes» .entry)) (now («live_edges» .entry)) (now (outgoing .entry)) (now (incoming .entry)))) ⌝ }
+{
+    validate::check(
+        counts,
+        nodes,
+        edges,
+        live_nodes,
+        live_edges,
+        outgoing,
+        incoming,
+    )
+}
+
+#[no_mangle]
+pub extern "C" fn lot_strip(
+    counts: Counts,
+    nodes: &mut [u32],
+    edges: &mut [u32],
+    live_nodes: &mut [u64],
+    live_edges: &mut [u64],
+    outgoing: &mut [u32],
+    incoming: &mut [u32],
+    words: &[u32],
+    answers: &mut [u32],
+) -> Changed
+    ensures { λ r. ⌜ StripOf
+        (store counts (now (nodes .entry)) (now (edges .entry)) (now («live_nodes» .entry)) (now («live_edges» .entry)) (now (outgoing .entry)) (now (incoming .entry)))
+        (now (words .entry)) (now (answers .entry)) (r .number) (r .value)
+        (store (r .counts) (now (nodes .exit)) (now (edges .exit)) (now («live_nodes» .exit)) (now («live_edges» .exit)) (now (outgoing .exit)) (now (incoming .exit)))
+        (now (answers .exit)) ⌝ }
+{
+    strip::strip(
+        counts,
+        nodes,
+        edges,
+        live_nodes,
+        live_edges,
+        outgoing,
+        incoming,
+        words,
+        answers,
+    )
+}
