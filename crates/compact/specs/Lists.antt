@@ -6,7 +6,7 @@ use mathlib.Core.List.{List, map}
 use lib.ListN.{length, take, drop, getD}
 use lib.Dec.{eqb}
 use Rattle.plain.specs.declared.Counts.{Counts}
-use Rattle.plain.specs.Lists.{distinct, count, joined}
+use Rattle.plain.specs.Lists.{distinct, count, joined, written}
 use Rattle.plain.specs.Reads.{live-slots}
 use Rattle.liveness.specs.Flags.{live-flags}
 use Rattle.shape.specs.Chains.{chain, In}
@@ -58,6 +58,11 @@ pub record ListFits (ws : List ℕ) (ce cn : ℕ) (counts : Counts) (live-edges 
   pub walk : WalkFits ws ce cn counts live-edges x live out
   pub once : distinct (walk-in ws ce cn counts live-edges x live) ≡ true
 
+-- A list written to the start of a slice, and its length.
+pub record ListWritten (list entry : List ℕ) (size : ℕ) (exit : List ℕ) : Type 0 where
+  pub counted : size ≡ length list
+  pub wrote : exit ≡ written list entry
+
 -- the lists of the live nodes in slot order, one behind the other
 unfoldable pub settled-lists : List ℕ → ℕ → ℕ → Counts → List ℕ → List ℕ → List ℕ
 settled-lists ws ce cn counts live-nodes live-edges =
@@ -66,6 +71,7 @@ settled-lists ws ce cn counts live-nodes live-edges =
 -- What it takes to write them: each node can be walked, no walk has repeats, and there is room for all.
 pub record ListsFit (ws : List ℕ) (ce cn : ℕ) (counts : Counts) (live-nodes live-edges out : List ℕ) : Type 0 where
   pub walkable : (x : ℕ) → x < counts .nodes .bound → Walkable ws ce cn counts live-edges x
-  pub once : (x : ℕ) → x < counts .nodes .bound → distinct (walk-in ws ce cn counts live-edges x true) ≡ true
+  pub once : (x : ℕ) → x < counts .nodes .bound
+      → distinct (walk-in ws ce cn counts live-edges x (getD (live-flags live-nodes (counts .nodes .bound)) x false)) ≡ true
   pub live-long : counts .nodes .bound ≤ 64 * length live-nodes
   pub fits : length (settled-lists ws ce cn counts live-nodes live-edges) ≤ length out
