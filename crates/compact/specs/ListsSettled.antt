@@ -1,19 +1,17 @@
 -- Laws of the lists that compaction takes over: a list in slot order has the entries of the walk; a checked store's lists can be written to a slice with room for
 -- its live edges; and they are the lists of `settled`, from which compaction is defined.
-use Prim.Native.Nat.{ℕ, zero, suc, _+_, _*_, _≤_, _<_}
+use Prim.Native.Nat.{ℕ, suc, _+_, _<_}
 use native.Mathlib.Omega.{arith}
 use native.Mathlib.Nat.{zero-add}
-use mathlib.Core.Path.{_≡_, refl, sym, ap, _∙_, subst}
-use mathlib.Core.Bool.{Bool, true, false, cond, _&&_}
+use mathlib.Core.Path.{_≡_, refl, ap, _∙_}
+use mathlib.Core.Bool.{Bool, true, false, cond}
 use mathlib.Core.List.{List, [], _∷_, _++_, map}
-use lib.ListN.{length, getD, length-append, length-map}
+use lib.ListN.{length, getD}
 use borrow.Author.Tests.{lt-ltb}
-use Rattle.plain.specs.declared.TraversalDirection.{TraversalDirection}
-use Rattle.plain.specs.declared.TraversalDirection.the-variants.{Outgoing, Incoming}
 use Rattle.plain.specs.declared.Counts.{Counts}
 use Rattle.plain.specs.Reads.{live-from}
 use Rattle.plain.specs.Lists.{member, distinct, keep, from, joined}
-use Rattle.plain.specs.Laws.Booleans.{by-test, refuted, true-false, and-false}
+use Rattle.plain.specs.Laws.Booleans.{by-test, and-false}
 use Rattle.plain.specs.Laws.ListLaws.{member-keep, member-below, distinct-keep, distinct-from, distinct-length}
 use Rattle.liveness.specs.Flags.{live-flags}
 use Rattle.liveness.specs.FlagLaws.{length-flags}
