@@ -1,5 +1,5 @@
--- Laws of the lists that compaction takes over: a list in slot order has the entries of the walk; a checked store's lists can be written to a slice with room for
--- its live edges; and they are the lists of `settled`, from which compaction is defined.
+-- Laws of the lists that compaction takes over, by the words of one direction: a list in slot order has the entries of the walk, a removed node's is empty, and
+-- so the lists of the live nodes are those of all.
 use Prim.Native.Nat.{ℕ, suc, _+_, _<_}
 use native.Mathlib.Omega.{arith}
 use native.Mathlib.Nat.{zero-add}

@@ -1,11 +1,12 @@
--- The lists that compaction takes over, of a whole store: where it is checked they can be written to a slice with room for its live edges, and they are the lists of
--- `settled`, from which compaction is defined; these are well formed.
+-- The lists that compaction takes over, of a whole store: they are those of `settled`, from which compaction is defined and which is well formed; and where the
+-- store is checked they can be written to a slice with room for its live edges.
 use Prim.Native.Nat.{ℕ, zero, suc, _≤_, _<_}
 use native.Mathlib.Omega.{arith}
 use mathlib.Core.Path.{_≡_, refl, sym, ap, _∙_}
 use mathlib.Core.Bool.{Bool, true, false}
-use mathlib.Core.List.{List, [], _∷_, map}
-use lib.ListN.{length, getD, length-append, length-map}
+use mathlib.Core.List.{List, [], _∷_, _++_, map, map-append}
+use lib.ListN.{length, getD, length-map}
+use lib.Dec.{eqb}
 use Rattle.plain.specs.declared.TraversalDirection.{TraversalDirection}
 use Rattle.plain.specs.declared.TraversalDirection.the-variants.{Outgoing, Incoming}
 use Rattle.plain.specs.Lists.{member, distinct, from, joined}
@@ -13,8 +14,9 @@ use Rattle.plain.specs.Numbers.{LIMIT}
 use Rattle.plain.specs.Plain.{Plain, EdgeSlot, Incidence, incidence, list-of, end-of, node-flags, edge-flags}
 use Rattle.plain.specs.Step.{Capacities}
 use Rattle.plain.specs.Reads.{live-slots, live-count}
-use Rattle.plain.specs.Compaction.{rank, survivors, source-of, target-of}
-use Rattle.plain.specs.Laws.ListLaws.{map-same}
+use Rattle.plain.specs.Compaction.{rank, survivors, surviving-list, source-of, target-of}
+use Rattle.plain.specs.Laws.Booleans.{and-left}
+use Rattle.plain.specs.Laws.ListLaws.{map-same, joined-member, member-getD-map}
 use Rattle.plain.specs.Laws.WellFormed.{Incident, WellFormed}
 use Rattle.plain.specs.Laws.Operating.{incident}
 use Rattle.plain.specs.Laws.Compacting.{survivors-sound, length-surviving-edges}
@@ -88,40 +90,59 @@ settled-well-formed {caps} {s} h = record {
     each Outgoing e q = h .walks .ends-live Outgoing e q
     each Incoming e q = h .walks .ends-live Incoming e q
 
--- its flags are the shape's
-pub settled-node-flags : (s : Shape) → node-flags (settled s) ≡ node-flags-of s
-unfolding settled
-settled-node-flags s = refl
+-- their flags are the store's
+module _ (w : Words) where
+  pub settled-node-flags : node-flags (settled (shape-of w)) ≡ node-live w
+  unfolding settled
+  settled-node-flags = node-flags-are w
 
-pub settled-edge-flags : (s : Shape) → edge-flags (settled s) ≡ edge-flags-of s
-unfolding settled
-settled-edge-flags s = refl
+  pub settled-edge-flags : edge-flags (settled (shape-of w)) ≡ edge-live w
+  unfolding settled
+  settled-edge-flags = edge-flags-are w
 
--- ---- as many entries as there are live edges
+-- ---- the lists of the live nodes of well-formed plain lists
 
--- a map of each list leaves the length of all
-mapped-size : (f : ℕ → ℕ) (list : ℕ → List ℕ) (xs : List ℕ) → length (joined (map (λ x. map f (list x)) xs)) ≡ length (joined (map list xs))
+-- each list mapped, joined, is all of them joined, mapped
+joined-mapped : (f : ℕ → ℕ) (list : ℕ → List ℕ) (xs : List ℕ) → map f (joined (map list xs)) ≡ joined (map (λ x. map f (list x)) xs)
 unfolding joined
-mapped-size f list [] = refl
-mapped-size f list (x ∷ xs) =
-    let rest = mapped-size f list xs in
-    let head = length-map (list x) f in
-    simp length-append (omega arith)
+joined-mapped f list [] = refl
+joined-mapped f list (x ∷ xs) = map-append f (list x) (joined (map list xs)) ∙ ap (λ (l : List ℕ). map f (list x) ++ l) (joined-mapped f list xs)
 
--- the lists of the live nodes of well-formed lists, within the limit
+module _ (p : Plain) (d : TraversalDirection) where
+  abbrev live-lists : List ℕ
+  live-lists = joined (map (list-of d p) (live-slots (node-flags p)))
+
+  -- the lists of the live nodes by new numbers are those that survive
+  pub renumbered-lists : map (rank (edge-flags p)) live-lists ≡ joined (map (surviving-list d p) (live-slots (node-flags p)))
+  renumbered-lists = joined-mapped (rank (edge-flags p)) (list-of d p) (live-slots (node-flags p))
+
+  renumbered-size : length live-lists ≡ length (joined (map (surviving-list d p) (live-slots (node-flags p))))
+  renumbered-size = sym (length-map live-lists (rank (edge-flags p))) ∙ ap length renumbered-lists
+
+  -- and only live edges are in them
+  pub live-entries : {caps : Capacities} → WellFormed caps p → (e : ℕ) → In e live-lists → getD (edge-flags p) e false ≡ true
+  live-entries h e m =
+      let slots = live-slots (node-flags p) in
+      let found = joined-member e (map (list-of d p) slots) m in
+      let x = getD slots (found .0) 0 in
+      and-left (getD (edge-flags p) e false) (eqb (end-of d p e) x)
+      (sym (incident h d .listed x e) ∙ member-getD-map (list-of d p) slots (found .0) e (found .1) .1)
+
+-- they have an entry a live edge
 well-formed-total : {caps : Capacities} {p : Plain} → WellFormed caps p → caps .nodes ≤ LIMIT → caps .edges ≤ LIMIT → (d : TraversalDirection)
     → length (joined (map (list-of d p) (live-slots (node-flags p)))) ≡ live-count (edge-flags p)
 unfolding survivors
 well-formed-total {caps} {p} h few-nodes few-edges Outgoing =
-    sym (mapped-size (rank (edge-flags p)) (list-of Outgoing p) (live-slots (node-flags p)))
-    ∙ fitted-joined (survivors-sound caps p h few-nodes few-edges .outs) ∙ length-map (survivors p .edges) source-of ∙ length-surviving-edges p
+    renumbered-size p Outgoing ∙ fitted-joined (survivors-sound caps p h few-nodes few-edges .outs)
+    ∙ length-map (survivors p .edges) source-of ∙ length-surviving-edges p
 well-formed-total {caps} {p} h few-nodes few-edges Incoming =
-    sym (mapped-size (rank (edge-flags p)) (list-of Incoming p) (live-slots (node-flags p)))
-    ∙ fitted-joined (survivors-sound caps p h few-nodes few-edges .ins) ∙ length-map (survivors p .edges) target-of ∙ length-surviving-edges p
+    renumbered-size p Incoming ∙ fitted-joined (survivors-sound caps p h few-nodes few-edges .ins)
+    ∙ length-map (survivors p .edges) target-of ∙ length-surviving-edges p
 
 -- ---- a checked store
 
-settled-direction : (s : Shape) (d : TraversalDirection) → incidence d (settled s) ≡ incidence-by (settled-walk (edge-flags-of s)) (node-flags-of s) (axis-in d s)
+settled-direction : (s : Shape) (d : TraversalDirection)
+    → incidence d (settled s) ≡ incidence-by (settled-walk (edge-flags-of s)) (node-flags-of s) (axis-in d s)
 unfolding settled
 settled-direction s Outgoing = refl
 settled-direction s Incoming = refl
@@ -156,19 +177,36 @@ settled-lists-are w d = ap joined (map-same
         sym (settled-list w d x node ∙ rw live)
 
 module _ {w : Words} (k : Checked w) (d : TraversalDirection) where
+  abbrev lists : List ℕ
+  lists = settled-lists (axis-words d w) (length (w .edges)) (length (w .nodes)) (w .counts) (w .live-nodes) (w .live-edges)
+
+  -- by new numbers they are those that survive
+  pub lists-renumbered : map (rank (edge-live w)) lists ≡ joined (map (surviving-list d (settled (shape-of w))) (live-slots (node-live w)))
+  lists-renumbered =
+      rw (settled-lists-are w d)
+      (rw (settled-node-flags w, settled-edge-flags w) at (renumbered-lists (settled (shape-of w)) d))
+
+  -- they hold only live edges
+  pub lists-live : (e : ℕ) → In e lists → getD (edge-live w) e false ≡ true
+  lists-live e m =
+      let p = settled (shape-of w) in
+      rw (settled-edge-flags w) at
+      (live-entries p d (settled-well-formed (checked-proper w k)) e
+      (ap (λ (flags : List Bool). member e (joined (map (list-of d p) (live-slots flags)))) (settled-node-flags w)
+      ∙ ap (member e) (sym (settled-lists-are w d)) ∙ m))
+
   -- they have an entry a live edge
-  pub lists-total : length (settled-lists (axis-words d w) (length (w .edges)) (length (w .nodes)) (w .counts) (w .live-nodes) (w .live-edges))
-      ≡ live-count (edge-live w)
+  pub lists-total : length lists ≡ live-count (edge-live w)
   lists-total =
       let proper = checked-proper w k in
       let total = well-formed-total (settled-well-formed proper) (k .axis d .sized .nodes-within) (k .axis d .sized .edges-within) d in
       ap length (settled-lists-are w d)
-      ∙ rw (settled-node-flags (shape-of w), node-flags-are w, settled-edge-flags (shape-of w), edge-flags-are w) at total
+      ∙ rw (settled-node-flags w, settled-edge-flags w) at total
 
   -- so they can be written where there is room for the live edges
-  pub checked-lists-fit : {out : List ℕ} → live-count (edge-live w) ≤ length out
+  pub checked-writable : {out : List ℕ} → live-count (edge-live w) ≤ length out
       → ListsFit (axis-words d w) (length (w .edges)) (length (w .nodes)) (w .counts) (w .live-nodes) (w .live-edges) out
-  checked-lists-fit room = record {
+  checked-writable room = record {
     walkable = λ x node. checked-walkable k d x node;
     once = λ x node. ap distinct (sym (list-is-walk w d x node)) ∙ incident (k .walks) d .once x;
     live-long = let long = k .live-nodes-long in let bounded = k .nodes in omega arith;
