@@ -29,13 +29,14 @@ use Rattle.shape.specs.Checked.{LiveRight, AxisChecked, Checked, Reached}
 use Rattle.shape.specs.Steps.{state-of}
 use Rattle.shape.specs.Laws.Indexing.{Rewritten, ends-of}
 use Rattle.shape.specs.Laws.NewBase.{NewBase, new-axis, new-checked}
-use Rattle.shape.specs.Laws.Reading.{node-flags-are, edge-flags-are, plain-end}
+use Rattle.shape.specs.Laws.CheckedShape.{checked-proper}
+use Rattle.shape.specs.Laws.Reading.{plain-end}
 use Rattle.relocate.specs.Stores.{checked-end}
 use Rattle.store.specs.Reads.{node-at, edge-at}
 use Rattle.store.specs.Acting.{shape-ext}
 use Rattle.compact.specs.Survivors.{shape-of-survivors, survivors-plain, survivors-state, survivors-reached}
-use Rattle.compact.specs.Settled.{settled-well-formed}
 use Rattle.compact.specs.Slots.{kept-word, rewritten-through}
+use Rattle.compact.specs.ListsStore.{settled-well-formed, settled-node-flags, settled-edge-flags}
 use Rattle.compact.specs.Bases.{Compactable, AxisCompacted, rebuildable, rebuilt-base}
 use Rattle.compact.specs.Dropping.{based, node-count, edge-count, Droppable, Dropped, axis-compactable, first-half, drop-room}
 
@@ -102,15 +103,7 @@ module _ {ws : List ℕ} {ce cn : ℕ} {live : List ℕ} {bound : ℕ} {node-map
 
 -- ---- the store
 
--- what compaction sees has the store's slots and ends
-seen-nodes : (w : Words) → node-flags (settled (shape-of w)) ≡ node-live w
-unfolding settled
-seen-nodes w = node-flags-are w
-
-seen-edges : (w : Words) → edge-flags (settled (shape-of w)) ≡ edge-live w
-unfolding settled
-seen-edges w = edge-flags-are w
-
+-- what compaction sees has the store's ends
 seen-end : (w : Words) (d : TraversalDirection) (e : ℕ) → e < w .counts .edges .bound → end-of d (settled (shape-of w)) e ≡ end-at (axis-words d w) e
 unfolding settled plain-of
 seen-end w Outgoing e l = plain-end w Outgoing e l
@@ -130,27 +123,27 @@ module _ {w : Words} {node-map work : List ℕ} {v : Words} (pre : Droppable w n
   few-edges = pre .checked .axis Outgoing .sized .edges-within
 
   pub left-sound : Sound left
-  left-sound = survivors-sound (capacities w) seen (settled-well-formed (shape-of w) (pre .checked .walks)) few-nodes few-edges
+  left-sound = survivors-sound (capacities w) seen (settled-well-formed (checked-proper w (pre .checked))) few-nodes few-edges
 
   pub left-nodes : length (left .nodes) ≡ w .counts .nodes .live
-  left-nodes = length-surviving-nodes seen ∙ ap live-count (seen-nodes w) ∙ sym (pre .checked .nodes-live .live-right)
+  left-nodes = length-surviving-nodes seen ∙ ap live-count (settled-node-flags w) ∙ sym (pre .checked .nodes-live .live-right)
 
   pub left-edges : length (left .edges) ≡ w .counts .edges .live
-  left-edges = length-surviving-edges seen ∙ ap live-count (seen-edges w) ∙ sym (pre .checked .edges-live .live-right)
+  left-edges = length-surviving-edges seen ∙ ap live-count (settled-edge-flags w) ∙ sym (pre .checked .edges-live .live-right)
 
   -- the new number of a live edge's end
   new-end : (d : TraversalDirection) (e : ℕ) → getD (edge-live w) e false ≡ true
       → getD node-map (end-at (axis-words d w) e) 0 ≡ rank (node-flags seen) (end-of d seen e)
   new-end d e l =
       pre .mapped (end-at (axis-words d w) e) (checked-end (pre .checked) d e l)
-      ∙ ap₂ rank (sym (seen-nodes w)) (sym (seen-end w d e (slot-low (w .live-edges) (w .counts .edges .bound) e l)))
+      ∙ ap₂ rank (sym (settled-node-flags w)) (sym (seen-end w d e (slot-low (w .live-edges) (w .counts .edges .bound) e l)))
 
   ends-left : (d : TraversalDirection) → map (λ e. getD node-map (end-at (axis-words d w) e) 0) (live-slots (edge-live w))
       ≡ map (λ e. rank (node-flags seen) (end-of d seen e)) (live-slots (edge-flags seen))
   ends-left d =
       map-same (λ e. getD node-map (end-at (axis-words d w) e) 0) (λ e. rank (node-flags seen) (end-of d seen e)) (live-slots (edge-live w))
       (λ e m. new-end d e (sym (member-live-slots (edge-live w) e) ∙ m))
-      ∙ ap (λ (f : List Bool). map (λ e. rank (node-flags seen) (end-of d seen e)) (live-slots f)) (sym (seen-edges w))
+      ∙ ap (λ (f : List Bool). map (λ e. rank (node-flags seen) (end-of d seen e)) (live-slots f)) (sym (settled-edge-flags w))
 
   sources-left : map (λ e. getD node-map (end-at (w .outgoing) e) 0) (live-slots (edge-live w)) ≡ map source-of (left .edges)
   unfolding survivors
@@ -204,7 +197,7 @@ module _ {w : Words} {node-map work : List ℕ} {v : Words} (pre : Droppable w n
         ∙ kept-slots node-slot flags (node-live v) (r .nodes) (all-nodes ∙ ap (λ (n : ℕ). replicate n true) (pre .checked .nodes-live .live-right))
         ∙ map-same (λ x. kept-node (getD (w .nodes) x 0)) (λ x. kept-node (payload x)) (live-slots flags)
         (λ x m. ap kept-node (sym (node-at w x (slot-low (w .live-nodes) (w .counts .nodes .bound) x (sym (member-live-slots flags x) ∙ m)))))
-        ∙ ap (λ (f : List Bool). map (λ x. kept-node (payload x)) (live-slots f)) (sym (seen-nodes w))
+        ∙ ap (λ (f : List Bool). map (λ x. kept-node (payload x)) (live-slots f)) (sym (settled-node-flags w))
         ∙ sym (map-map kept-node payload (live-slots (node-flags seen)))
 
     -- the edge slots
@@ -217,7 +210,7 @@ module _ {w : Words} {node-map work : List ℕ} {v : Words} (pre : Droppable w n
         ∙ kept-slots edge-slot flags (edge-live v) (r .edges) (all-edges ∙ ap (λ (n : ℕ). replicate n true) (pre .checked .edges-live .live-right))
         ∙ map-same (λ e. edge-slot (getD (w .edges) e 0) true) (λ e. edge-slot (payload e) true) (live-slots flags)
         (λ e m. ap (λ (p : ℕ). edge-slot p true) (sym (edge-at w e (slot-low (w .live-edges) (w .counts .edges .bound) e (sym (member-live-slots flags e) ∙ m)))))
-        ∙ ap (λ (f : List Bool). map (λ e. edge-slot (payload e) true) (live-slots f)) (sym (seen-edges w))
+        ∙ ap (λ (f : List Bool). map (λ e. edge-slot (payload e) true) (live-slots f)) (sym (settled-edge-flags w))
         ∙ sym (map-map kept-edge (surviving-edge seen) (live-slots (edge-flags seen)))
 
     -- the shape is that of the survivors

@@ -1,9 +1,9 @@
 pub mod Survivors
-pub mod Settled
 pub mod Slots
 pub mod Lists
 pub mod ListsSettled
 pub mod ListsStore
+pub mod Working
 pub mod Bases
 pub mod Dropping
 pub mod Compacted

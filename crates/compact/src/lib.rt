@@ -7,8 +7,11 @@ pub mod slots;
 use liveness;
 use plain::Counts;
 use plain::Slots;
-ghost use Rattle.shape.specs.Shape.{store};
 ghost use mathlib.Core.Path.{_≡_};
+ghost use Rattle.plain.specs.Lists.{written};
+ghost use Rattle.plain.specs.Compaction.{survivors, adjacency};
+ghost use Rattle.shape.specs.Shape.{store, shape-of, settled};
+ghost use Rattle.compact.specs.Working.{Workable};
 ghost use Rattle.compact.specs.Dropping.{based, Droppable, Dropped};
 
 // The counts of slots that are all live and all in the base.
@@ -20,6 +23,46 @@ fn all_based(count: u32) -> Slots
         base: count,
         live: count,
     }
+}
+
+// Writes the lists of the live nodes of both directions, by the edges' new numbers, to the start of `work`: "the new out adjacency, then the in adjacency".
+fn write_work(
+    counts: Counts,
+    nodes: &[u32],
+    edges: &[u32],
+    live_nodes: &[u64],
+    live_edges: &[u64],
+    outgoing: &[u32],
+    incoming: &[u32],
+    edge_map: &[u32],
+    work: &mut [u32],
+)
+    requires { ⌜ Workable (store counts (now nodes) (now edges) (now «live_nodes») (now «live_edges») (now outgoing) (now incoming)) (now «edge_map») (now work) ⌝ }
+    ensures { λ _. ⌜ now (work .exit) ≡ written (adjacency (survivors (settled (shape-of
+        (store counts (now (nodes .entry)) (now (edges .entry)) (now («live_nodes» .entry)) (now («live_edges» .entry)) (now (outgoing .entry)) (now (incoming .entry)))))))
+        (now (work .entry)) ⌝ }
+{
+    let edge_slots = counts.edges;
+    let m = edge_slots.live as usize;
+    lists::write_lists(
+        outgoing,
+        edges.len(),
+        nodes.len(),
+        counts,
+        live_nodes,
+        live_edges,
+        work,
+    );
+    lists::write_lists(
+        incoming,
+        edges.len(),
+        nodes.len(),
+        counts,
+        live_nodes,
+        live_edges,
+        &mut work[m..],
+    );
+    slots::translate(work, 2 * m, edge_map);
 }
 
 // Drops the dead slots of a store: both directions are compacted, the payloads move down, and every slot is live. The node map is there, and the work slice holds
