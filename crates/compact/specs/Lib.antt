@@ -6,6 +6,7 @@ pub mod ListsStore
 pub mod Working
 pub mod Bases
 pub mod Dropping
+pub mod Settling
 pub mod Compacted
 pub mod Calls
 pub mod Again
