@@ -10,3 +10,4 @@ pub mod Settling
 pub mod Compacted
 pub mod Calls
 pub mod Again
+pub mod Entry
