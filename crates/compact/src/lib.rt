@@ -210,7 +210,7 @@ pub fn compact(
     }
     let node_slots = counts.nodes;
     let edge_slots = counts.edges;
-    let needed = edge_slots.live as usize * 2;
+    let needed = 2 * edge_slots.live as usize;
     if node_map.len() < node_slots.bound as usize {
         return Changed {
             number: numbers::TOO_SHORT,
