@@ -122,6 +122,12 @@ compacting none s =
 unfoldable pub compaction : State → ℕ → ℕ → ℕ → Compacted
 compaction s node-map edge-map work = compacting (first-short (compaction-slices (s .lists) node-map edge-map work)) s
 
+-- "Words are no store: 1 .. everything"
+abbrev pub judged-compaction : ℕ → State → Compacted → Compacted
+judged-compaction zero s compacted = compacted
+judged-compaction (suc rule) s compacted =
+    record { number = no-store; value = suc rule; node-map = []; edge-map = []; work = []; after = s }
+
 -- ---- the image
 
 -- "Only compact stores have one. Writing: 1, 11, 2."

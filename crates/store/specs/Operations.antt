@@ -2,7 +2,7 @@
 -- shape's own step makes of it, the store is checked again, and every slice is as long as it was. That the plain lists are then those of document 01 is
 -- `step-refines` of crate `shape`.
 use Prim.Native.Nat.{ℕ, _+_, _-_, _≤_, _<_}
-use mathlib.Core.Path.{_≡_}
+use mathlib.Core.Path.{_≡_, refl}
 use mathlib.Core.Bool.{Bool, true, false}
 use mathlib.Core.List.{List, []}
 use mathlib.Core.Logic.{_≢_}
@@ -27,6 +27,9 @@ pub record SameLengths (w v : Words) : Type 0 where
   pub live-edges : length (v .live-edges) ≡ length (w .live-edges)
   pub outgoing : length (v .outgoing) ≡ length (w .outgoing)
   pub incoming : length (v .incoming) ≡ length (w .incoming)
+
+pub same-lengths : (w : Words) → SameLengths w w
+same-lengths w = record { nodes = refl; edges = refl; live-nodes = refl; live-edges = refl; outgoing = refl; incoming = refl }
 
 -- The operation was done.
 pub record Acted (operation : Operation) (w v : Words) : Type 0 where

@@ -21,14 +21,14 @@ use Rattle.adjacency.specs.StoreWalks.{list-is-walk}
 
 module _ (w : Words) where
   -- the payload of a node slot
-  node-at : (x : ℕ) → x < w .counts .nodes .bound → getD (shape-of w .nodes) x no-node .payload ≡ getD (w .nodes) x 0
+  pub node-at : (x : ℕ) → x < w .counts .nodes .bound → getD (shape-of w .nodes) x no-node .payload ≡ getD (w .nodes) x 0
   unfolding shape-of
   node-at x l =
       ap (λ (s : NodeSlot). s .payload)
       (made-at (λ x. record { payload = getD (w .nodes) x 0; live = getD (node-live w) x false }) (w .counts .nodes .bound) x no-node l)
 
   -- the payload of an edge slot
-  edge-at : (e : ℕ) → e < w .counts .edges .bound → getD (shape-of w .edges) e no-edge .payload ≡ getD (w .edges) e 0
+  pub edge-at : (e : ℕ) → e < w .counts .edges .bound → getD (shape-of w .edges) e no-edge .payload ≡ getD (w .edges) e 0
   unfolding shape-of
   edge-at e l =
       ap (λ (s : EdgeSlot). s .payload)

@@ -18,7 +18,7 @@ use Rattle.shape.specs.Laws.CheckedShape.{checked-proper, checked-based}
 use Rattle.shape.specs.Laws.Reaching.{step-reached}
 use Rattle.shape.specs.Laws.Running.{step-state}
 use Rattle.shape.specs.Laws.Reading.{node-flags-are, edge-flags-are, node-bound-is, edge-bound-is}
-use Rattle.store.specs.Operations.{Acted, SameLengths}
+use Rattle.store.specs.Operations.{Acted, SameLengths, same-lengths}
 
 -- what document 01 says of an operation on a store
 abbrev pub outcome : Words → Operation → Outcome
@@ -80,9 +80,6 @@ unfolding plain-of
 edge-bound-of w = edge-bound-is w
 
 -- ---- the two ways an operation ends
-
-pub same-lengths : (w : Words) → SameLengths w w
-same-lengths w = record { nodes = refl; edges = refl; live-nodes = refl; live-edges = refl; outgoing = refl; incoming = refl }
 
 -- it is refused, or done with nothing to change: every word stays
 pub stays : {operation : Operation} {w : Words} {o : Outcome} → Checked w → Case (capacities w) (lists w) operation o → acts operation o ≡ false

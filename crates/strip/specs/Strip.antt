@@ -22,8 +22,8 @@ use Rattle.shape.specs.Steps.{shape-step, shape-run, state-of}
 use Rattle.shape.specs.Laws.Running.{shape-run-snoc}
 use Rattle.shape.specs.Laws.Judging.{Payloads, unbroken-checked}
 use Rattle.adjacency.specs.Reading.{write-one}
-use Rattle.store.specs.Operations.{SameLengths}
-use Rattle.strip.specs.Step.{StepOf, outcome, same-lengths, step-lists, step-keeps}
+use Rattle.store.specs.Operations.{SameLengths, same-lengths}
+use Rattle.strip.specs.Step.{StepOf, outcome, step-lists, step-keeps}
 
 -- What it takes to run a strip: a checked store, and two words of answer for every operation.
 pub record Runnable (w : Words) (words answers : List ℕ) : Type 0 where

@@ -29,10 +29,10 @@ pub record AllLive (p : Plain) : Type 0 where
   pub edges : edge-flags p ≡ replicate (edge-bound p) true
 
 -- flags that are all live: each slot below the length is, and its rank is itself
-live-slot : (flags : List Bool) (n x : ℕ) → flags ≡ replicate n true → x < n → getD flags x false ≡ true
+pub live-slot : (flags : List Bool) (n x : ℕ) → flags ≡ replicate n true → x < n → getD flags x false ≡ true
 live-slot flags n x e l = rw (e, live-all-live n x) (lt-ltb x n l)
 
-own-rank : (flags : List Bool) (n x : ℕ) → flags ≡ replicate n true → x < n → rank flags x ≡ x
+pub own-rank : (flags : List Bool) (n x : ℕ) → flags ≡ replicate n true → x < n → rank flags x ≡ x
 own-rank flags n x e l = rw e (rank-all-live n x (omega arith))
 
 -- two slots are equal whose payloads and flags are

@@ -73,7 +73,7 @@ from-least : (e a n : ℕ) → In e (from a n) → a ≤ e
 from-least e a n m = leb-true a e (and-left (leb a e) (ltb e (a + n)) (sym (member-from e a n) ∙ m))
 
 -- an ascending list without repeats, of entries from a up to a + n, is what is picked of these numbers
-slot-order : (n a : ℕ) (l : List ℕ) → ascends l ≡ true → distinct l ≡ true → ((e : ℕ) → In e l → a ≤ e) → ((e : ℕ) → In e l → e < a + n)
+pub slot-order : (n a : ℕ) (l : List ℕ) → ascends l ≡ true → distinct l ≡ true → ((e : ℕ) → In e l → a ≤ e) → ((e : ℕ) → In e l → e < a + n)
     → keep (λ e. member e l) (from a n) ≡ l
 unfolding keep from member
 slot-order zero a [] h k low high = refl

@@ -1,0 +1,27 @@
+-- `base::compact_axis` meets its contract: the ends are moved down and renumbered, and the base is rebuilt on them.
+use borrow.Author.Needs.{needs}
+use Rattle.compact.specs.Bases.{translatable, rebuildable, compacted}
+use Rattle.compact.proofs.base.compact_axis.Statement.{statement}
+use Rattle.compact.proofs.base.compact_axis.Tie as tie
+
+abbrev entry : tie.After-keep-live → tie.Start
+entry c = c .before .before .before .before .before .before
+
+translate-requires : tie.Need-translate-requires
+translate-requires c κs = let keep = c .before .before .before in translatable (entry keep .pre) (keep .keep-live .ensures)
+
+rebuild-requires : tie.Need-rebuild-requires
+rebuild-requires c κs =
+    let translate = c .before .before .before in
+    let keep = translate .before .before .before .before in
+    rebuildable (entry keep .pre) (keep .keep-live .ensures) (translate .translate .ensures)
+
+returns : tie.Need-returns
+returns c =
+    let rebuild = c .before .before in
+    let translate = rebuild .before .before .before .before in
+    let keep = translate .before .before .before .before in
+    compacted (entry keep .pre) (keep .keep-live .ensures) (translate .translate .ensures) (rebuild .rebuild .ensures)
+
+pub compact-axis-spec : {M : Type 1} → statement M
+compact-axis-spec = tie.close (tie.spec (λ c κs. search needs) translate-requires rebuild-requires (λ c. search needs) returns)

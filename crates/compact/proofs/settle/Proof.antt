@@ -1,0 +1,77 @@
+-- `settle` meets its contract: the maps, the work slice, then the store.
+use borrow.Author.Needs.{needs}
+use Rattle.compact.specs.Settling.{nodes-map-fits, edges-map-fits, workable, droppable}
+use Rattle.compact.proofs.settle.Statement.{statement}
+use Rattle.compact.proofs.settle.Tie as tie
+
+-- the entry, and the calls, each from the next one
+abbrev entry : tie.After-write-map → tie.Start
+entry c = c .before .before .before .before .before .before .before .before .before .before .before .before .before .before .before
+
+abbrev numbered-nodes : tie.After-write-map2 → tie.After-write-map
+numbered-nodes c = c .before .before .before .before .before .before
+
+abbrev numbered-edges : tie.After-write-work → tie.After-write-map2
+numbered-edges c = c .before .before .before .before .before .before .before .before .before .before .before
+
+abbrev worked : tie.After-drop-dead → tie.After-write-work
+worked c = c .before .before .before .before .before .before .before .before .before .before .before
+
+write-map-requires : tie.Need-write-map-requires
+write-map-requires c κs =
+    nodes-map-fits (c .before .before .before .before .before .before .before .before .before .before .before .before .before .before .pre)
+
+write-map-requires-2 : tie.Need-write-map-requires-2
+write-map-requires-2 c κs = edges-map-fits (entry (c .before .before .before .before .before) .pre)
+
+write-work-requires : tie.Need-write-work-requires
+write-work-requires c κs =
+    let edges = c .before .before .before .before .before .before .before .before .before .before in
+    workable (entry (numbered-nodes edges) .pre) (edges .write-map2 .ensures)
+
+drop-dead-requires : tie.Need-drop-dead-requires
+drop-dead-requires c κs =
+    let work = c .before .before .before .before .before .before .before .before .before .before in
+    let nodes = numbered-nodes (numbered-edges work) in
+    droppable (entry nodes .pre) (nodes .write-map .ensures) (work .write-work .kept .1 .1 .1 .1 .1 .1 .1 .1 .0)
+
+same-length-7 : tie.Need-same-length-7
+same-length-7 c =
+    numbered-nodes (numbered-edges (worked (c .before .before .before .before .before .before .before .before .before .before .before .before))) .write-map .kept .1 .1 .0
+
+same-length-8 : tie.Need-same-length-8
+same-length-8 c = numbered-edges (worked (c .before .before .before .before .before .before .before .before .before .before .before .before)) .write-map2 .kept .1 .1 .0
+
+returns : tie.Need-returns
+returns c =
+    let drop = c .before .before .before .before .before .before .before .before .before .before .before .before in
+    let work = worked drop in
+    let edges = numbered-edges work in
+    let nodes = numbered-nodes edges in
+    record {
+      node-mapped = nodes .write-map .ensures;
+      edge-mapped = edges .write-map2 .ensures;
+      worked = work .write-work .ensures;
+      dropped = drop .drop-dead .ensures;
+    }
+
+pub settle-spec : {M : Type 1} → statement M
+settle-spec =
+    tie.close
+    (tie.spec
+    (λ c. search needs)
+    write-map-requires
+    (λ c. search needs)
+    write-map-requires-2
+    write-work-requires
+    drop-dead-requires
+    (λ c. search needs)
+    (λ c. search needs)
+    (λ c. search needs)
+    (λ c. search needs)
+    (λ c. search needs)
+    (λ c. search needs)
+    same-length-7
+    same-length-8
+    (λ c. search needs)
+    returns)

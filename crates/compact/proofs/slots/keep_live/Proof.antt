@@ -1,0 +1,60 @@
+-- `compact::slots::keep_live` meets its contract. The loop's invariant: the words of the live slots passed stand at the front, in slot order, all others are as
+-- they were. No live slot's word is overwritten before it is moved, as a slot's rank is at most its number. The measure is the number of slots left.
+use Prim.Native.Nat.{_-_}
+use mathlib.Core.Path.{sym, _∙_}
+use native.Mathlib.Omega.{arith}
+use borrow.Author.Needs.{needs}
+use Rattle.liveness.specs.Flags.{live-flags}
+use Rattle.shape.specs.Laws.Indexing.{Rewritten, rewritten-none}
+use Rattle.compact.specs.Slots.{kept-word}
+use Rattle.compact.proofs.slots.Turns.{rewritten-next, Passed, passed-none, passed-live, passed-dead, kept-live, kept-all}
+use Rattle.compact.proofs.slots.keep_live.Statement.{statement}
+use Rattle.compact.proofs.slots.keep_live.Tie as tie
+
+abbrev Inv-loop : tie.InvT-loop
+Inv-loop words₀ live bound to₀ slot₀ words to slot =
+    Passed live bound slot to × Rewritten words₀ words 0 to (kept-word words₀ (live-flags live bound))
+
+abbrev μ-loop : tie.MeasureT-loop
+μ-loop words₀ live bound to₀ slot₀ words to slot = bound - slot
+
+loop-holds : tie.Need-loop-holds Inv-loop μ-loop
+loop-holds c = (passed-none _ _, rewritten-none _ _ _)
+
+loop-again : tie.Need-loop-again Inv-loop μ-loop
+loop-again c =
+    let turn = c .before .before .before in
+    let s = turn .before in
+    let alive = sym (c .before .before .is-live .ensures) ∙ c .before .if1 .taken in
+    let passed = s .loop .inv .0 in
+    (passed-live passed (turn .loop-test .taken) alive, rewritten-next _ (s .loop .inv .1) (omega arith) (kept-live passed (s .loop .inv .1) alive))
+
+loop-again-2 : tie.Need-loop-again-2 Inv-loop μ-loop
+loop-again-2 c =
+    let turn = c .before .before in
+    let s = turn .before in
+    (passed-dead (s .loop .inv .0) (turn .loop-test .taken) (sym (c .before .is-live .ensures) ∙ c .if1 .left), s .loop .inv .1)
+
+returns : tie.Need-returns Inv-loop μ-loop
+returns c = kept-all (c .before .loop .inv .0) (c .before .loop .inv .1) (c .loop-test .left)
+
+pub keep-live-spec : {M : Type 1} → statement M
+keep-live-spec =
+    tie.close
+    (tie.spec
+    Inv-loop
+    μ-loop
+    loop-holds
+    (λ c. omega arith)
+    (λ c κs. search needs)
+    (λ c. omega arith)
+    (λ c. omega arith)
+    (λ c. omega arith)
+    (λ c. omega arith)
+    (λ c. omega arith)
+    (λ c. omega arith)
+    loop-again
+    (λ c. omega arith)
+    loop-again-2
+    (λ c. c .before .loop .inv .1 .long)
+    returns)

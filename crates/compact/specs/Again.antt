@@ -1,0 +1,263 @@
+-- Compacting again changes nothing: what compaction leaves is settled, and compacting a settled store leaves every word as it was.
+use Prim.Native.Nat.{ℕ, _+_, _*_, _≤_, _<_}
+use mathlib.Core.Path.{_≡_, refl, sym, ap, ap₂, subst, subst₂, _∙_}
+use mathlib.Core.Bool.{true}
+use mathlib.Core.Logic.{⊎-elim}
+use mathlib.Core.List.{List, [], map, _++_}
+use native.Mathlib.Omega.{arith}
+use native.Mathlib.Nat.{zero-add}
+use lib.ListN.{length, getD, take, drop, replicate, List·getD-eq-default}
+use lib.Seq.{drop-append-seam, getD-take}
+use Rattle.plain.specs.declared.TraversalDirection.{TraversalDirection}
+use Rattle.plain.specs.declared.TraversalDirection.the-variants.{Outgoing, Incoming}
+use Rattle.plain.specs.declared.Slots.{Slots}
+use Rattle.plain.specs.declared.Counts.{Counts}
+use Rattle.plain.specs.Lists.{joined, from, member, written}
+use Rattle.plain.specs.Plain.{Plain, node-bound, list-of}
+use Rattle.plain.specs.Compaction.{Survivors, survivors, of-survivors, compacted}
+use Rattle.plain.specs.Laws.AllLive.{AllLive, live-slot, own-rank, compacted-same}
+use Rattle.plain.specs.Laws.Booleans.{below-or-not}
+use Rattle.plain.specs.Laws.ListLaws.{map-getD, getD-map, length-from, getD-from}
+use Rattle.plain.specs.Laws.WellFormed.{Fitted}
+use Rattle.plain.specs.Laws.Fitting.{fitted-many}
+use Rattle.liveness.specs.Flags.{live-flags}
+use Rattle.liveness.specs.Calls.{Reset, all-live}
+use Rattle.shape.specs.Columns.{cell, end-at}
+use Rattle.shape.specs.Chains.{ring}
+use Rattle.shape.specs.Shape.{Words, Adjacency, capacities, node-live, edge-live, axis-words, ring-of, axis-in, adjacency-of, no-adjacency, shape-of, plain-of, ascends, settled, lists}
+use Rattle.shape.specs.Checked.{Checked, Reached}
+use Rattle.shape.specs.Laws.Chains.{in-none}
+use Rattle.shape.specs.Laws.CheckedShape.{checked-proper}
+use Rattle.shape.specs.Laws.Settling.{settled-is-plain}
+use Rattle.shape.specs.Laws.Reading.{shape-adjacency, axis-is, axis-nodes, node-flags-are, edge-flags-are, node-bound-is, edge-bound-is}
+use Rattle.shape.specs.Laws.Indexing.{Rewritten, before, ends-of}
+use Rattle.shape.specs.Laws.NewBase.{NewBase}
+use Rattle.compact.specs.Survivors.{survivors-plain}
+use Rattle.compact.specs.Slots.{kept-word, rewritten-same, kept-all-live}
+use Rattle.compact.specs.Bases.{Compactable, AxisCompacted}
+use Rattle.compact.specs.Dropping.{based, Droppable, Dropped, axis-compactable, first-half, drop-room}
+use Rattle.compact.specs.Compacted.{left-sound, left-nodes, left-edges, nodes-bound, edges-bound, out-base, in-base-of, dropped-shape}
+use Rattle.compact.specs.Calls.{AxisSettled, Settled}
+
+-- words whose slots were all made live are those words
+reset-same : {entry exit : List ℕ} {slots : ℕ} → Reset entry slots exit → Reset exit slots exit
+reset-same {entry} {exit} {slots} p = record {
+  flags = p .flags;
+  packs = p .packs;
+  words = p .words ∙ ap (λ (l : List ℕ). all-live slots ++ l) (sym (drop-append-seam (all-live slots) (drop (length (all-live slots)) entry)))
+      ∙ sym (ap (λ (l : List ℕ). all-live slots ++ drop (length (all-live slots)) l) (p .words));
+}
+
+-- a new base is settled
+axis-settled : {ws : List ℕ} {ce cn : ℕ} {counts : Counts} {ends : List ℕ} {ls : List (List ℕ)} → NewBase ws ce cn counts ends ls
+    → AxisSettled ws ce cn (counts .nodes .bound) (counts .edges .bound) (joined ls)
+axis-settled {ws} {ce} {cn} {counts} {ends} b =
+    let there : ends-of ws (counts .edges .bound) ≡ ends = ap (ends-of ws) (b .edges-bound) ∙ b .built .ends-there in
+    record {
+      offsets = λ x h. b .built .offsets x h ∙ ap (λ (l : List ℕ). before l x) (sym there);
+      lists = ap (λ (m : ℕ). map (cell ws ce) (from 0 m)) (b .edges-bound) ∙ b .built .entries;
+      rings = b .rings;
+      marks = b .marks;
+    }
+
+-- the lists of all nodes are the lists
+all-lists : (n : ℕ) (ls : List (List ℕ)) → length ls ≡ n → map (λ x. getD ls x []) (from 0 n) ≡ ls
+all-lists n ls is = ap (λ (k : ℕ). map (λ x. getD ls x []) (from 0 k)) (sym is) ∙ map-getD ls []
+
+module _ {w : Words} {node-map work : List ℕ} {v : Words} (pre : Droppable w node-map work) (r : Dropped w node-map work v)
+    (outs : take (w .counts .edges .live) work ≡ joined (survivors (settled (shape-of w)) .outs))
+    (ins : take (w .counts .edges .live) (drop (w .counts .edges .live) work) ≡ joined (survivors (settled (shape-of w)) .ins)) where
+  abbrev left : Survivors
+  left = survivors (settled (shape-of w))
+
+  lists-left : lists v ≡ of-survivors left
+  lists-left = ap plain-of (dropped-shape pre r outs ins) ∙ survivors-plain left (left-sound pre r)
+
+  listed : (d : TraversalDirection) → map (list-of d (lists v)) (from 0 (v .counts .nodes .bound)) ≡ map (list-of d (of-survivors left)) (from 0 (length (left .nodes)))
+  listed d = ap₂ (λ (p : Plain) (n : ℕ). map (list-of d p) (from 0 n)) lists-left (nodes-bound pre r ∙ sym (left-nodes pre r))
+
+  directions : (d : TraversalDirection) → AxisSettled (axis-words d v) (length (v .edges)) (length (v .nodes)) (v .counts .nodes .bound) (v .counts .edges .bound)
+      (joined (map (list-of d (lists v)) (from 0 (v .counts .nodes .bound))))
+  unfolding of-survivors
+  directions Outgoing =
+      subst₂ (λ (ce cn : ℕ). AxisSettled (v .outgoing) ce cn (v .counts .nodes .bound) (v .counts .edges .bound)
+      (joined (map (list-of Outgoing (lists v)) (from 0 (v .counts .nodes .bound))))) (sym (r .lengths .edges)) (sym (r .lengths .nodes))
+      (subst (AxisSettled (v .outgoing) (length (w .edges)) (length (w .nodes)) (v .counts .nodes .bound) (v .counts .edges .bound))
+      (sym (ap joined (listed Outgoing ∙ all-lists (length (left .nodes)) (left .outs) (fitted-many (left-sound pre r .outs)))))
+      (axis-settled (out-base pre r outs ins)))
+  directions Incoming =
+      subst₂ (λ (ce cn : ℕ). AxisSettled (v .incoming) ce cn (v .counts .nodes .bound) (v .counts .edges .bound)
+      (joined (map (list-of Incoming (lists v)) (from 0 (v .counts .nodes .bound))))) (sym (r .lengths .edges)) (sym (r .lengths .nodes))
+      (subst (AxisSettled (v .incoming) (length (w .edges)) (length (w .nodes)) (v .counts .nodes .bound) (v .counts .edges .bound))
+      (sym (ap joined (listed Incoming ∙ all-lists (length (left .nodes)) (left .ins) (fitted-many (left-sound pre r .ins)))))
+      (axis-settled (in-base-of pre r outs ins)))
+
+  -- what compaction leaves is settled
+  pub dropped-settled : Settled v
+  dropped-settled = record {
+    nodes-based = ap (λ (c : Counts). c .nodes .base) (r .counts) ∙ sym (nodes-bound pre r);
+    nodes-live = ap (λ (c : Counts). c .nodes .live) (r .counts) ∙ sym (nodes-bound pre r);
+    edges-based = ap (λ (c : Counts). c .edges .base) (r .counts) ∙ sym (edges-bound pre r);
+    edges-live = ap (λ (c : Counts). c .edges .live) (r .counts) ∙ sym (edges-bound pre r);
+    node-words = subst (λ (n : ℕ). Reset (v .live-nodes) n (v .live-nodes)) (sym (nodes-bound pre r)) (reset-same (r .live-nodes));
+    edge-words = subst (λ (n : ℕ). Reset (v .live-edges) n (v .live-edges)) (sym (edges-bound pre r)) (reset-same (r .live-edges));
+    axis = directions;
+  }
+
+-- ---- a settled store compacted
+
+-- one direction
+module _ {ws : List ℕ} {ce cn : ℕ} {live : List ℕ} {bound : ℕ} {node-map : List ℕ} {n : ℕ} {entries ws' : List ℕ} (joins : List ℕ)
+    (pre : Compactable ws ce cn live bound node-map n bound entries) (r : AxisCompacted ws ce cn live bound node-map n bound entries ws')
+    (all : live-flags live bound ≡ replicate bound true) (own : (e : ℕ) → e < bound → getD node-map (end-at ws e) 0 ≡ end-at ws e)
+    (s : AxisSettled ws ce cn n bound joins) (lined : take bound entries ≡ joins) where
+  moved-same : r .moved ≡ ws
+  moved-same =
+      kept-all-live (live-flags live bound) bound all
+      (subst (λ (k : ℕ). Rewritten ws (r .moved) 0 k (kept-word ws (live-flags live bound))) (pre .counted) (r .moves))
+
+  renumbered-same : r .renumbered ≡ ws
+  renumbered-same =
+      rewritten-same (r .renumbers)
+      (λ i h. let same : getD (r .moved) i 0 ≡ end-at ws i = ap (λ (l : List ℕ). getD l i 0) moved-same in
+      ap (λ (z : ℕ). getD node-map z 0) same ∙ own i h ∙ sym same ∙ ap (λ (z : ℕ). getD (r .moved) z 0) (sym (zero-add i)))
+      ∙ moved-same
+
+  counted-same : r .rebuilds .counted ≡ ws
+  counted-same =
+      rewritten-same (r .rebuilds .offsets)
+      (λ x h. ap (λ (l : List ℕ). before (ends-of l bound) x) renumbered-same ∙ sym (s .offsets x h) ∙ ap (λ (l : List ℕ). cell l (4 * ce + 5 * cn) x) (sym renumbered-same))
+      ∙ renumbered-same
+
+  entry-same : (i : ℕ) → i < bound → getD entries i 0 ≡ cell ws ce i
+  entry-same i h =
+      sym (getD-take bound entries i 0 h) ∙ ap (λ (l : List ℕ). getD l i 0) (lined ∙ sym (s .lists))
+      ∙ getD-map (cell ws ce) (from 0 bound) i 0 0 (rw (length-from 0 bound) h) ∙ ap (cell ws ce) (getD-from 0 bound i 0 h ∙ zero-add i)
+
+  copied-same : r .rebuilds .copied ≡ ws
+  copied-same =
+      rewritten-same (r .rebuilds .lists) (λ i h. entry-same i h ∙ ap (λ (l : List ℕ). cell l ce i) (sym counted-same)) ∙ counted-same
+
+  emptied-same : r .rebuilds .emptied ≡ ws
+  emptied-same =
+      rewritten-same (r .rebuilds .rings) (λ x h. sym (s .rings x h) ∙ ap (λ (l : List ℕ). cell l (4 * ce) x) (sym copied-same)) ∙ copied-same
+
+  axis-again : ws' ≡ ws
+  axis-again =
+      rewritten-same (r .rebuilds .marks) (λ x h. sym (s .marks x h) ∙ ap (λ (l : List ℕ). cell l (4 * ce + 4 * cn) x) (sym emptied-same)) ∙ emptied-same
+
+-- no node of a settled store has a ring
+no-ring : {w : Words} → Settled w → (d : TraversalDirection) (x : ℕ) → adjacency-of d (shape-of w) x .ring ≡ []
+unfolding ring-of ring
+no-ring {w} s d x =
+    ⊎-elim
+    (λ l. ap (λ (a : Adjacency). a .ring) (shape-adjacency w d x l) ∙ rw (s .axis d .rings x l))
+    (λ l. ap (λ (a : Adjacency). a .ring)
+    (List·getD-eq-default (axis-in d (shape-of w) .nodes) no-adjacency
+    (rw (axis-is w d, axis-nodes (axis-words d w) (length (w .edges)) (length (w .nodes)) (w .counts)) l)))
+    (below-or-not x (w .counts .nodes .bound))
+
+settled-reached : {w : Words} → Settled w → Reached (shape-of w)
+unfolding ascends member
+settled-reached s = record {
+  rings = λ d x. ap ascends (no-ring s d x);
+  order = λ d x e f m k. in-none f (ap (member f) (sym (no-ring s d x)) ∙ k);
+}
+
+plain-bound : (w : Words) → node-bound (lists w) ≡ w .counts .nodes .bound
+unfolding plain-of
+plain-bound w = node-bound-is w
+
+module _ {w : Words} (k : Checked w) (s : Settled w) where
+  -- compaction sees the plain lists
+  seen-lists : settled (shape-of w) ≡ lists w
+  seen-lists = settled-is-plain (checked-proper w k) (settled-reached s)
+
+  node-flags-on : node-live w ≡ replicate (w .counts .nodes .bound) true
+  node-flags-on = s .node-words .flags
+
+  edge-flags-on : edge-live w ≡ replicate (w .counts .edges .bound) true
+  edge-flags-on = s .edge-words .flags
+
+  every-live : AllLive (lists w)
+  unfolding plain-of
+  every-live = record {
+    nodes = node-flags-are w ∙ node-flags-on ∙ ap (λ (n : ℕ). replicate n true) (sym (node-bound-is w));
+    edges = edge-flags-are w ∙ edge-flags-on ∙ ap (λ (n : ℕ). replicate n true) (sym (edge-bound-is w));
+  }
+
+  same-lists : compacted (lists w) ≡ lists w
+  same-lists =
+      compacted-same (capacities w) (lists w) (k .walks) every-live (k .axis Outgoing .sized .nodes-within) (k .axis Outgoing .sized .edges-within)
+
+  -- so the lists that are left are those that were there
+  outs-again : survivors (settled (shape-of w)) .outs ≡ map (list-of Outgoing (lists w)) (from 0 (w .counts .nodes .bound))
+  unfolding compacted of-survivors
+  outs-again =
+      ap (λ (p : Plain). survivors p .outs) seen-lists ∙ ap (λ (p : Plain). p .outgoing .lists) same-lists
+      ∙ sym (all-lists (w .counts .nodes .bound) (lists w .outgoing .lists) (k .walks .outgoing .lists-length ∙ plain-bound w))
+
+  ins-again : survivors (settled (shape-of w)) .ins ≡ map (list-of Incoming (lists w)) (from 0 (w .counts .nodes .bound))
+  unfolding compacted of-survivors
+  ins-again =
+      ap (λ (p : Plain). survivors p .ins) seen-lists ∙ ap (λ (p : Plain). p .incoming .lists) same-lists
+      ∙ sym (all-lists (w .counts .nodes .bound) (lists w .incoming .lists) (k .walks .incoming .lists-length ∙ plain-bound w))
+
+module _ {w : Words} {node-map work : List ℕ} {v : Words} (pre : Droppable w node-map work) (r : Dropped w node-map work v)
+    (outs : take (w .counts .edges .live) work ≡ joined (survivors (settled (shape-of w)) .outs))
+    (ins : take (w .counts .edges .live) (drop (w .counts .edges .live) work) ≡ joined (survivors (settled (shape-of w)) .ins)) (s : Settled w) where
+  abbrev k : Checked w
+  k = pre .checked
+
+  -- every node keeps its number
+  own-number : (d : TraversalDirection) (e : ℕ) → e < w .counts .edges .bound → getD node-map (end-at (axis-words d w) e) 0 ≡ end-at (axis-words d w) e
+  own-number d e h =
+      let x = end-at (axis-words d w) e in
+      let low : x < w .counts .nodes .bound = k .axis d .ends-below e h in
+      pre .mapped x (live-slot (node-live w) (w .counts .nodes .bound) x (node-flags-on k s) low)
+      ∙ own-rank (node-live w) (w .counts .nodes .bound) x (node-flags-on k s) low
+
+  direction-again : (d : TraversalDirection) (entries ws' : List ℕ)
+      → AxisCompacted (axis-words d w) (length (w .edges)) (length (w .nodes)) (w .live-edges) (w .counts .edges .bound) node-map (w .counts .nodes .live)
+      (w .counts .edges .live) entries ws'
+      → w .counts .edges .live ≤ length entries
+      → take (w .counts .edges .live) entries ≡ joined (map (list-of d (lists w)) (from 0 (w .counts .nodes .bound))) → ws' ≡ axis-words d w
+  direction-again d entries ws' a there lined =
+      axis-again (joined (map (list-of d (lists w)) (from 0 (w .counts .nodes .bound))))
+      (subst₂ (λ (n m : ℕ). Compactable (axis-words d w) (length (w .edges)) (length (w .nodes)) (w .live-edges) (w .counts .edges .bound) node-map n m entries)
+      (s .nodes-live) (s .edges-live) (axis-compactable pre d entries there))
+      (subst₂ (λ (n m : ℕ). AxisCompacted (axis-words d w) (length (w .edges)) (length (w .nodes)) (w .live-edges) (w .counts .edges .bound) node-map n m entries ws')
+      (s .nodes-live) (s .edges-live) a)
+      (edge-flags-on k s) (own-number d) (s .axis d) (ap (λ (m : ℕ). take m entries) (sym (s .edges-live)) ∙ lined)
+
+  -- compacting a settled store leaves every word, and the counts
+  pub dropped-again : v ≡ w
+  dropped-again =
+      let counts : v .counts ≡ w .counts = r .counts ∙ counts-again in
+      let nodes : v .nodes ≡ w .nodes = kept-all-live (node-live w) (w .counts .nodes .bound) (node-flags-on k s) (r .nodes) in
+      let edges : v .edges ≡ w .edges = kept-all-live (edge-live w) (w .counts .edges .bound) (edge-flags-on k s) (r .edges) in
+      let live-nodes : v .live-nodes ≡ w .live-nodes =
+      r .live-nodes .words ∙ ap (λ (n : ℕ). written (all-live n) (w .live-nodes)) (s .nodes-live) ∙ sym (s .node-words .words) in
+      let live-edges : v .live-edges ≡ w .live-edges =
+      r .live-edges .words ∙ ap (λ (n : ℕ). written (all-live n) (w .live-edges)) (s .edges-live) ∙ sym (s .edge-words .words) in
+      let outgoing : v .outgoing ≡ w .outgoing =
+      direction-again Outgoing work (v .outgoing) (r .outgoing) (first-half pre) (outs ∙ ap joined (outs-again k s)) in
+      let incoming : v .incoming ≡ w .incoming =
+      direction-again Incoming (drop (w .counts .edges .live) work) (v .incoming) (r .incoming) (drop-room pre) (ins ∙ ap joined (ins-again k s)) in
+      λ i. record {
+        counts = counts i;
+        nodes = nodes i;
+        edges = edges i;
+        live-nodes = live-nodes i;
+        live-edges = live-edges i;
+        outgoing = outgoing i;
+        incoming = incoming i;
+      }
+    where
+      slots-again : (slots : Slots) → slots .base ≡ slots .bound → slots .live ≡ slots .bound → based (slots .live) ≡ slots
+      slots-again slots base live = λ i. record { bound = live i; base = (live ∙ sym base) i; live = slots .live }
+
+      counts-again : _≡_ {A = Counts} (record { nodes = based (w .counts .nodes .live); edges = based (w .counts .edges .live) }) (w .counts)
+      counts-again =
+          ap₂ {C = Counts} (λ (n e : Slots). record { nodes = n; edges = e }) (slots-again (w .counts .nodes) (s .nodes-based) (s .nodes-live))
+          (slots-again (w .counts .edges) (s .edges-based) (s .edges-live))

@@ -1,0 +1,66 @@
+-- What a compaction comes to on any words: number and value, maps and work as whole lists, and the store.
+use Prim.Native.Nat.{ℕ, suc, _+_, _*_, _≤_, _<_}
+use mathlib.Core.Path.{_≡_}
+use mathlib.Core.List.{List, map}
+use lib.ListN.{length}
+use Rattle.plain.specs.declared.TraversalDirection.{TraversalDirection}
+use Rattle.plain.specs.Numbers.{NONE}
+use Rattle.plain.specs.Lists.{written, joined, from}
+use Rattle.plain.specs.Plain.{list-of}
+use Rattle.plain.specs.Step.{State}
+use Rattle.plain.specs.Compaction.{survivors}
+use Rattle.plain.specs.Calls.{Compacted, compaction, judged-compaction}
+use Rattle.liveness.specs.Calls.{Reset}
+use Rattle.shape.specs.Columns.{cell, offset-at, last-at, mark-at}
+use Rattle.shape.specs.Shape.{Words, axis-words, shape-of, lists, settled, is-compact}
+use Rattle.shape.specs.Checked.{Checked, Reached}
+use Rattle.shape.specs.Rules.{broken}
+use Rattle.shape.specs.Steps.{state-of}
+use Rattle.shape.specs.Laws.Indexing.{before, ends-of}
+use Rattle.store.specs.Operations.{SameLengths}
+use Rattle.compact.specs.Survivors.{shape-of-survivors}
+
+-- What compaction sees of a store. On stores that a fresh one or an image led to it is the store's state.
+abbrev pub seen : Words → State
+seen w = record { lists = settled (shape-of w); compact = is-compact (shape-of w) }
+
+-- what document 01 says of a compaction of a store, number 1 included, by the lengths of the three lent slices
+abbrev pub compacting-of : Words → ℕ → ℕ → ℕ → Compacted
+compacting-of w node-map edge-map work = judged-compaction (broken w) (seen w) (compaction (seen w) node-map edge-map work)
+
+-- One direction whose words are what compaction writes: all that it holds is in the base.
+pub record AxisSettled (ws : List ℕ) (ce cn n m : ℕ) (entries : List ℕ) : Type 0 where
+  pub offsets : (x : ℕ) → x < n + 1 → offset-at ws ce cn x ≡ before (ends-of ws m) x
+  pub lists : map (cell ws ce) (from 0 m) ≡ entries
+  pub rings : (x : ℕ) → x < n → last-at ws ce x ≡ NONE
+  pub marks : (x : ℕ) → x < n → mark-at ws ce cn x ≡ 0
+
+-- A store whose words are what compaction and image reading write.
+pub record Settled (w : Words) : Type 0 where
+  pub nodes-based : w .counts .nodes .base ≡ w .counts .nodes .bound
+  pub nodes-live : w .counts .nodes .live ≡ w .counts .nodes .bound
+  pub edges-based : w .counts .edges .base ≡ w .counts .edges .bound
+  pub edges-live : w .counts .edges .live ≡ w .counts .edges .bound
+  pub node-words : Reset (w .live-nodes) (w .counts .nodes .bound) (w .live-nodes)
+  pub edge-words : Reset (w .live-edges) (w .counts .edges .bound) (w .live-edges)
+  pub axis : (d : TraversalDirection)
+      → AxisSettled (axis-words d w) (length (w .edges)) (length (w .nodes)) (w .counts .nodes .bound) (w .counts .edges .bound)
+      (joined (map (list-of d (lists w)) (from 0 (w .counts .nodes .bound))))
+
+pub record CompactOf (w : Words) (node-map edge-map work : List ℕ) (number value : ℕ) (v : Words) (node-map' edge-map' work' : List ℕ) : Type 0 where
+  pub numbered : number ≡ compacting-of w (length node-map) (length edge-map) (length work) .number
+  pub valued : value ≡ compacting-of w (length node-map) (length edge-map) (length work) .value
+  -- a refusal writes nothing, and words past the answers keep their content
+  pub node-mapped : node-map' ≡ written (compacting-of w (length node-map) (length edge-map) (length work) .node-map) node-map
+  pub edge-mapped : edge-map' ≡ written (compacting-of w (length node-map) (length edge-map) (length work) .edge-map) edge-map
+  pub worked : work' ≡ written (compacting-of w (length node-map) (length edge-map) (length work) .work) work
+  pub state : number ≡ 0 → state-of (shape-of v) ≡ compacting-of w (length node-map) (length edge-map) (length work) .after
+  -- nothing is left in runs or rings
+  pub shape : number ≡ 0 → shape-of v ≡ shape-of-survivors (survivors (settled (shape-of w)))
+  pub checked : number ≡ 0 → Checked v
+  pub reached : number ≡ 0 → Reached (shape-of v)
+  pub settles : number ≡ 0 → Settled v
+  -- "compacting again changes no field": not a word
+  pub again : number ≡ 0 → Settled w → v ≡ w
+  pub lengths : SameLengths w v
+  pub refused-keeps : (number ≡ 0 → ⊥) → v ≡ w

@@ -1,0 +1,200 @@
+-- The ways that a compaction ends, each by what the program has tested.
+use Prim.Native.Nat.{ℕ, zero, suc, _+_, _*_, _≤_, _<_}
+use mathlib.Core.Path.{_≡_, refl, sym, ap, _∙_}
+use mathlib.Core.Bool.{Bool, true}
+use mathlib.Core.List.{List, [], _++_, append-assoc}
+use native.Mathlib.Omega.{arith}
+use lib.ListN.{length, take, drop, length-map, length-append, length-drop}
+use lib.Seq.{take-at, drop-at}
+use borrow.Author.Tests.{le-leb, lt-leb}
+use Rattle.plain.specs.declared.TraversalDirection.the-variants.{Outgoing}
+use Rattle.plain.specs.Lists.{written, joined}
+use Rattle.plain.specs.Plain.{node-bound, edge-bound, node-flags, edge-flags}
+use Rattle.plain.specs.Reads.{live-edges, live-count}
+use Rattle.plain.specs.Memory.{first-short}
+use Rattle.plain.specs.Compaction.{Survivors, survivors, source-of, target-of, renumbering, adjacency, compacted}
+use Rattle.plain.specs.Laws.WellFormed.{Sound}
+use Rattle.plain.specs.Laws.Compacting.{survivors-sound, length-surviving-edges}
+use Rattle.plain.specs.Calls.{Compacted, compaction, judged-compaction}
+use Rattle.shape.specs.Shape.{Words, capacities, shape-of, settled}
+use Rattle.shape.specs.Checked.{Checked}
+use Rattle.shape.specs.Rules.{broken}
+use Rattle.shape.specs.Laws.CheckedShape.{checked-proper}
+use Rattle.shape.specs.Laws.NewBase.{fitted-total}
+use Rattle.shape.specs.Laws.Reading.{node-bound-is, edge-bound-is}
+use Rattle.validate.specs.Judging.{Judged}
+use Rattle.store.specs.Operations.{same-lengths}
+use Rattle.compact.specs.ListsStore.{settled-well-formed, settled-node-flags, settled-edge-flags}
+use Rattle.compact.specs.Settling.{Settleable, Settling, droppable}
+use Rattle.compact.specs.Compacted.{dropped-shape, dropped-state, dropped-reached, dropped-checked}
+use Rattle.compact.specs.Calls.{seen, compacting-of, CompactOf}
+use Rattle.compact.specs.Again.{dropped-settled, dropped-again}
+
+module _ (w : Words) (node-map edge-map work : List ℕ) where
+  -- refused: not a word changes
+  kept : (o : Compacted) → compacting-of w (length node-map) (length edge-map) (length work) ≡ o → o .node-map ≡ [] → o .edge-map ≡ [] → o .work ≡ []
+      → (o .number ≡ 0 → ⊥) → CompactOf w node-map edge-map work (o .number) (o .value) w node-map edge-map work
+  kept o is nodes edges lists refused = record {
+    numbered = ap (λ (c : Compacted). c .number) (sym is);
+    valued = ap (λ (c : Compacted). c .value) (sym is);
+    node-mapped = sym (ap (λ (l : List ℕ). written l node-map) (ap (λ (c : Compacted). c .node-map) is ∙ nodes));
+    edge-mapped = sym (ap (λ (l : List ℕ). written l edge-map) (ap (λ (c : Compacted). c .edge-map) is ∙ edges));
+    worked = sym (ap (λ (l : List ℕ). written l work) (ap (λ (c : Compacted). c .work) is ∙ lists));
+    state = λ h. absurd (refused h);
+    shape = λ h. absurd (refused h);
+    checked = λ h. absurd (refused h);
+    reached = λ h. absurd (refused h);
+    settles = λ h. absurd (refused h);
+    again = λ h. absurd (refused h);
+    lengths = same-lengths w;
+    refused-keeps = λ h. refl;
+  }
+
+  -- "words are no store: 1, rule 1 to 7"
+  pub compact-judged : {rule : ℕ} → Judged w rule → (rule ≡ 0 → ⊥) → CompactOf w node-map edge-map work 1 rule w node-map edge-map work
+  compact-judged {rule} j broke = by rule (j .first) broke
+    where
+      by : (rule : ℕ) → rule ≡ broken w → (rule ≡ 0 → ⊥) → CompactOf w node-map edge-map work 1 rule w node-map edge-map work
+      by zero is broke = absurd (broke refl)
+      by (suc rule) is broke =
+          kept (record { number = 1; value = suc rule; node-map = []; edge-map = []; work = []; after = seen w })
+          (ap (λ (n : ℕ). judged-compaction n (seen w) (compaction (seen w) (length node-map) (length edge-map) (length work))) (sym is)) refl refl refl (λ q. omega arith)
+
+  -- the bounds and the live edges that compaction sees are the counts
+  bound-of-nodes : node-bound (settled (shape-of w)) ≡ w .counts .nodes .bound
+  unfolding settled
+  bound-of-nodes = node-bound-is w
+
+  bound-of-edges : edge-bound (settled (shape-of w)) ≡ w .counts .edges .bound
+  unfolding settled
+  bound-of-edges = edge-bound-is w
+
+  module _ {rule : ℕ} (j : Judged w rule) (sound : rule ≡ 0) where
+    told : compacting-of w (length node-map) (length edge-map) (length work) ≡ compaction (seen w) (length node-map) (length edge-map) (length work)
+    told =
+        ap (λ (n : ℕ). judged-compaction n (seen w) (compaction (seen w) (length node-map) (length edge-map) (length work))) (sym (j .first) ∙ sound)
+
+    many-edges : live-edges (settled (shape-of w)) ≡ w .counts .edges .live
+    many-edges = ap live-count (settled-edge-flags w) ∙ sym (j .checked sound .edges-live .live-right)
+
+    -- "a lent slice too short: 2, length needed"
+    abbrev short : ℕ → Compacted
+    short needed = record { number = 2; value = needed; node-map = []; edge-map = []; work = []; after = seen w }
+
+    pub nodes-short : length node-map < w .counts .nodes .bound → CompactOf w node-map edge-map work 2 (w .counts .nodes .bound) w node-map edge-map work
+    unfolding compaction first-short
+    nodes-short h =
+        kept (short (w .counts .nodes .bound)) (told ∙ rw (bound-of-nodes, lt-leb (w .counts .nodes .bound) (length node-map) h)) refl refl refl (λ q. omega arith)
+
+    module _ (nodes-room : w .counts .nodes .bound ≤ length node-map) where
+      pub edges-short : length edge-map < w .counts .edges .bound → CompactOf w node-map edge-map work 2 (w .counts .edges .bound) w node-map edge-map work
+      unfolding compaction first-short
+      edges-short h =
+          kept (short (w .counts .edges .bound))
+          (told ∙ rw (
+            bound-of-nodes,
+            bound-of-edges,
+            le-leb (w .counts .nodes .bound) (length node-map) nodes-room,
+            lt-leb (w .counts .edges .bound) (length edge-map) h,
+          ))
+          refl refl refl (λ q. omega arith)
+
+      module _ (edges-room : w .counts .edges .bound ≤ length edge-map) where
+        pub work-short : length work < 2 * w .counts .edges .live → CompactOf w node-map edge-map work 2 (2 * w .counts .edges .live) w node-map edge-map work
+        unfolding compaction first-short
+        work-short h =
+            kept (short (2 * w .counts .edges .live))
+            (told ∙ rw (
+              bound-of-nodes,
+              bound-of-edges,
+              many-edges,
+              le-leb (w .counts .nodes .bound) (length node-map) nodes-room,
+              le-leb (w .counts .edges .bound) (length edge-map) edges-room,
+              lt-leb (2 * w .counts .edges .live) (length work) h,
+            ))
+            refl refl refl (λ q. omega arith)
+
+        -- what is left
+        abbrev left : Survivors
+        left = survivors (settled (shape-of w))
+
+        sound-left : Sound left
+        sound-left =
+            let k = j .checked sound in
+            survivors-sound (capacities w) (settled (shape-of w)) (settled-well-formed (checked-proper w k)) (k .axis Outgoing .sized .nodes-within)
+            (k .axis Outgoing .sized .edges-within)
+
+        edges-left : length (left .edges) ≡ w .counts .edges .live
+        edges-left = length-surviving-edges (settled (shape-of w)) ∙ many-edges
+
+        outs-long : length (joined (left .outs)) ≡ w .counts .edges .live
+        outs-long = fitted-total (sound-left .outs) ∙ length-map (left .edges) source-of ∙ edges-left
+
+        ins-long : length (joined (left .ins)) ≡ w .counts .edges .live
+        ins-long = fitted-total (sound-left .ins) ∙ length-map (left .edges) target-of ∙ edges-left
+
+        module _ (work-room : 2 * w .counts .edges .live ≤ length work) where
+          pub settleable : Settleable w node-map edge-map work
+          settleable = record { checked = j .checked sound; nodes-room = nodes-room; edges-room = edges-room; work-room = work-room }
+
+          -- the work slice holds the out-lists, then the in-lists
+          module _ {work' : List ℕ} (worked : work' ≡ written (adjacency left) work) where
+            outs-there : take (w .counts .edges .live) work' ≡ joined (left .outs)
+            unfolding adjacency
+            outs-there =
+                ap (take (w .counts .edges .live)) (worked ∙ append-assoc (joined (left .outs)) (joined (left .ins)) (drop (length (adjacency left)) work))
+                ∙ take-at (joined (left .outs)) (joined (left .ins) ++ drop (length (adjacency left)) work) (w .counts .edges .live) outs-long
+
+            ins-there : take (w .counts .edges .live) (drop (w .counts .edges .live) work') ≡ joined (left .ins)
+            unfolding adjacency
+            ins-there =
+                ap (λ (l : List ℕ). take (w .counts .edges .live) (drop (w .counts .edges .live) l))
+                (worked ∙ append-assoc (joined (left .outs)) (joined (left .ins)) (drop (length (adjacency left)) work))
+                ∙ ap (take (w .counts .edges .live))
+                (drop-at (joined (left .outs)) (joined (left .ins) ++ drop (length (adjacency left)) work) (w .counts .edges .live) outs-long)
+                ∙ take-at (joined (left .ins)) (drop (length (adjacency left)) work) (w .counts .edges .live) ins-long
+
+            worked-long : length work' ≡ length work
+            unfolding adjacency
+            worked-long =
+                let a = outs-long in
+                let b = ins-long in
+                let c = length-append (joined (left .outs)) (joined (left .ins)) in
+                ap length worked ∙ length-append (adjacency left) (drop (length (adjacency left)) work)
+                ∙ rw (length-drop (length (adjacency left)) work) (omega arith)
+
+          pub compact-done : {v : Words} {node-map' edge-map' work' : List ℕ} → Settling w node-map edge-map work v node-map' edge-map' work'
+              → CompactOf w node-map edge-map work 0 0 v node-map' edge-map' work'
+          unfolding compaction first-short
+          compact-done {v} {node-map'} {edge-map'} {work'} done =
+              let is : compacting-of w (length node-map) (length edge-map) (length work)
+              ≡ record { number = 0; value = 0; node-map = renumbering (node-flags (settled (shape-of w))); edge-map = renumbering (edge-flags (settled (shape-of w))); work = adjacency (survivors (settled (shape-of w))); after = record { lists = compacted (settled (shape-of w)); compact = true } } =
+              told ∙ rw (
+                bound-of-nodes,
+                bound-of-edges,
+                many-edges,
+                le-leb (w .counts .nodes .bound) (length node-map) nodes-room,
+                le-leb (w .counts .edges .bound) (length edge-map) edges-room,
+                le-leb (2 * w .counts .edges .live) (length work) work-room,
+              ) in
+              let pre = droppable settleable (done .node-mapped) (worked-long (done .worked)) in
+              let r = done .dropped in
+              let outs = outs-there (done .worked) in
+              let ins = ins-there (done .worked) in
+              record {
+                numbered = ap (λ (c : Compacted). c .number) (sym is);
+                valued = ap (λ (c : Compacted). c .value) (sym is);
+                node-mapped = done .node-mapped
+                    ∙ ap (λ (f : List Bool). written (renumbering f) node-map) (sym (settled-node-flags w)) ∙ sym (ap (λ (c : Compacted). written (c .node-map) node-map) is);
+                edge-mapped = done .edge-mapped
+                    ∙ ap (λ (f : List Bool). written (renumbering f) edge-map) (sym (settled-edge-flags w)) ∙ sym (ap (λ (c : Compacted). written (c .edge-map) edge-map) is);
+                worked = done .worked ∙ sym (ap (λ (c : Compacted). written (c .work) work) is);
+                state = λ h. dropped-state pre r outs ins ∙ sym (ap (λ (c : Compacted). c .after) is);
+                shape = λ h. dropped-shape pre r outs ins;
+                checked = λ h. dropped-checked pre r outs ins;
+                reached = λ h. dropped-reached pre r outs ins;
+                settles = λ h. dropped-settled pre r outs ins;
+                again = λ h s. dropped-again pre r outs ins s;
+                lengths = r .lengths;
+                refused-keeps = λ h. absurd (h refl);
+              }

@@ -1,0 +1,13 @@
+pub mod Survivors
+pub mod Slots
+pub mod Lists
+pub mod ListsSettled
+pub mod ListsStore
+pub mod Working
+pub mod Bases
+pub mod Dropping
+pub mod Settling
+pub mod Compacted
+pub mod Calls
+pub mod Again
+pub mod Entry

@@ -1,0 +1,252 @@
+// Compaction: the dead slots are dropped, the live ones numbered from 0 in slot order, and the delta folded back into the compressed base. Port of compact.rs.
+
+pub mod base;
+pub mod lists;
+pub mod slots;
+
+use liveness;
+use plain::Changed;
+use plain::Counts;
+use plain::Slots;
+use plain::numbers;
+ghost use mathlib.Core.Path.{_≡_};
+ghost use Rattle.plain.specs.Lists.{written};
+ghost use Rattle.plain.specs.Compaction.{survivors, adjacency};
+ghost use Rattle.shape.specs.Shape.{store, shape-of, settled};
+ghost use Rattle.compact.specs.Working.{Workable};
+ghost use Rattle.compact.specs.Settling.{Settleable, Settling};
+ghost use Rattle.compact.specs.Calls.{CompactOf};
+ghost use Rattle.compact.specs.Dropping.{based, Droppable, Dropped};
+
+// The counts of slots that are all live and all in the base.
+fn all_based(count: u32) -> Slots
+    ensures { λ r. ⌜ r ≡ based count ⌝ }
+{
+    Slots {
+        bound: count,
+        base: count,
+        live: count,
+    }
+}
+
+// Writes the lists of the live nodes of both directions, by the edges' new numbers, to the start of `work`: "the new out adjacency, then the in adjacency".
+fn write_work(
+    counts: Counts,
+    nodes: &[u32],
+    edges: &[u32],
+    live_nodes: &[u64],
+    live_edges: &[u64],
+    outgoing: &[u32],
+    incoming: &[u32],
+    edge_map: &[u32],
+    work: &mut [u32],
+)
+    requires { ⌜ Workable (store counts (now nodes) (now edges) (now «live_nodes») (now «live_edges») (now outgoing) (now incoming)) (now «edge_map») (now work) ⌝ }
+    ensures { λ _. ⌜ now (work .exit) ≡ written (adjacency (survivors (settled (shape-of
+        (store counts (now (nodes .entry)) (now (edges .entry)) (now («live_nodes» .entry)) (now («live_edges» .entry)) (now (outgoing .entry)) (now (incoming .entry)))))))
+        (now (work .entry)) ⌝ }
+{
+    let edge_slots = counts.edges;
+    let m = edge_slots.live as usize;
+    lists::write_lists(
+        outgoing,
+        edges.len(),
+        nodes.len(),
+        counts,
+        live_nodes,
+        live_edges,
+        work,
+    );
+    lists::write_lists(
+        incoming,
+        edges.len(),
+        nodes.len(),
+        counts,
+        live_nodes,
+        live_edges,
+        &mut work[m..],
+    );
+    slots::translate(work, 2 * m, edge_map);
+}
+
+// Drops the dead slots of a store: both directions are compacted, the payloads move down, and every slot is live. The node map is there, and the work slice holds
+// the joined lists of both directions.
+fn drop_dead(
+    counts: Counts,
+    nodes: &mut [u32],
+    edges: &mut [u32],
+    live_nodes: &mut [u64],
+    live_edges: &mut [u64],
+    outgoing: &mut [u32],
+    incoming: &mut [u32],
+    node_map: &[u32],
+    work: &[u32],
+) -> Counts
+    requires { ⌜ Droppable (store counts (now nodes) (now edges) (now «live_nodes») (now «live_edges») (now outgoing) (now incoming)) (now «node_map») (now work) ⌝ }
+    ensures { λ r. ⌜ Dropped
+        (store counts (now (nodes .entry)) (now (edges .entry)) (now («live_nodes» .entry)) (now («live_edges» .entry)) (now (outgoing .entry)) (now (incoming .entry)))
+        (now («node_map» .entry)) (now (work .entry))
+        (store r (now (nodes .exit)) (now (edges .exit)) (now («live_nodes» .exit)) (now («live_edges» .exit)) (now (outgoing .exit)) (now (incoming .exit))) ⌝ }
+{
+    let node_slots = counts.nodes;
+    let edge_slots = counts.edges;
+    let n = node_slots.live as usize;
+    let m = edge_slots.live as usize;
+    let bound = edge_slots.bound as usize;
+    base::compact_axis(
+        outgoing,
+        edges.len(),
+        nodes.len(),
+        live_edges,
+        bound,
+        node_map,
+        n,
+        m,
+        work,
+    );
+    base::compact_axis(
+        incoming,
+        edges.len(),
+        nodes.len(),
+        live_edges,
+        bound,
+        node_map,
+        n,
+        m,
+        &work[m..],
+    );
+    slots::keep_live(nodes, live_nodes, node_slots.bound as usize);
+    slots::keep_live(edges, live_edges, bound);
+    liveness::reset_all_live(live_nodes, n);
+    liveness::reset_all_live(live_edges, m);
+    Counts {
+        nodes: all_based(node_slots.live),
+        edges: all_based(edge_slots.live),
+    }
+}
+
+// Compacts a checked store: first the answers, while the old index is there to read, then the store.
+fn settle(
+    counts: Counts,
+    nodes: &mut [u32],
+    edges: &mut [u32],
+    live_nodes: &mut [u64],
+    live_edges: &mut [u64],
+    outgoing: &mut [u32],
+    incoming: &mut [u32],
+    node_map: &mut [u32],
+    edge_map: &mut [u32],
+    work: &mut [u32],
+) -> Counts
+    requires { ⌜ Settleable (store counts (now nodes) (now edges) (now «live_nodes») (now «live_edges») (now outgoing) (now incoming)) (now «node_map») (now «edge_map») (now work) ⌝ }
+    ensures { λ r. ⌜ Settling
+        (store counts (now (nodes .entry)) (now (edges .entry)) (now («live_nodes» .entry)) (now («live_edges» .entry)) (now (outgoing .entry)) (now (incoming .entry)))
+        (now («node_map» .entry)) (now («edge_map» .entry)) (now (work .entry))
+        (store r (now (nodes .exit)) (now (edges .exit)) (now («live_nodes» .exit)) (now («live_edges» .exit)) (now (outgoing .exit)) (now (incoming .exit)))
+        (now («node_map» .exit)) (now («edge_map» .exit)) (now (work .exit)) ⌝ }
+{
+    let node_slots = counts.nodes;
+    let edge_slots = counts.edges;
+    slots::write_map(live_nodes, node_slots.bound as usize, node_map);
+    slots::write_map(live_edges, edge_slots.bound as usize, edge_map);
+    write_work(
+        counts,
+        nodes,
+        edges,
+        live_nodes,
+        live_edges,
+        outgoing,
+        incoming,
+        edge_map,
+        work,
+    );
+    drop_dead(
+        counts,
+        nodes,
+        edges,
+        live_nodes,
+        live_edges,
+        outgoing,
+        incoming,
+        node_map,
+        work,
+    )
+}
+
+// Compaction: "1, then 2 in that order" of the node map, the edge map and the work slice. Refused, nothing is written.
+pub fn compact(
+    counts: Counts,
+    nodes: &mut [u32],
+    edges: &mut [u32],
+    live_nodes: &mut [u64],
+    live_edges: &mut [u64],
+    outgoing: &mut [u32],
+    incoming: &mut [u32],
+    node_map: &mut [u32],
+    edge_map: &mut [u32],
+    work: &mut [u32],
+) -> Changed
+    ensures { λ r. ⌜ CompactOf
+        (store counts (now (nodes .entry)) (now (edges .entry)) (now («live_nodes» .entry)) (now («live_edges» .entry)) (now (outgoing .entry)) (now (incoming .entry)))
+        (now («node_map» .entry)) (now («edge_map» .entry)) (now (work .entry)) (r .number) (r .value)
+        (store (r .counts) (now (nodes .exit)) (now (edges .exit)) (now («live_nodes» .exit)) (now («live_edges» .exit)) (now (outgoing .exit)) (now (incoming .exit)))
+        (now («node_map» .exit)) (now («edge_map» .exit)) (now (work .exit)) ⌝ }
+{
+    let rule = validate::judging::judge(
+        counts,
+        nodes,
+        edges,
+        live_nodes,
+        live_edges,
+        outgoing,
+        incoming,
+    );
+    if rule != 0 {
+        return Changed {
+            number: numbers::NO_STORE,
+            value: rule as u64,
+            counts,
+        };
+    }
+    let node_slots = counts.nodes;
+    let edge_slots = counts.edges;
+    let needed = 2 * edge_slots.live as usize;
+    if node_map.len() < node_slots.bound as usize {
+        return Changed {
+            number: numbers::TOO_SHORT,
+            value: node_slots.bound as u64,
+            counts,
+        };
+    }
+    if edge_map.len() < edge_slots.bound as usize {
+        return Changed {
+            number: numbers::TOO_SHORT,
+            value: edge_slots.bound as u64,
+            counts,
+        };
+    }
+    if work.len() < needed {
+        return Changed {
+            number: numbers::TOO_SHORT,
+            value: needed as u64,
+            counts,
+        };
+    }
+    let after = settle(
+        counts,
+        nodes,
+        edges,
+        live_nodes,
+        live_edges,
+        outgoing,
+        incoming,
+        node_map,
+        edge_map,
+        work,
+    );
+    Changed {
+        number: numbers::DONE,
+        value: 0,
+        counts: after,
+    }
+}

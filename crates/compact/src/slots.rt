@@ -1,0 +1,61 @@
+// Slots under compaction: the map from old slots to new ones, the words of the live slots moved down, and words put through a map. Port of `surviving_slots`,
+// `take_live_nodes` and `remap_endpoint` of compact.rs. All functions are internal and work in place: there is no second column to move to.
+
+use liveness;
+use plain::NONE;
+ghost use mathlib.Core.Path.{_≡_};
+ghost use Rattle.plain.specs.Lists.{written};
+ghost use Rattle.plain.specs.Reads.{live-count};
+ghost use Rattle.plain.specs.Compaction.{renumbering};
+ghost use Rattle.liveness.specs.Flags.{live-flags};
+ghost use Rattle.shape.specs.Laws.Indexing.{Rewritten};
+ghost use Rattle.compact.specs.Slots.{MapFits, Keepable, kept-word, Translatable, translated-word};
+
+// Writes the new number of every live slot, and NONE for the dead ones, to the start of `map`.
+pub fn write_map(live: &[u64], bound: usize, map: &mut [u32])
+    requires { ⌜ MapFits (now live) bound (now map) ⌝ }
+    ensures { λ _. ⌜ now (map .exit) ≡ written (renumbering (live-flags (now (live .entry)) bound)) (now (map .entry)) ⌝ }
+{
+    let mut next: u32 = 0;
+    let mut slot: usize = 0;
+    while slot < bound {
+        let here = slot;
+        slot += 1;
+        if liveness::is_live(live, bound, here) {
+            map[here] = next;
+            next += 1;
+        } else {
+            map[here] = NONE;
+        }
+    }
+}
+
+// Moves the words of the live slots down, in slot order; words past as many as are live are as they were.
+pub fn keep_live(words: &mut [u32], live: &[u64], bound: usize)
+    requires { ⌜ Keepable (now words) (now live) bound ⌝ }
+    ensures { λ _. ⌜ Rewritten (now (words .entry)) (now (words .exit)) 0 (live-count (live-flags (now (live .entry)) bound))
+        (kept-word (now (words .entry)) (live-flags (now (live .entry)) bound)) ⌝ }
+{
+    let mut to: usize = 0;
+    let mut slot: usize = 0;
+    while slot < bound {
+        let here = slot;
+        slot += 1;
+        if liveness::is_live(live, bound, here) {
+            words[to] = words[here];
+            to += 1;
+        }
+    }
+}
+
+// Puts the first words through a map: each becomes what the map holds at it.
+pub fn translate(words: &mut [u32], count: usize, map: &[u32])
+    requires { ⌜ Translatable (now words) count (now map) ⌝ }
+    ensures { λ _. ⌜ Rewritten (now (words .entry)) (now (words .exit)) 0 count (translated-word (now (words .entry)) (now (map .entry))) ⌝ }
+{
+    let mut i: usize = 0;
+    while i < count {
+        words[i] = map[words[i] as usize];
+        i += 1;
+    }
+}
