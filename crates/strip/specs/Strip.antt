@@ -20,8 +20,8 @@ use Rattle.shape.specs.Checked.{Checked, Reached}
 use Rattle.shape.specs.Rules.{broken}
 use Rattle.shape.specs.Steps.{shape-step, shape-run, state-of}
 use Rattle.shape.specs.Laws.Running.{shape-run-snoc}
-use Rattle.shape.specs.Laws.Judging.{Payloads, unbroken-checked}
 use Rattle.adjacency.specs.Reading.{write-one}
+use Rattle.validate.specs.Judging.{Judged}
 use Rattle.store.specs.Operations.{SameLengths, same-lengths}
 use Rattle.strip.specs.Step.{StepOf, outcome, step-lists, step-keeps}
 
@@ -196,15 +196,18 @@ module _ (w : Words) (words entry : List ℕ) where
       }
 
   -- "words are no store: 1, rule 1 to 7"
-  pub strip-judged : (rule : ℕ) → rule ≡ broken w → (rule ≡ 0 → ⊥) → StripOf w words entry 1 rule w entry
-  strip-judged zero is broke = absurd (broke refl)
-  strip-judged (suc rule) is broke =
-      kept (record { number = 1; value = suc rule; words = []; after = state-of (shape-of w) })
-      (ap (λ (n : ℕ). judged-strip n (state-of (shape-of w)) (strip (capacities w) (state-of (shape-of w)) words (length entry))) (sym is)) refl refl (λ q. omega arith)
+  pub strip-judged : {rule : ℕ} → Judged w rule → (rule ≡ 0 → ⊥) → StripOf w words entry 1 rule w entry
+  strip-judged {rule} j broke = by rule (j .first) broke
+    where
+      by : (rule : ℕ) → rule ≡ broken w → (rule ≡ 0 → ⊥) → StripOf w words entry 1 rule w entry
+      by zero is broke = absurd (broke refl)
+      by (suc rule) is broke =
+          kept (record { number = 1; value = suc rule; words = []; after = state-of (shape-of w) })
+          (ap (λ (n : ℕ). judged-strip n (state-of (shape-of w)) (strip (capacities w) (state-of (shape-of w)) words (length entry))) (sym is)) refl refl (λ q. omega arith)
 
-  module _ (payloads : Payloads w) (sound : broken w ≡ 0) where
+  module _ {rule : ℕ} (j : Judged w rule) (sound : rule ≡ 0) where
     told : stripped w words (length entry) ≡ strip (capacities w) (state-of (shape-of w)) words (length entry)
-    told = ap (λ (n : ℕ). judged-strip n (state-of (shape-of w)) (strip (capacities w) (state-of (shape-of w)) words (length entry))) sound
+    told = ap (λ (n : ℕ). judged-strip n (state-of (shape-of w)) (strip (capacities w) (state-of (shape-of w)) words (length entry))) (sym (j .first) ∙ sound)
 
     -- "strip not a multiple of four: 3, its length"
     pub strip-ragged : (length words % 4 ≡ 0 → ⊥) → StripOf w words entry 3 (length words) w entry
@@ -226,7 +229,7 @@ module _ (w : Words) (words entry : List ℕ) where
 
       module _ (room : length words / 2 ≤ length entry) where
         pub strip-runnable : Runnable w words entry
-        strip-runnable = record { checked = unbroken-checked w payloads sound; room = rw needed room }
+        strip-runnable = record { checked = j .checked sound; room = rw needed room }
 
         pub strip-done : {v : Words} {exit : List ℕ} → Ran w (operations words) entry v exit → StripOf w words entry 0 0 v exit
         unfolding strip

@@ -154,7 +154,7 @@ pub fn strip(
         (store (r .counts) (now (nodes .exit)) (now (edges .exit)) (now («live_nodes» .exit)) (now («live_edges» .exit)) (now (outgoing .exit)) (now (incoming .exit)))
         (now (answers .exit)) ⌝ }
 {
-    let rule = validate::first_broken(
+    let rule = validate::judging::judge(
         counts,
         nodes,
         edges,

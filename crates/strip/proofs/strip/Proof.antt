@@ -1,57 +1,36 @@
 -- `strip` meets its contract: the check, then the tests in document 01's order, then the operations.
-use mathlib.Core.Path.{sym, _∙_}
 use borrow.Author.Needs.{needs}
-use Rattle.shape.specs.Shape.{Words, store}
-use Rattle.shape.specs.Laws.Judging.{Payloads}
 use Rattle.strip.specs.Strip.{strip-judged, strip-ragged, strip-short, strip-runnable, strip-done}
 use Rattle.strip.proofs.strip.Statement.{statement}
 use Rattle.strip.proofs.strip.Tie as tie
 
--- the entry, and the places on the way
-abbrev entered : tie.After-first-broken → tie.After-slice-known7
-entered c = c .before .before .before .before .before .before .before
-
-abbrev entry : tie.After-slice-known7 → tie.Start
-entry c = c .before .before .before .before .before .before .before .before
-
+-- the places on the way
 abbrev called : tie.After-slice-known14 → tie.After-run
 called c = c .before .before .before .before .before .before .before .before .before .before .before .before .before .before
 
 abbrev asked : tie.After-run-arg7 → tie.Else3
 asked c = c .before .before .before .before .before .before .before
 
--- the words lent
-abbrev lent : tie.Start → Words
-lent s =
-    store (s .args .counts) (s .args .nodes .now) (s .args .edges .now) (s .args .live-nodes .now) (s .args .live-edges .now) (s .args .outgoing .now)
-    (s .args .incoming .now)
-
-payloads : (c : tie.After-slice-known7) → Payloads (lent (entry c))
-payloads c = record {
-  nodes = λ x. c .before .before .before .before .before .before .before .slice-known .given x .fits;
-  edges = λ e. c .before .before .before .before .before .before .slice-known2 .given e .fits;
-}
-
 returns : tie.Need-returns
-returns c = strip-judged _ _ _ _ (c .before .first-broken .ensures) (c .if1 .taken)
+returns c = strip-judged _ _ _ (c .before .judge .ensures) (c .if1 .taken)
 
 returns-2 : tie.Need-returns-2
 returns-2 c =
     let sound = c .before in
-    strip-ragged _ _ _ (payloads (entered (sound .before))) (sym (sound .before .first-broken .ensures) ∙ sound .if1 .left) (c .if2 .taken)
+    strip-ragged _ _ _ (sound .before .judge .ensures) (sound .if1 .left) (c .if2 .taken)
 
 returns-3 : tie.Need-returns-3
 returns-3 c =
     let whole = c .before in
     let sound = whole .before in
-    strip-short _ _ _ (payloads (entered (sound .before))) (sym (sound .before .first-broken .ensures) ∙ sound .if1 .left) (whole .if2 .left) (c .if3 .taken)
+    strip-short _ _ _ (sound .before .judge .ensures) (sound .if1 .left) (whole .if2 .left) (c .if3 .taken)
 
 run-requires : tie.Need-run-requires
 run-requires c κs =
     let room = asked c in
     let whole = room .before in
     let sound = whole .before in
-    strip-runnable _ _ _ (payloads (entered (sound .before))) (sym (sound .before .first-broken .ensures) ∙ sound .if1 .left) (whole .if2 .left) (room .if3 .left)
+    strip-runnable _ _ _ (sound .before .judge .ensures) (sound .if1 .left) (whole .if2 .left) (room .if3 .left)
 
 returns-4 : tie.Need-returns-4
 returns-4 c =
@@ -59,7 +38,7 @@ returns-4 c =
     let room = asked (call .before) in
     let whole = room .before in
     let sound = whole .before in
-    strip-done _ _ _ (payloads (entered (sound .before))) (sym (sound .before .first-broken .ensures) ∙ sound .if1 .left) (whole .if2 .left) (room .if3 .left)
+    strip-done _ _ _ (sound .before .judge .ensures) (sound .if1 .left) (whole .if2 .left) (room .if3 .left)
     (call .run .ensures)
 
 pub strip-spec : {M : Type 1} → statement M
