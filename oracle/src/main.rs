@@ -22,10 +22,15 @@ mod shape;
 mod tally;
 mod texts;
 
+// The wrapper, here because the oracle reads the memory of a lot book.
 #[path = "stand_in/block.rs"]
 mod block;
 #[path = "stand_in/cfg.rs"]
 mod cfg;
+#[cfg(ported)]
+#[path = "../../wrapper/src/lib.rs"]
+#[allow(dead_code)]
+mod lots;
 // The unchanged Rust files, laid out by build.rs: `mod graph`.
 include!(concat!(env!("OUT_DIR"), "/graph.rs"));
 
@@ -36,8 +41,7 @@ use std::{env, fs};
 use compare::Trio;
 use tally::{Difference, Tally};
 
-const USAGE: &str =
-    "usage: oracle/run [--operations N] [--seed S] [--depth D] [--record DIR | --benchmark]";
+const USAGE: &str = "usage: oracle/run [--operations N] [--seed S] [--depth D] [--record DIR | --benchmark | --scale]";
 
 struct Options {
     /// How many operations the random sequences make, at the least.
@@ -49,6 +53,8 @@ struct Options {
     record: Option<PathBuf>,
     /// Times the port's check and the Rust's, in place of comparing.
     benchmark: bool,
+    /// Compares lot books alone, on ten million operations unless told otherwise.
+    scale: bool,
 }
 
 fn options() -> Result<Options, String> {
@@ -58,11 +64,17 @@ fn options() -> Result<Options, String> {
         depth: 4,
         record: None,
         benchmark: false,
+        scale: false,
     };
     let mut arguments = env::args().skip(1);
     while let Some(name) = arguments.next() {
         if name == "--benchmark" {
             options.benchmark = true;
+            continue;
+        }
+        if name == "--scale" {
+            options.scale = true;
+            options.operations = 10_000_000;
             continue;
         }
         let value = arguments.next().ok_or(USAGE)?;
@@ -116,6 +128,12 @@ fn compare(options: &Options) -> bool {
     } = options;
     println!("seed {seed}");
     let mut tally = Tally::new();
+    if options.scale {
+        if let Err(difference) = compare_books(operations, seed, &mut tally) {
+            tally.report(&difference);
+        }
+        return told(&tally);
+    }
     sequences::compare_random::<Trio>(operations, seed, &mut tally);
     sequences::compare_exhaustive::<Trio>(depth, &mut tally);
 
@@ -135,6 +153,11 @@ fn compare(options: &Options) -> bool {
             tally.report(&difference);
         }
     }
+    told(&tally)
+}
+
+/// Prints what was compared; whether nothing differed.
+fn told(tally: &Tally) -> bool {
     println!("{tally}");
     println!(
         "{} compared, {} different",
@@ -142,6 +165,14 @@ fn compare(options: &Options) -> bool {
         tally.differences
     );
     tally.differences == 0
+}
+
+#[cfg(all(ported, feature = "serde"))]
+use ported::compare_books;
+
+#[cfg(not(all(ported, feature = "serde")))]
+fn compare_books(_: u64, _: u64, _: &mut Tally) -> Result<(), Difference> {
+    panic!("lot books need the proved code and validate.rs")
 }
 
 #[cfg(feature = "serde")]

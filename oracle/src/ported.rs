@@ -1,5 +1,5 @@
 //! The proved Rattle code beside the Rust store: the static libraries of crates
-//! `layers` and `boundary` are linked, the same steps are made on both, and what
+//! `layers` and `boundary` are linked, the latter through its Rust wrapper, the same steps are made on both, and what
 //! both tell is compared.
 //!
 //! The modules below own the memory and test what each contract requires before
@@ -9,6 +9,8 @@
 mod axis;
 #[cfg(feature = "serde")]
 pub mod benchmark;
+#[cfg(feature = "serde")]
+mod book;
 mod columns;
 #[cfg(feature = "serde")]
 mod damaged;
@@ -33,6 +35,7 @@ use crate::tally::{Difference, Tally, Thing};
 use exports::{Counts, Slots};
 use live::Live;
 use memory::{Memory, Reader};
+use words::Words;
 
 /// What stands past a list in a lent slice, to see that it stays.
 const PAST: [u32; 2] = [0xdead_beef, 7];
@@ -49,6 +52,48 @@ fn kept(mut words: Vec<u32>) -> Vec<u32> {
     let past = words.split_off(words.len() - PAST.len());
     assert_eq!(past, PAST, "promised: words past the list as they were");
     words
+}
+
+/// What makes strips by the proved code.
+trait Port {
+    /// The call's own answer.
+    fn strip(&mut self, words: &[u32], answers: &mut [u32]) -> Answer;
+    /// A copy of all that is lent for a store.
+    fn words(&self) -> Words;
+}
+
+/// Makes a strip on all sides, with an answer slice of so many words. Where the
+/// strip or each of its operations is refused, every word of the memory stays.
+fn compare_strip(
+    model: &mut Model,
+    rust: &mut RustStore,
+    port: &mut impl Port,
+    words: &[u32],
+    length: usize,
+    tally: &mut Tally,
+) -> Same {
+    let place = || format!("strip {words:?}, answer slice {length}");
+    let answered = calls::strip(rust, words, length);
+    calls::strip(model, words, length).ok();
+    let mut given = vec![NONE - 1; length];
+    let mut expected = given.clone();
+    let mut refused = true;
+    let answers = answered.as_deref().unwrap_or_default();
+    let (operations, _) = words.as_chunks();
+    let (pairs, _) = expected.as_chunks_mut();
+    for ((&operation, &answer), pair) in operations.iter().zip(answers).zip(pairs) {
+        tally.answered(operation, answer);
+        refused &= answer.number != 0;
+        *pair = [answer.number, answer.value as u32];
+    }
+    let before = refused.then(|| port.words());
+    let expected = (answered.err().unwrap_or(Answer::done(0)), expected);
+    let given = (port.strip(words, &mut given), given);
+    tally.same(Thing::PortAnswer, place, expected, given)?;
+    if let Some(before) = before {
+        tally.same(Thing::PortRefusal, place, before, port.words())?;
+    }
+    Ok(())
 }
 
 #[derive(Clone)]
@@ -113,32 +158,14 @@ impl Ported {
         }
     }
 
-    /// Makes a strip on both sides, with an answer slice of so many words. Where
-    /// the strip or each of its operations is refused, every word of the memory
-    /// stays.
     fn strip(&mut self, words: &[u32], length: usize, tally: &mut Tally) -> Same {
-        let place = || format!("strip {words:?}, answer slice {length}");
-        let answered = calls::strip(&mut self.rust, words, length);
-        calls::strip(&mut self.model, words, length).ok();
-        let mut given = vec![NONE - 1; length];
-        let mut expected = given.clone();
-        let mut refused = true;
-        let answers = answered.as_deref().unwrap_or_default();
-        let (operations, _) = words.as_chunks();
-        let (pairs, _) = expected.as_chunks_mut();
-        for ((&operation, &answer), pair) in operations.iter().zip(answers).zip(pairs) {
-            tally.answered(operation, answer);
-            refused &= answer.number != 0;
-            *pair = [answer.number, answer.value as u32];
-        }
-        let before = refused.then(|| self.memory.words());
-        let expected = (answered.err().unwrap_or(Answer::done(0)), expected);
-        let given = (self.memory.strip(words, &mut given), given);
-        tally.same(Thing::PortAnswer, place, expected, given)?;
-        if let Some(before) = before {
-            tally.same(Thing::PortRefusal, place, before, self.memory.words())?;
-        }
-        Ok(())
+        let Self {
+            model,
+            rust,
+            memory,
+            ..
+        } = self;
+        compare_strip(model, rust, memory, words, length, tally)
     }
 
     fn compact(&mut self, tally: &mut Tally) -> Same {
@@ -324,6 +351,16 @@ pub fn compare(operations: u64, depth: usize, seed: u64, tally: &mut Tally) -> S
     strips::compare(4_000, seed, tally)?;
     maps::compare(20_000, seed, tally)?;
     #[cfg(feature = "serde")]
-    damaged::compare(60_000, seed, tally)?;
+    {
+        damaged::compare(60_000, seed, tally)?;
+        book::compare(operations, operations / 10, seed, tally)?;
+    }
     Ok(())
+}
+
+/// The wrapper's lot books alone, on so many operations, and a tenth as many on
+/// damaged stores.
+#[cfg(feature = "serde")]
+pub fn compare_books(operations: u64, seed: u64, tally: &mut Tally) -> Same {
+    book::compare(operations, operations / 10, seed, tally)
 }

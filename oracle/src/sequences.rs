@@ -70,7 +70,7 @@ fn replay<S: Sides>(
 }
 
 /// A panic of the Rust where none is awaited is a difference too.
-fn guarded(action: impl FnOnce() -> Same) -> Same {
+pub fn guarded(action: impl FnOnce() -> Same) -> Same {
     caught(action).unwrap_or_else(|text| {
         let place = || "in the middle of a step".to_string();
         Tally::new().same(Thing::Panic, place, "no panic", text)

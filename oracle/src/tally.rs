@@ -114,6 +114,20 @@ things! {
         "an identity map holds i at each i below the bound";
     PortCompose: "port: compositions of maps",
         "A short second map gives NONE.";
+    BookWhole: "book: bounds, counts, empty, compact, the check",
+        "The check, the yes or no reads of a store, bounds and counts: 1.";
+    BookList: "book: walks, successors and predecessors, lists of live slots, into slices of several lengths",
+        "Walk: 1, 5, 2. List of live nodes or edges in slot order: 1, 2.";
+    BookDegree: "book: degrees",
+        "Degree and node payload: 1, 5.";
+    BookSlot: "book: payloads, records in both readings, live or not",
+        "Record 1, 7; live record 1, 7, 8.";
+    BookFind: "book: found edges",
+        "some live edge from one node to another, or NONE (still number 0) if there is none and only then";
+    BookPart: "book: base parts, runs and rings in its memory",
+        "`sweep` drops dead slots only if some edge is removed and the run's length is a power of two.";
+    BookRefused: "book: calls on damaged stores that are refused, and the words afterwards",
+        "words are no store | 1 | rule 1 to 7 | everything";
     Vectors: "recorded sequences",
         "the committed file is what its seed gives";
 }
@@ -270,7 +284,11 @@ impl fmt::Display for Tally {
         writeln!(formatter, "compared:")?;
         for &thing in Thing::ALL {
             let (name, _) = thing.described();
-            writeln!(formatter, "  {:>11} {name}", self.compared[thing as usize])?;
+            // A run of some parts compares nothing else.
+            match self.compared[thing as usize] {
+                0 => {}
+                times => writeln!(formatter, "  {times:>11} {name}")?,
+            }
         }
         Ok(())
     }

@@ -1,4 +1,8 @@
 // The public entries for programs in C or Rust, over slices and numbers: each is the entry that it wraps, by the same contract, and requires nothing.
+// The C header is lots.h beside this crate's src.
 
 pub mod maps; // crate renumbering
+pub mod slots; // crate view
 pub mod stores; // crates validate and strip
+pub mod walks; // crate view
+pub mod whole; // crate view

@@ -1,7 +1,13 @@
-//! The time of the port's check as a part of the Rust's, on stores as large as
-//! the port takes: `oracle/run --benchmark`.
+//! The port's times as a part of the Rust's, on stores as large as the port
+//! takes: `oracle/run --benchmark`.
 //!
-//! Timed are one call of `lot_check` and one of `Graph::try_from` in `validate.rs`
+//! Workloads of operations: the same operations to the Rust's own calls, one after
+//! another, and to the wrapper's lot book in strips. Each strip checks the whole
+//! store before it begins; what that takes is timed by itself on the same store
+//! just before the strip. Reads: every list through the public entries, which check
+//! the whole store for each, and through the internal functions behind them.
+//!
+//! The check: timed are one call of `lot_check` and one of `Graph::try_from` in `validate.rs`
 //! on the decoded columns of the same store, in turns; not timed are the decoding
 //! and dropping of the store. `try_from` looks at the columns where they are, but
 //! makes the runs from the map that was decoded, testing their entries; what that
@@ -9,12 +15,14 @@
 
 use std::time::{Duration, Instant};
 
+use super::Port;
 use super::memory::Memory;
 use crate::calls::Lots;
 use crate::graph::store::Graph;
-use crate::model::{Answer, Capacities, LIMIT};
+use crate::lots::LotBook;
+use crate::model::{Capacities, DIRECTIONS, LIMIT, Operation};
 use crate::rng::Rng;
-use crate::rust_store::RustStore;
+use crate::rust_store::{self, RustStore, perform};
 
 /// As many nodes as edges.
 const SLOTS: u32 = LIMIT as u32;
@@ -50,14 +58,14 @@ fn median(mut times: Vec<Duration>) -> f64 {
 }
 
 fn compare(name: &str, rust: &RustStore) {
-    let words = Memory::of(rust).words();
+    let book = LotBook::from_memory(Memory::of(rust).words());
     let written = serde_json::to_value(&rust.graph).expect("a store can be written");
     let mut times = [const { Vec::new() }; 3];
     for _ in 0..TIMES {
         let began = Instant::now();
-        let answer = words.check();
+        let answer = book.check();
         let port = began.elapsed();
-        assert_eq!(answer, Answer::done(0), "the port passes the store");
+        assert_eq!(answer, Ok(()), "the port passes the store");
         let (graph, [whole, making]) = Graph::judged(written.clone());
         assert_eq!(graph.as_ref(), Ok(&rust.graph), "the Rust passes the store");
         for (times, time) in times.iter_mut().zip([port, whole, making]) {
@@ -73,9 +81,248 @@ fn compare(name: &str, rust: &RustStore) {
     );
 }
 
+/// A store on both sides.
+#[derive(Clone)]
+struct Pair {
+    rust: RustStore,
+    book: LotBook,
+}
+
+/// How often a workload is timed; at strips of one, once.
+const REPEATS: usize = 5;
+
+impl Pair {
+    fn of(rust: RustStore) -> Self {
+        let book = LotBook::from_memory(Memory::of(&rust).words());
+        Self { rust, book }
+    }
+
+    /// The Rust's time for the operations, all of which it can do.
+    fn rust_time(&self, operations: &[[u32; 4]]) -> Duration {
+        let decoded = operations.iter().map(|&words| Operation::decode(words));
+        let decoded: Vec<Operation> = decoded.map(|each| each.expect("an operation")).collect();
+        let mut graph = self.rust.graph.clone();
+        let began = Instant::now();
+        let mut sum = 0u32;
+        for operation in decoded {
+            sum = sum.wrapping_add(perform(&mut graph, operation));
+        }
+        let time = began.elapsed();
+        std::hint::black_box((sum, graph));
+        time
+    }
+
+    /// The port's time for the operations by strips of so many, and that of the
+    /// check alone, made besides on the store before each strip.
+    fn port_times(&self, operations: &[[u32; 4]], strip: usize) -> [Duration; 2] {
+        let mut book = self.book.clone();
+        let mut answers = vec![0; 2 * strip];
+        let mut times = [Duration::ZERO; 2];
+        for words in operations.chunks(strip) {
+            let began = Instant::now();
+            book.check().expect("a store");
+            times[1] += began.elapsed();
+            let began = Instant::now();
+            book.strip_words(words.as_flattened(), &mut answers)
+                .expect("a store");
+            times[0] += began.elapsed();
+            let (pairs, _) = answers.as_chunks::<2>();
+            assert!(
+                pairs[..words.len()].iter().all(|&[number, _]| number == 0),
+                "all are done"
+            );
+        }
+        times
+    }
+
+    /// Both sides on the operations, by strips of these lengths.
+    fn compare(&self, name: &str, operations: &[[u32; 4]], strips: &[usize]) {
+        for &strip in strips {
+            let repeats = if strip == 1 { 1 } else { REPEATS };
+            let mut times = [const { Vec::new() }; 3];
+            for _ in 0..repeats {
+                let [port, check] = self.port_times(operations, strip);
+                for (times, time) in times
+                    .iter_mut()
+                    .zip([port, check, self.rust_time(operations)])
+                {
+                    times.push(time);
+                }
+            }
+            let [port, check, rust] = times.map(median);
+            println!(
+                "{name}, {} operations by strips of {strip}: port {port:.0} µs, of it the check {check:.0} µs, Rust {rust:.0} µs, \
+                 ratio {:.2}, without the check {:.2}",
+                operations.len(),
+                port / rust,
+                (port - check).max(0.0) / rust
+            );
+        }
+    }
+
+    /// Every list and every degree, both ways: by the internal functions, and by
+    /// the public entries for some nodes.
+    fn compare_reads(&self) {
+        const SOME: u32 = 256;
+        let memory = Memory::of(&self.rust);
+        let reader = memory.reader().expect("no rule is broken");
+        let graph = &self.rust.graph;
+        let nodes = 0..graph.node_bound() as u32;
+        let mut sums = [0usize; 2];
+        let mut timed = |action: &mut dyn FnMut() -> usize, side: usize| {
+            let mut times = Vec::new();
+            for _ in 0..REPEATS {
+                let began = Instant::now();
+                sums[side] = action();
+                times.push(began.elapsed());
+            }
+            (median(times), sums[side])
+        };
+        let tell = |name: &str, port: (f64, usize), public: f64, rust: (f64, usize)| {
+            assert_eq!(port.1, rust.1, "both sides read the same");
+            println!(
+                "{name} of all nodes, both ways: port {:.0} µs without checks, Rust {:.0} µs, ratio {:.2}; \
+                 a public call, with its check, {public:.0} µs",
+                port.0,
+                rust.0,
+                port.0 / rust.0
+            );
+        };
+        let each = |call: &mut dyn FnMut(usize, u32) -> usize| {
+            let nodes = nodes.clone();
+            let sides = (0..2).flat_map(|side| nodes.clone().map(move |node| (side, node)));
+            sides.map(|(side, node)| call(side, node)).sum()
+        };
+        let some = |call: &mut dyn FnMut(u32) -> u32| -> usize {
+            (0..SOME).map(|node| call(node) as usize).sum()
+        };
+        let port = timed(
+            &mut || {
+                each(&mut |side, node| {
+                    std::hint::black_box(reader.sides[side].walk(node as usize, true)).len()
+                })
+            },
+            0,
+        );
+        let public = timed(
+            &mut || some(&mut |node| self.book.outgoing(node).expect("a store").len() as u32),
+            0,
+        );
+        let rust = timed(
+            &mut || {
+                each(&mut |side, node| {
+                    std::hint::black_box(rust_store::walk(graph, DIRECTIONS[side], node)).len()
+                })
+            },
+            1,
+        );
+        tell("walks", port, public.0 / f64::from(SOME), rust);
+        let port = timed(
+            &mut || each(&mut |side, node| reader.sides[side].degree(node as usize, true)),
+            0,
+        );
+        let public = timed(
+            &mut || some(&mut |node| self.book.out_degree(node).expect("a store")),
+            0,
+        );
+        let rust = timed(
+            &mut || {
+                each(&mut |side, node| rust_store::degree(graph, DIRECTIONS[side], node) as usize)
+            },
+            1,
+        );
+        tell("degrees", port, public.0 / f64::from(SOME), rust);
+    }
+}
+
+/// Redirections of either end of random edges to random nodes.
+fn redirects(count: u32, rng: &mut Rng) -> Vec<[u32; 4]> {
+    let redirect = |_| {
+        [
+            5 + rng.word() % 2,
+            rng.word() % SLOTS,
+            rng.word() % SLOTS,
+            0,
+        ]
+    };
+    (0..count).map(redirect).collect()
+}
+
+/// Slots 0 to 32,767 in random order.
+fn shuffled(rng: &mut Rng) -> Vec<u32> {
+    let mut slots: Vec<u32> = (0..SLOTS).collect();
+    rng.shuffle(&mut slots);
+    slots
+}
+
+fn compare_operations(rng: &mut Rng) {
+    let nodes = (0..SLOTS).map(|payload| [1, 0, 0, payload]);
+    let edges: Vec<[u32; 4]> = (0..SLOTS)
+        .map(|payload| [2, rng.word() % SLOTS, rng.word() % SLOTS, payload])
+        .collect();
+    let build: Vec<[u32; 4]> = nodes.clone().chain(edges).collect();
+    let capacities = Capacities {
+        nodes: SLOTS,
+        edges: SLOTS,
+    };
+    let empty = Pair::of(RustStore::fresh(capacities));
+    empty.compare("building", &build, &[1, 64, 4096]);
+
+    let mut rust = empty.rust.clone();
+    for &words in &build {
+        rust.operation(words);
+    }
+    let built = Pair::of(rust);
+    built.compare("random redirects", &redirects(SLOTS, rng), &[64, 4096]);
+
+    let mut rust = empty.rust;
+    for words in nodes.chain((0..SLOTS).map(|payload| [2, 0, payload, payload])) {
+        rust.operation(words);
+    }
+    let hub = Pair::of(rust);
+    let away = |edge: u32| [5, edge, 1 + edge % (SLOTS - 1), 0];
+    let in_order: Vec<[u32; 4]> = (0..8192).map(away).collect();
+    hub.compare(
+        "redirects away from a hub, in its order",
+        &in_order,
+        &[4096],
+    );
+    let any: Vec<[u32; 4]> = shuffled(rng).into_iter().take(8192).map(away).collect();
+    hub.compare("redirects away from a hub, in any order", &any, &[4096]);
+
+    let moves: Vec<[u32; 4]> = (0..SLOTS)
+        .map(|_| {
+            [
+                7 + rng.word() % 2,
+                rng.word() % SLOTS,
+                rng.word() % SLOTS,
+                0,
+            ]
+        })
+        .filter(|[_, old, new, _]| old != new)
+        .collect();
+    built.compare("moves", &moves, &[64, 4096]);
+
+    let edges = shuffled(rng)
+        .into_iter()
+        .take(SLOTS as usize / 2)
+        .map(|edge| [3, edge, 0, 0]);
+    let nodes = shuffled(rng).into_iter().map(|node| [4, node, 0, 0]);
+    let removals: Vec<[u32; 4]> = edges.chain(nodes).collect();
+    built.compare(
+        "removals, half of the edges and then every node",
+        &removals,
+        &[64, 4096],
+    );
+
+    built.compare_reads();
+}
+
 pub fn run(seed: u64) {
-    println!("check of {SLOTS} nodes and {SLOTS} edges, seed {seed}, median of {TIMES}");
+    println!("stores of {SLOTS} nodes and {SLOTS} edges, seed {seed}");
     let mut rng = Rng::new(seed);
+    compare_operations(&mut rng);
+    println!("the check, median of {TIMES}");
     let delta = added(&mut rng);
     let mut compact = delta.clone();
     compact.graph.compact();

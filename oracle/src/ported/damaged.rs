@@ -7,10 +7,10 @@ use std::fmt;
 
 use serde_json::{Map, Value, json};
 
-use super::Ported;
 use super::columns::{Column, Columns};
 use super::exports::Slots;
 use super::words::Words;
+use super::{Port, Ported};
 use crate::checked::{read, rule_of};
 use crate::generate::{Generator, MEDIUM, MIXES, SHORT};
 use crate::model::{Answer, LIMIT, NONE};
@@ -278,11 +278,19 @@ fn resize<T: Copy>(slice: &mut Vec<T>, shorter: bool, more: usize, word: T) {
     }
 }
 
+/// Changes a store in one to three places.
+pub fn damage(words: &mut Words, rng: &mut Rng) {
+    for _ in 0..rng.pick(&[1, 1, 1, 2, 3]) {
+        let mut damage = Damage { words, rng };
+        damage.any();
+    }
+}
+
 /// The words as the Rust writes a store, where rule 1 holds. Where both base
 /// counts are 0 there is no index. A ring word is a position among the edges that
 /// came since the base, so that one below the base becomes one above the bound.
 /// A run is cut where its entries can only repeat, and has no tail.
-fn written(words: &Words) -> Value {
+pub fn written(words: &Words) -> Value {
     let Slots {
         bound: nodes,
         base: base_nodes,
@@ -485,13 +493,7 @@ pub fn compare(stores: u64, seed: u64, tally: &mut Tally) -> Same {
             let step = generator.step(ported.model());
             ported.compare_step(&step, false, tally)?;
             let mut words = ported.memory.words();
-            for _ in 0..rng.pick(&[1, 1, 1, 2, 3]) {
-                let mut damage = Damage {
-                    words: &mut words,
-                    rng: &mut rng,
-                };
-                damage.any();
-            }
+            damage(&mut words, &mut rng);
             found.compare(&words, tally)?;
         }
     }

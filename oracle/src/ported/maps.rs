@@ -1,43 +1,31 @@
-//! The proved functions over maps, held against the Rust's `Renumbering`. They
+//! The proved functions over maps, through the wrapper, held against the Rust's `Renumbering`. They
 //! require nothing of the words.
 
-use super::exports;
 use super::{kept, lent};
 use crate::graph::store::Renumbering;
+use crate::lots::maps;
 use crate::maps::map;
 use crate::model::{Answer, NONE};
 use crate::rng::Rng;
-use crate::rust_store::{LOOKUPS, maps};
+use crate::rust_store::{self, LOOKUPS};
 use crate::sequences::Same;
 use crate::tally::{Tally, Thing};
 
 fn lookup(map: &[u32], slot: u32) -> Answer {
-    // SAFETY: the map is borrowed and as long as stated.
-    unsafe { exports::lot_lookup(map.as_ptr(), map.len(), slot) }
+    Answer::done(maps::lookup(map, slot).unwrap_or(NONE).into())
 }
 
 fn is_identity(nodes: &[u32], edges: &[u32]) -> Answer {
-    // SAFETY: the maps are borrowed and as long as stated.
-    unsafe { exports::lot_is_identity(nodes.as_ptr(), nodes.len(), edges.as_ptr(), edges.len()) }
+    Answer::done(maps::is_identity(nodes, edges).into())
 }
 
 fn compose(first: &[u32], second: &[u32], result: &mut [u32]) -> Answer {
-    // SAFETY: the slices are borrowed and as long as stated, `result` mutably.
-    unsafe {
-        exports::lot_compose(
-            first.as_ptr(),
-            first.len(),
-            second.as_ptr(),
-            second.len(),
-            result.as_mut_ptr(),
-            result.len(),
-        )
-    }
+    maps::compose(first, second, result).map_or_else(Answer::from, |()| Answer::done(0))
 }
 
 /// Lookups of every old slot and of some above, and the identity test.
 pub fn compare_lookups(renumbering: &Renumbering, tally: &mut Tally) -> Same {
-    let [nodes, edges] = maps(renumbering);
+    let [nodes, edges] = rust_store::maps(renumbering);
     for (map, rust) in [&nodes, &edges].into_iter().zip(LOOKUPS) {
         let bound = map.len() as u32;
         for old in (0..bound).chain([bound, bound + 1, NONE]) {
@@ -59,8 +47,10 @@ pub fn compare_lookups(renumbering: &Renumbering, tally: &mut Tally) -> Same {
 /// The first and then the second, of nodes and of edges: into a slice with words
 /// to spare, and into one that is too short.
 pub fn compare_composed(first: &Renumbering, second: &Renumbering, tally: &mut Tally) -> Same {
-    let composed = maps(&first.compose(second));
-    let pairs = maps(first).into_iter().zip(maps(second));
+    let composed = rust_store::maps(&first.compose(second));
+    let pairs = rust_store::maps(first)
+        .into_iter()
+        .zip(rust_store::maps(second));
     for ((first, second), expected) in pairs.zip(composed) {
         let place = || format!("{first:?} with {second:?}");
         let mut result = lent(first.len());

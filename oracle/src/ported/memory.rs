@@ -5,6 +5,7 @@
 
 use std::mem::take;
 
+use super::Port;
 use super::axis::{Axis, Readable};
 use super::exports::Counts;
 use super::live::Live;
@@ -92,20 +93,6 @@ impl Memory {
         }
     }
 
-    /// A copy of all that is lent for a store.
-    pub fn words(&self) -> Words {
-        let [nodes, edges] = self.payloads.clone();
-        let [outgoing, incoming] = &self.axes;
-        Words {
-            counts: self.counts(),
-            nodes,
-            edges,
-            live_nodes: self.nodes.words().to_vec(),
-            live_edges: self.edges.words().to_vec(),
-            axes: [outgoing, incoming].map(|axis| axis.words().to_vec()),
-        }
-    }
-
     /// Reads of the store, if it passes the tests; else the name of the first
     /// that fails.
     pub fn reader(&self) -> Result<Reader<'_>, &'static str> {
@@ -118,33 +105,6 @@ impl Memory {
                 incoming.readable(counts, &self.edges)?,
             ],
         })
-    }
-
-    /// Makes the operations of a strip, and gives the call's own answer.
-    pub fn strip(&mut self, words: &[u32], answers: &mut [u32]) -> Answer {
-        let counts = self.counts();
-        let (live_nodes, node_slots) = self.nodes.parts();
-        let (live_edges, edge_slots) = self.edges.parts();
-        let mut axes = self.axes.each_mut().map(Axis::words_mut);
-        let mut payloads = self.payloads.each_mut();
-        let [nodes, edges] = payloads.each_mut().map(|payloads| take(*payloads));
-        // The words go out and come back: nothing is copied.
-        let mut lent = Words {
-            counts,
-            nodes,
-            edges,
-            live_nodes: take(live_nodes),
-            live_edges: take(live_edges),
-            axes: axes.each_mut().map(|words| take(*words)),
-        };
-        let answer = lent.strip(words, answers);
-        [*node_slots, *edge_slots] = [lent.counts.nodes, lent.counts.edges];
-        [*live_nodes, *live_edges] = [lent.live_nodes, lent.live_edges];
-        self.payloads = [lent.nodes, lent.edges];
-        for (words, lent) in axes.into_iter().zip(lent.axes) {
-            *words = lent;
-        }
-        answer
     }
 
     /// Source, target and payload of an edge.
@@ -178,5 +138,46 @@ impl Memory {
 
     pub fn offsets(&self, side: usize) -> Vec<u32> {
         self.axes[side].offsets(self.counts().nodes.base as usize)
+    }
+}
+
+impl Port for Memory {
+    fn words(&self) -> Words {
+        let [nodes, edges] = self.payloads.clone();
+        let [outgoing, incoming] = &self.axes;
+        Words {
+            counts: self.counts(),
+            nodes,
+            edges,
+            live_nodes: self.nodes.words().to_vec(),
+            live_edges: self.edges.words().to_vec(),
+            axes: [outgoing, incoming].map(|axis| axis.words().to_vec()),
+        }
+    }
+
+    fn strip(&mut self, words: &[u32], answers: &mut [u32]) -> Answer {
+        let counts = self.counts();
+        let (live_nodes, node_slots) = self.nodes.parts();
+        let (live_edges, edge_slots) = self.edges.parts();
+        let mut axes = self.axes.each_mut().map(Axis::words_mut);
+        let mut payloads = self.payloads.each_mut();
+        let [nodes, edges] = payloads.each_mut().map(|payloads| take(*payloads));
+        // The words go out and come back: nothing is copied.
+        let mut lent = Words {
+            counts,
+            nodes,
+            edges,
+            live_nodes: take(live_nodes),
+            live_edges: take(live_edges),
+            axes: axes.each_mut().map(|words| take(*words)),
+        };
+        let answer = lent.strip(words, answers);
+        [*node_slots, *edge_slots] = [lent.counts.nodes, lent.counts.edges];
+        [*live_nodes, *live_edges] = [lent.live_nodes, lent.live_edges];
+        self.payloads = [lent.nodes, lent.edges];
+        for (words, lent) in axes.into_iter().zip(lent.axes) {
+            *words = lent;
+        }
+        answer
     }
 }

@@ -13,7 +13,7 @@ use crate::tally::{Tally, Thing};
 
 /// The words of up to so many operations, each chosen by what those before it
 /// leave.
-fn operations(most: usize, model: &Model, generator: &mut Generator) -> Vec<u32> {
+pub fn operations(most: usize, model: &Model, generator: &mut Generator) -> Vec<u32> {
     let mut model = model.clone();
     let mut words = Vec::new();
     for _ in 0..generator.rng.below(most + 1) {

@@ -1,0 +1,188 @@
+/* The lot store for programs in C: the public entries of crate `boundary`, proved. A lot is a node, a transfer between lots is an edge.
+ *
+ * `rt staticlib boundary` writes target/staticlib/libboundary.a, to be linked; wrapper/tests/header.c is a small program that uses it.
+ *
+ * What every function needs: each slice is a pointer, not NULL even where the length is 0, and a number of words that can be read there (and written where the
+ * pointer is not const); no written slice overlaps another slice of the call. Nothing else: counts, words and lengths may be anything.
+ *
+ * What every function answers: number 0 and a value, or the number of a refusal. A call that refuses writes nothing.
+ *
+ *   number  cause                                        value
+ *   0       done                                         as each function says
+ *   1       the words are no store                       the first broken rule, 1 to 7
+ *   2       a lent slice is too short                    the length needed
+ *   3       a strip is not a multiple of four words      its length
+ *   5       a node at or above the bound                 LOT_NONE
+ *   7       an edge at or above the bound                LOT_NONE
+ *   8       a removed edge                               LOT_NONE
+ *   13      a capacity above 32,768                      that capacity
+ *
+ * Operations of a strip are refused by themselves (lot_strip). docs/ENTRIES.md tells the same of the Rattle functions, with the definition that each is proved
+ * equal to.
+ */
+#ifndef LOTS_H
+#define LOTS_H
+
+#include <stddef.h>
+#include <stdint.h>
+
+#ifdef __cplusplus
+extern "C" {
+#endif
+
+/* "None" where a slot is answered. */
+#define LOT_NONE UINT32_C(4294967295)
+/* The most node slots, and the most edge slots. */
+#define LOT_LIMIT 32768
+/* The words of `outgoing` and of `incoming`, and of live bits, for so many slots. */
+#define LOT_AXIS_WORDS(nodes, edges) (4 * (size_t)(edges) + 6 * (size_t)(nodes) + 1)
+#define LOT_LIVE_WORDS(slots) (((size_t)(slots) + 63) / 64)
+
+/* The counts of one kind of slot: all slots, those that the compressed base holds, those that are live. */
+typedef struct {
+    uint32_t bound;
+    uint32_t base;
+    uint32_t live;
+} lot_slots;
+
+/* The counts of a store, beside its six slices. */
+typedef struct {
+    lot_slots nodes;
+    lot_slots edges;
+} lot_counts;
+
+typedef struct {
+    uint32_t number;
+    uint64_t value;
+} lot_answer;
+
+/* What a call answers that makes or changes a store: the counts afterwards too. */
+typedef struct {
+    uint32_t number;
+    uint64_t value;
+    lot_counts counts;
+} lot_changed;
+
+/* What reading a record answers; the last three are 0 where it is refused. */
+typedef struct {
+    uint32_t number;
+    uint64_t value;
+    uint32_t source;
+    uint32_t target;
+    uint32_t payload;
+} lot_record;
+
+/* A store is its counts and six slices, which the caller owns:
+ *   nodes       payloads of nodes; the length is the node capacity N
+ *   edges       payloads of edges; the length is the edge capacity E
+ *   live_nodes  LOT_LIVE_WORDS(N)
+ *   live_edges  LOT_LIVE_WORDS(E)
+ *   outgoing    LOT_AXIS_WORDS(N, E)
+ *   incoming    LOT_AXIS_WORDS(N, E)
+ * Longer ones are taken; words past these lengths are never written. */
+#define LOT_STORE_READ                                                                                                                               \
+    const uint32_t *nodes, size_t nodes_length, const uint32_t *edges, size_t edges_length, const uint64_t *live_nodes, size_t live_nodes_length,     \
+        const uint64_t *live_edges, size_t live_edges_length, const uint32_t *outgoing, size_t outgoing_length, const uint32_t *incoming,             \
+        size_t incoming_length
+#define LOT_STORE_WRITTEN                                                                                                                            \
+    uint32_t *nodes, size_t nodes_length, uint32_t *edges, size_t edges_length, uint64_t *live_nodes, size_t live_nodes_length, uint64_t *live_edges, \
+        size_t live_edges_length, uint32_t *outgoing, size_t outgoing_length, uint32_t *incoming, size_t incoming_length
+
+/* ---- making and changing a store */
+
+/* A fresh store in this memory. Answers 0, with counts that are all 0 (also beside a refusal). Leaves every word: with no slot none is read. Refuses 13 (nodes
+ * before edges), then 2 in the order of the slices. */
+lot_changed lot_fresh(LOT_STORE_READ);
+
+/* The operations of a strip in turn, four words each: code, first, second, payload; an unused word is 0. Each leaves two words in `answers`, number and value.
+ *
+ *   code                  words                    value                              refusals in order
+ *   1  add node           0, 0, payload            the new slot                       4, 10
+ *   2  add edge           source, target, payload  the new slot                       4, source 5, 6, target 5, 6, 10
+ *   3  remove edge        edge, 0, 0               1, or 0 where nothing live was     4
+ *   4  remove node        node, 0, 0               1, or 0 where nothing live was     4
+ *   5  redirect source    edge, node, 0            the previous source                4, 7, 8, 5, 6
+ *   6  redirect target    edge, node, 0            the previous target                4, 7, 8, 5, 6
+ *   7  move out-list      old, new, 0              the edges moved                    4, 9, old 5; an empty list is done, 0; new 5, 6
+ *   8  move in-list       old, new, 0              the edges moved                    4, 9, old 5; an empty list is done, 0; new 5, 6
+ *   9  set edge payload   edge, 0, payload         0                                  4, 7
+ *
+ * 4 is an unknown code or an unused word that is not 0, 6 a removed node, 9 a move onto itself, 10 a bound that equals the capacity; the value of a refused
+ * operation is LOT_NONE. A refused operation changes nothing and the strip goes on.
+ *
+ * Answers 0, with the counts afterwards, which the next call takes. Refuses 1, then 3, then 2 (two words an operation); then the counts are those given. Leaves
+ * the words of `answers` past the answers. */
+lot_changed lot_strip(lot_counts counts, LOT_STORE_WRITTEN, const uint32_t *words, size_t words_length, uint32_t *answers, size_t answers_length);
+
+/* Whether the words are a store. Answers 0. Refuses 1. Every function below that takes a store makes the same check first. */
+lot_answer lot_check(lot_counts counts, LOT_STORE_READ);
+
+/* ---- reads of a node's list; of a removed node it is empty */
+
+/* How many edges the out-list, the in-list has. Refuses 1, 5. */
+lot_answer lot_out_degree(lot_counts counts, LOT_STORE_READ, uint32_t node);
+lot_answer lot_in_degree(lot_counts counts, LOT_STORE_READ, uint32_t node);
+
+/* The edges of the out-list, the in-list, in order, at the start of `slots`. Answers how many. Refuses 1, 5, 2. Leaves the words of `slots` past them. */
+lot_answer lot_outgoing(lot_counts counts, LOT_STORE_READ, uint32_t node, uint32_t *slots, size_t slots_length);
+lot_answer lot_incoming(lot_counts counts, LOT_STORE_READ, uint32_t node, uint32_t *slots, size_t slots_length);
+
+/* The same of the targets of the out-list, the sources of the in-list. */
+lot_answer lot_successors(lot_counts counts, LOT_STORE_READ, uint32_t node, uint32_t *slots, size_t slots_length);
+lot_answer lot_predecessors(lot_counts counts, LOT_STORE_READ, uint32_t node, uint32_t *slots, size_t slots_length);
+
+/* Some live edge from `first` to `second`, or LOT_NONE where there is none and only then. Which one is left open. Refuses 1, first 5, second 5. */
+lot_answer lot_find(lot_counts counts, LOT_STORE_READ, uint32_t first, uint32_t second);
+
+/* ---- reads of a slot */
+
+/* The payload of a node, of a removed one too. Refuses 1, 5. */
+lot_answer lot_node_payload(lot_counts counts, LOT_STORE_READ, uint32_t node);
+
+/* The ends and the payload of an edge, of a removed one too, which keeps its last ends. Answers 0. Refuses 1, 7. */
+lot_record lot_edge_record(lot_counts counts, LOT_STORE_READ, uint32_t edge);
+
+/* The same of a live edge only. Refuses 1, 7, 8. */
+lot_record lot_live_edge_record(lot_counts counts, LOT_STORE_READ, uint32_t edge);
+
+/* 1 if the slot is live, else 0, also at or above the bound. Refuses 1. */
+lot_answer lot_contains_node(lot_counts counts, LOT_STORE_READ, uint32_t node);
+lot_answer lot_contains_edge(lot_counts counts, LOT_STORE_READ, uint32_t edge);
+
+/* ---- reads of the whole store */
+
+/* How many slots there are, removed ones too. Refuses 1. */
+lot_answer lot_node_bound(lot_counts counts, LOT_STORE_READ);
+lot_answer lot_edge_bound(lot_counts counts, LOT_STORE_READ);
+
+/* How many slots are live. Refuses 1. */
+lot_answer lot_node_count(lot_counts counts, LOT_STORE_READ);
+lot_answer lot_edge_count(lot_counts counts, LOT_STORE_READ);
+
+/* 1 if no node is live, else 0. Refuses 1. */
+lot_answer lot_is_empty(lot_counts counts, LOT_STORE_READ);
+
+/* 1 if the store is as a compaction leaves it: all slots in the base, none removed, no run; else 0. Refuses 1. */
+lot_answer lot_is_compact(lot_counts counts, LOT_STORE_READ);
+
+/* The live slots in slot order, at the start of `slots`. Answers how many. Refuses 1, 2. Leaves the words of `slots` past them. */
+lot_answer lot_node_ids(lot_counts counts, LOT_STORE_READ, uint32_t *slots, size_t slots_length);
+lot_answer lot_edge_ids(lot_counts counts, LOT_STORE_READ, uint32_t *slots, size_t slots_length);
+
+/* ---- maps of compactions: at each old slot the new one, or LOT_NONE where it was removed */
+
+/* The new slot, or LOT_NONE, also past the map's end. Refuses nothing. */
+lot_answer lot_lookup(const uint32_t *renumbering, size_t renumbering_length, uint32_t slot);
+
+/* The first map, then the second, at the start of `result`. A short second map gives LOT_NONE. Answers 0. Refuses 2 (the first map's length). Leaves the words of
+ * `result` past them. */
+lot_answer lot_compose(const uint32_t *first, size_t first_length, const uint32_t *second, size_t second_length, uint32_t *result, size_t result_length);
+
+/* 1 if both maps hold i at each i, else 0. Refuses nothing. */
+lot_answer lot_is_identity(const uint32_t *nodes, size_t nodes_length, const uint32_t *edges, size_t edges_length);
+
+#ifdef __cplusplus
+}
+#endif
+
+#endif

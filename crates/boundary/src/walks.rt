@@ -1,0 +1,215 @@
+// Reads of a node's list, and finding. Each direction has a function of its own: a number for it would have values that mean none.
+
+use plain::Answer;
+use plain::Counts;
+use plain::TraversalDirection;
+ghost use Rattle.plain.specs.declared.TraversalDirection.the-variants.{Outgoing, Incoming};
+ghost use Rattle.plain.specs.Reads.{degree as degree-of, walk as walk-of, neighbors as neighbors-of};
+ghost use Rattle.shape.specs.Shape.{store, lists};
+ghost use Rattle.view.specs.Calls.{Answered, Replied};
+ghost use Rattle.view.specs.Finding.{FoundEdge};
+
+#[no_mangle]
+pub extern "C" fn lot_out_degree(
+    counts: Counts,
+    nodes: &[u32],
+    edges: &[u32],
+    live_nodes: &[u64],
+    live_edges: &[u64],
+    outgoing: &[u32],
+    incoming: &[u32],
+    node: u32,
+) -> Answer
+    ensures { λ r. ⌜ Answered
+        (store counts (now (nodes .entry)) (now (edges .entry)) (now («live_nodes» .entry)) (now («live_edges» .entry)) (now (outgoing .entry)) (now (incoming .entry)))
+        (λ w. degree-of Outgoing (lists w) node) r ⌝ }
+{
+    view::walks::degree(
+        counts,
+        nodes,
+        edges,
+        live_nodes,
+        live_edges,
+        outgoing,
+        incoming,
+        TraversalDirection::Outgoing,
+        node,
+    )
+}
+
+#[no_mangle]
+pub extern "C" fn lot_in_degree(
+    counts: Counts,
+    nodes: &[u32],
+    edges: &[u32],
+    live_nodes: &[u64],
+    live_edges: &[u64],
+    outgoing: &[u32],
+    incoming: &[u32],
+    node: u32,
+) -> Answer
+    ensures { λ r. ⌜ Answered
+        (store counts (now (nodes .entry)) (now (edges .entry)) (now («live_nodes» .entry)) (now («live_edges» .entry)) (now (outgoing .entry)) (now (incoming .entry)))
+        (λ w. degree-of Incoming (lists w) node) r ⌝ }
+{
+    view::walks::degree(
+        counts,
+        nodes,
+        edges,
+        live_nodes,
+        live_edges,
+        outgoing,
+        incoming,
+        TraversalDirection::Incoming,
+        node,
+    )
+}
+
+#[no_mangle]
+pub extern "C" fn lot_outgoing(
+    counts: Counts,
+    nodes: &[u32],
+    edges: &[u32],
+    live_nodes: &[u64],
+    live_edges: &[u64],
+    outgoing: &[u32],
+    incoming: &[u32],
+    node: u32,
+    slots: &mut [u32],
+) -> Answer
+    ensures { λ r. ⌜ Replied
+        (store counts (now (nodes .entry)) (now (edges .entry)) (now («live_nodes» .entry)) (now («live_edges» .entry)) (now (outgoing .entry)) (now (incoming .entry)))
+        (λ w room. walk-of Outgoing (lists w) node room) (now (slots .entry)) r (now (slots .exit)) ⌝ }
+{
+    view::walks::walk(
+        counts,
+        nodes,
+        edges,
+        live_nodes,
+        live_edges,
+        outgoing,
+        incoming,
+        TraversalDirection::Outgoing,
+        node,
+        slots,
+    )
+}
+
+#[no_mangle]
+pub extern "C" fn lot_incoming(
+    counts: Counts,
+    nodes: &[u32],
+    edges: &[u32],
+    live_nodes: &[u64],
+    live_edges: &[u64],
+    outgoing: &[u32],
+    incoming: &[u32],
+    node: u32,
+    slots: &mut [u32],
+) -> Answer
+    ensures { λ r. ⌜ Replied
+        (store counts (now (nodes .entry)) (now (edges .entry)) (now («live_nodes» .entry)) (now («live_edges» .entry)) (now (outgoing .entry)) (now (incoming .entry)))
+        (λ w room. walk-of Incoming (lists w) node room) (now (slots .entry)) r (now (slots .exit)) ⌝ }
+{
+    view::walks::walk(
+        counts,
+        nodes,
+        edges,
+        live_nodes,
+        live_edges,
+        outgoing,
+        incoming,
+        TraversalDirection::Incoming,
+        node,
+        slots,
+    )
+}
+
+#[no_mangle]
+pub extern "C" fn lot_successors(
+    counts: Counts,
+    nodes: &[u32],
+    edges: &[u32],
+    live_nodes: &[u64],
+    live_edges: &[u64],
+    outgoing: &[u32],
+    incoming: &[u32],
+    node: u32,
+    slots: &mut [u32],
+) -> Answer
+    ensures { λ r. ⌜ Replied
+        (store counts (now (nodes .entry)) (now (edges .entry)) (now («live_nodes» .entry)) (now («live_edges» .entry)) (now (outgoing .entry)) (now (incoming .entry)))
+        (λ w room. neighbors-of Outgoing (lists w) node room) (now (slots .entry)) r (now (slots .exit)) ⌝ }
+{
+    view::walks::neighbors(
+        counts,
+        nodes,
+        edges,
+        live_nodes,
+        live_edges,
+        outgoing,
+        incoming,
+        TraversalDirection::Outgoing,
+        node,
+        slots,
+    )
+}
+
+#[no_mangle]
+pub extern "C" fn lot_predecessors(
+    counts: Counts,
+    nodes: &[u32],
+    edges: &[u32],
+    live_nodes: &[u64],
+    live_edges: &[u64],
+    outgoing: &[u32],
+    incoming: &[u32],
+    node: u32,
+    slots: &mut [u32],
+) -> Answer
+    ensures { λ r. ⌜ Replied
+        (store counts (now (nodes .entry)) (now (edges .entry)) (now («live_nodes» .entry)) (now («live_edges» .entry)) (now (outgoing .entry)) (now (incoming .entry)))
+        (λ w room. neighbors-of Incoming (lists w) node room) (now (slots .entry)) r (now (slots .exit)) ⌝ }
+{
+    view::walks::neighbors(
+        counts,
+        nodes,
+        edges,
+        live_nodes,
+        live_edges,
+        outgoing,
+        incoming,
+        TraversalDirection::Incoming,
+        node,
+        slots,
+    )
+}
+
+#[no_mangle]
+pub extern "C" fn lot_find(
+    counts: Counts,
+    nodes: &[u32],
+    edges: &[u32],
+    live_nodes: &[u64],
+    live_edges: &[u64],
+    outgoing: &[u32],
+    incoming: &[u32],
+    first: u32,
+    second: u32,
+) -> Answer
+    ensures { λ r. ⌜ FoundEdge
+        (store counts (now (nodes .entry)) (now (edges .entry)) (now («live_nodes» .entry)) (now («live_edges» .entry)) (now (outgoing .entry)) (now (incoming .entry)))
+        first second r ⌝ }
+{
+    view::finding::find(
+        counts,
+        nodes,
+        edges,
+        live_nodes,
+        live_edges,
+        outgoing,
+        incoming,
+        first,
+        second,
+    )
+}

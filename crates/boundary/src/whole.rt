@@ -1,0 +1,212 @@
+// Reads of a whole store.
+
+use plain::Answer;
+use plain::Counts;
+ghost use Rattle.plain.specs.Reads.{node-bound-answer, edge-bound-answer, node-count, edge-count, is-empty, is-compact, node-slots, edge-slots};
+ghost use Rattle.shape.specs.Shape.{store, shape-of, lists};
+ghost use Rattle.shape.specs.Steps.{state-of};
+ghost use Rattle.view.specs.Calls.{Answered, Replied};
+
+#[no_mangle]
+pub extern "C" fn lot_node_bound(
+    counts: Counts,
+    nodes: &[u32],
+    edges: &[u32],
+    live_nodes: &[u64],
+    live_edges: &[u64],
+    outgoing: &[u32],
+    incoming: &[u32],
+) -> Answer
+    ensures { λ r. ⌜ Answered
+        (store counts (now (nodes .entry)) (now (edges .entry)) (now («live_nodes» .entry)) (now («live_edges» .entry)) (now (outgoing .entry)) (now (incoming .entry)))
+        (λ w. node-bound-answer (lists w)) r ⌝ }
+{
+    view::whole::node_bound(
+        counts,
+        nodes,
+        edges,
+        live_nodes,
+        live_edges,
+        outgoing,
+        incoming,
+    )
+}
+
+#[no_mangle]
+pub extern "C" fn lot_edge_bound(
+    counts: Counts,
+    nodes: &[u32],
+    edges: &[u32],
+    live_nodes: &[u64],
+    live_edges: &[u64],
+    outgoing: &[u32],
+    incoming: &[u32],
+) -> Answer
+    ensures { λ r. ⌜ Answered
+        (store counts (now (nodes .entry)) (now (edges .entry)) (now («live_nodes» .entry)) (now («live_edges» .entry)) (now (outgoing .entry)) (now (incoming .entry)))
+        (λ w. edge-bound-answer (lists w)) r ⌝ }
+{
+    view::whole::edge_bound(
+        counts,
+        nodes,
+        edges,
+        live_nodes,
+        live_edges,
+        outgoing,
+        incoming,
+    )
+}
+
+#[no_mangle]
+pub extern "C" fn lot_node_count(
+    counts: Counts,
+    nodes: &[u32],
+    edges: &[u32],
+    live_nodes: &[u64],
+    live_edges: &[u64],
+    outgoing: &[u32],
+    incoming: &[u32],
+) -> Answer
+    ensures { λ r. ⌜ Answered
+        (store counts (now (nodes .entry)) (now (edges .entry)) (now («live_nodes» .entry)) (now («live_edges» .entry)) (now (outgoing .entry)) (now (incoming .entry)))
+        (λ w. node-count (lists w)) r ⌝ }
+{
+    view::whole::node_count(
+        counts,
+        nodes,
+        edges,
+        live_nodes,
+        live_edges,
+        outgoing,
+        incoming,
+    )
+}
+
+#[no_mangle]
+pub extern "C" fn lot_edge_count(
+    counts: Counts,
+    nodes: &[u32],
+    edges: &[u32],
+    live_nodes: &[u64],
+    live_edges: &[u64],
+    outgoing: &[u32],
+    incoming: &[u32],
+) -> Answer
+    ensures { λ r. ⌜ Answered
+        (store counts (now (nodes .entry)) (now (edges .entry)) (now («live_nodes» .entry)) (now («live_edges» .entry)) (now (outgoing .entry)) (now (incoming .entry)))
+        (λ w. edge-count (lists w)) r ⌝ }
+{
+    view::whole::edge_count(
+        counts,
+        nodes,
+        edges,
+        live_nodes,
+        live_edges,
+        outgoing,
+        incoming,
+    )
+}
+
+#[no_mangle]
+pub extern "C" fn lot_is_empty(
+    counts: Counts,
+    nodes: &[u32],
+    edges: &[u32],
+    live_nodes: &[u64],
+    live_edges: &[u64],
+    outgoing: &[u32],
+    incoming: &[u32],
+) -> Answer
+    ensures { λ r. ⌜ Answered
+        (store counts (now (nodes .entry)) (now (edges .entry)) (now («live_nodes» .entry)) (now («live_edges» .entry)) (now (outgoing .entry)) (now (incoming .entry)))
+        (λ w. is-empty (lists w)) r ⌝ }
+{
+    view::whole::is_empty(
+        counts,
+        nodes,
+        edges,
+        live_nodes,
+        live_edges,
+        outgoing,
+        incoming,
+    )
+}
+
+#[no_mangle]
+pub extern "C" fn lot_is_compact(
+    counts: Counts,
+    nodes: &[u32],
+    edges: &[u32],
+    live_nodes: &[u64],
+    live_edges: &[u64],
+    outgoing: &[u32],
+    incoming: &[u32],
+) -> Answer
+    ensures { λ r. ⌜ Answered
+        (store counts (now (nodes .entry)) (now (edges .entry)) (now («live_nodes» .entry)) (now («live_edges» .entry)) (now (outgoing .entry)) (now (incoming .entry)))
+        (λ w. is-compact (state-of (shape-of w))) r ⌝ }
+{
+    view::compactness::is_compact(
+        counts,
+        nodes,
+        edges,
+        live_nodes,
+        live_edges,
+        outgoing,
+        incoming,
+    )
+}
+
+#[no_mangle]
+pub extern "C" fn lot_node_ids(
+    counts: Counts,
+    nodes: &[u32],
+    edges: &[u32],
+    live_nodes: &[u64],
+    live_edges: &[u64],
+    outgoing: &[u32],
+    incoming: &[u32],
+    slots: &mut [u32],
+) -> Answer
+    ensures { λ r. ⌜ Replied
+        (store counts (now (nodes .entry)) (now (edges .entry)) (now («live_nodes» .entry)) (now («live_edges» .entry)) (now (outgoing .entry)) (now (incoming .entry)))
+        (λ w room. node-slots (lists w) room) (now (slots .entry)) r (now (slots .exit)) ⌝ }
+{
+    view::ids::node_ids(
+        counts,
+        nodes,
+        edges,
+        live_nodes,
+        live_edges,
+        outgoing,
+        incoming,
+        slots,
+    )
+}
+
+#[no_mangle]
+pub extern "C" fn lot_edge_ids(
+    counts: Counts,
+    nodes: &[u32],
+    edges: &[u32],
+    live_nodes: &[u64],
+    live_edges: &[u64],
+    outgoing: &[u32],
+    incoming: &[u32],
+    slots: &mut [u32],
+) -> Answer
+    ensures { λ r. ⌜ Replied
+        (store counts (now (nodes .entry)) (now (edges .entry)) (now («live_nodes» .entry)) (now («live_edges» .entry)) (now (outgoing .entry)) (now (incoming .entry)))
+        (λ w room. edge-slots (lists w) room) (now (slots .entry)) r (now (slots .exit)) ⌝ }
+{
+    view::ids::edge_ids(
+        counts,
+        nodes,
+        edges,
+        live_nodes,
+        live_edges,
+        outgoing,
+        incoming,
+        slots,
+    )
+}

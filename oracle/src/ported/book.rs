@@ -1,0 +1,392 @@
+//! The proved store through its Rust wrapper, at scale: random strips of many
+//! operations to the Rust store and to a lot book, and after every strip every
+//! read of both. After every strip a copy of the book's memory is damaged: where
+//! the check refuses it, every call has to answer 1 with its rule and leave every
+//! word; where it passes, it goes into both sides, into the Rust through
+//! `validate.rs`, and strips and reads follow as before.
+
+use std::fmt;
+
+use super::damaged::{damage, written};
+use super::memory::Memory;
+use super::strips::operations;
+use super::words::Words;
+use super::{Port, compare_strip, kept, lent};
+use crate::calls::{self, Lots};
+use crate::checked::read;
+use crate::generate::{Generator, MEDIUM, MIXES, Mix, SHORT, Size};
+use crate::graph::traverse::TraversalDirection;
+use crate::lots::{EdgeRecord, LotBook, Refused};
+use crate::model::{Answer, Capacities, DIRECTIONS, Model, NONE};
+use crate::rng::Rng;
+use crate::rust_store::{self, RustStore};
+use crate::sequences::{Same, guarded};
+use crate::tally::{Difference, Tally, Thing};
+
+impl Port for LotBook {
+    fn strip(&mut self, words: &[u32], answers: &mut [u32]) -> Answer {
+        let result = self.strip_words(words, answers);
+        result.map_or_else(Answer::from, |()| Answer::done(0))
+    }
+
+    fn words(&self) -> Words {
+        self.memory().clone()
+    }
+}
+
+type ListRead = fn(&LotBook, u32, &mut [u32]) -> Result<u32, Refused>;
+type NodeRead = fn(&LotBook, u32) -> Result<u32, Refused>;
+
+/// The reads of a node's list: edges, far ends, and how many.
+const LISTS: [(TraversalDirection, ListRead, ListRead, NodeRead); 2] = [
+    (
+        TraversalDirection::Outgoing,
+        LotBook::outgoing_into,
+        LotBook::successors_into,
+        LotBook::out_degree,
+    ),
+    (
+        TraversalDirection::Incoming,
+        LotBook::incoming_into,
+        LotBook::predecessors_into,
+        LotBook::in_degree,
+    ),
+];
+
+/// A list into a slice with words to spare, and now and then into one that is too
+/// short; refused, the slice stays.
+fn compare_list(
+    place: impl Fn() -> String,
+    expected: Result<Vec<u32>, Answer>,
+    call: impl Fn(&mut [u32]) -> Result<u32, Refused>,
+    short: bool,
+    tally: &mut Tally,
+) -> Same {
+    let needed = expected.as_ref().map_or(0, Vec::len);
+    let mut slots = lent(needed);
+    let given = call(&mut slots).map_err(Answer::from);
+    let written = kept(slots);
+    let given = given.map(|entries| (entries as usize, written));
+    let expected = expected.map(|list| (list.len(), list));
+    tally.same(Thing::BookList, &place, expected, given)?;
+    if short && needed > 0 {
+        let mut slots = vec![NONE - 1; needed - 1];
+        let given = call(&mut slots).map_err(Answer::from);
+        let expected = (Err(Answer::too_short(needed)), vec![NONE - 1; needed - 1]);
+        tally.same(Thing::BookList, &place, expected, (given, slots))?;
+    }
+    Ok(())
+}
+
+struct Shelf {
+    /// What operations are chosen by.
+    model: Model,
+    rust: RustStore,
+    book: LotBook,
+}
+
+impl Shelf {
+    /// A fresh store over words that hold anything.
+    fn fresh(capacities: Capacities) -> Self {
+        Self {
+            model: Lots::fresh(capacities),
+            rust: RustStore::fresh(capacities),
+            book: LotBook::from_memory(Memory::fresh(capacities).words()),
+        }
+    }
+
+    fn of(rust: RustStore, memory: Words) -> Self {
+        let model = Model {
+            capacities: rust.capacities,
+            plain: rust.plain(),
+            compact: rust.graph.is_compact(),
+        };
+        Self {
+            model,
+            rust,
+            book: LotBook::from_memory(memory),
+        }
+    }
+
+    /// Makes a strip of up to so many operations on all sides, and compares every
+    /// answer and then every read; how many operations it had.
+    fn strip(
+        &mut self,
+        most: usize,
+        generator: &mut Generator,
+        tally: &mut Tally,
+    ) -> Result<u64, Difference> {
+        let words = operations(most, &self.model, generator);
+        let length = words.len() / 2 + generator.rng.below(3);
+        let Self { model, rust, book } = self;
+        compare_strip(model, rust, book, &words, length, tally)?;
+        self.compare_reads(generator.rng, tally)?;
+        Ok(words.len() as u64 / 4)
+    }
+
+    /// The Rust compacts, and its memory is put into the book's: the library has no
+    /// compaction yet.
+    fn compact(&mut self) {
+        self.rust.graph.compact();
+        let memory = Memory::of(&self.rust).words();
+        *self = Self::of(self.rust.clone(), memory);
+    }
+
+    fn compare_reads(&self, rng: &mut Rng, tally: &mut Tally) -> Same {
+        self.compare_whole(tally)?;
+        self.compare_parts(tally)?;
+        let [nodes, edges] = self.rust.bounds().map(|bound| bound as u32);
+        for node in (0..nodes).chain([nodes, NONE]) {
+            self.compare_node(node, rng, tally)?;
+            let other = rng.below(nodes as usize + 2) as u32;
+            self.compare_find(node, other, tally)?;
+            self.compare_find(other, node, tally)?;
+        }
+        for edge in (0..edges).chain([edges, NONE]) {
+            self.compare_edge(edge, tally)?;
+            // A pair between which there is an edge, live or not.
+            if let Some(([source, target, _], _)) = self.rust.record(edge) {
+                self.compare_find(source, target, tally)?;
+            }
+        }
+        Ok(())
+    }
+
+    fn compare_whole(&self, tally: &mut Tally) -> Same {
+        let (graph, book) = (&self.rust.graph, &self.book);
+        let place = || "the store".to_string();
+        let numbers = [
+            (graph.node_bound(), book.node_bound()),
+            (graph.edge_bound(), book.edge_bound()),
+            (graph.node_count(), book.node_count()),
+            (graph.edge_count(), book.edge_count()),
+        ];
+        for (expected, given) in numbers {
+            tally.same(Thing::BookWhole, place, Ok(expected as u32), given)?;
+        }
+        let flags = [
+            (graph.is_empty(), book.is_empty()),
+            (graph.is_compact(), book.is_compact()),
+        ];
+        for (expected, given) in flags {
+            tally.same(Thing::BookWhole, place, Ok(expected), given)?;
+        }
+        tally.same(Thing::BookWhole, place, Ok(()), book.check())?;
+        let ids: [(_, fn(&LotBook, &mut [u32]) -> _); 2] = [
+            (self.rust.live_nodes(), LotBook::node_ids_into),
+            (self.rust.live_edges(), LotBook::edge_ids_into),
+        ];
+        for (expected, call) in ids {
+            compare_list(place, Ok(expected), |slots| call(book, slots), true, tally)?;
+        }
+        Ok(())
+    }
+
+    /// Base parts, runs and rings, through the memory itself.
+    fn compare_parts(&self, tally: &mut Tally) -> Same {
+        let memory = self.book.memory();
+        for (side, direction) in memory.sides().iter().zip(DIRECTIONS) {
+            for (node, part) in self.rust.graph.parts(direction).iter().enumerate() {
+                let place = || format!("node {node}, {direction:?}");
+                tally.ran(part.run.as_ref().map_or(0, Vec::len));
+                let given = side.part(memory.counts, node);
+                tally.same(Thing::BookPart, place, part, &given)?;
+            }
+        }
+        Ok(())
+    }
+
+    fn compare_node(&self, node: u32, rng: &mut Rng, tally: &mut Tally) -> Same {
+        let (rust, book) = (&self.rust, &self.book);
+        let place = || format!("node {node}");
+        for (direction, edges, far_ends, degree) in LISTS {
+            let walk = calls::walk(rust, direction, node, usize::MAX);
+            let expected = walk
+                .clone()
+                .map(|_| rust_store::degree(&rust.graph, direction, node));
+            let given = degree(book, node).map_err(Answer::from);
+            tally.same(Thing::BookDegree, place, expected, given)?;
+            let neighbors = walk
+                .clone()
+                .map(|_| rust_store::neighbors(&rust.graph, direction, node));
+            for (expected, call) in [(walk, edges), (neighbors, far_ends)] {
+                let call = |slots: &mut [u32]| call(book, node, slots);
+                compare_list(place, expected, call, rng.one_in(4), tally)?;
+            }
+        }
+        let given = book.node_payload(node).map(u64::from);
+        let given = given.map_or_else(Answer::from, Answer::done);
+        tally.same(Thing::BookSlot, place, calls::payload(rust, node), given)?;
+        let expected = Ok(rust.graph.contains_node(rust_store::node(node)));
+        tally.same(Thing::BookSlot, place, expected, book.contains_node(node))
+    }
+
+    fn compare_edge(&self, edge: u32, tally: &mut Tally) -> Same {
+        let (rust, book) = (&self.rust, &self.book);
+        let place = || format!("edge {edge}");
+        let records = [book.edge_record(edge), book.live_edge_record(edge)];
+        for (live_only, given) in [false, true].into_iter().zip(records) {
+            let given = match given {
+                Ok(EdgeRecord {
+                    source,
+                    target,
+                    payload,
+                }) => (Answer::done(0), [source, target, payload]),
+                Err(refused) => (refused.into(), [0; 3]),
+            };
+            let expected = calls::record(rust, edge, live_only);
+            tally.same(Thing::BookSlot, place, expected, given)?;
+        }
+        let expected = Ok(rust.graph.contains_edge(rust_store::edge(edge)));
+        tally.same(Thing::BookSlot, place, expected, book.contains_edge(edge))
+    }
+
+    /// The found edge is a live edge from the one to the other.
+    fn compare_find(&self, source: u32, target: u32, tally: &mut Tally) -> Same {
+        let place = || format!("from node {source} to node {target}");
+        let given = self.book.find(source, target).map_err(Answer::from);
+        // One of those that the Rust has is as good as its first.
+        let between = |edge: &u32| {
+            self.rust
+                .record(*edge)
+                .is_some_and(|([from, to, _], live)| live && [from, to] == [source, target])
+        };
+        let expected = match calls::find(&self.rust, source, target) {
+            Answer { number: 0, value } if value == u64::from(NONE) => Ok(None),
+            Answer { number: 0, value } => {
+                Ok(given.ok().flatten().filter(between).or(Some(value as u32)))
+            }
+            refused => Err(refused),
+        };
+        tally.same(Thing::BookFind, place, expected, given)
+    }
+}
+
+/// Every call on memory that is no store answers 1 with the rule, and leaves every
+/// word.
+fn compare_refused(memory: &Words, refused: Refused, rng: &mut Rng, tally: &mut Tally) -> Same {
+    let place = || format!("a damaged store, {memory:?}");
+    let mut book = LotBook::from_memory(memory.clone());
+    let mut slots = [NONE - 1; 8];
+    let (first, second) = (rng.word() % 8, rng.word() % 8);
+    let words = [5, first, second, 0];
+    let nothing = |_: u32| ();
+    let answers = [
+        book.check(),
+        book.strip_words(&words, &mut slots),
+        book.strip_words(&words[..3], &mut slots),
+        book.outgoing_into(first, &mut slots).map(nothing),
+        book.incoming_into(first, &mut slots).map(nothing),
+        book.successors_into(first, &mut slots).map(nothing),
+        book.predecessors_into(first, &mut slots).map(nothing),
+        book.out_degree(first).map(nothing),
+        book.in_degree(first).map(nothing),
+        book.find(first, second).map(|_| ()),
+        book.node_payload(first).map(nothing),
+        book.edge_record(first).map(|_| ()),
+        book.live_edge_record(first).map(|_| ()),
+        book.contains_node(first).map(|_| ()),
+        book.contains_edge(first).map(|_| ()),
+        book.is_empty().map(|_| ()),
+        book.is_compact().map(|_| ()),
+        book.node_bound().map(nothing),
+        book.edge_bound().map(nothing),
+        book.node_count().map(nothing),
+        book.edge_count().map(nothing),
+        book.node_ids_into(&mut slots).map(nothing),
+        book.edge_ids_into(&mut slots).map(nothing),
+    ];
+    for answer in answers {
+        tally.same(Thing::BookRefused, place, Err(refused), answer)?;
+    }
+    let expected = (memory, [NONE - 1; 8]);
+    tally.same(Thing::BookRefused, place, expected, (book.memory(), slots))
+}
+
+/// How many operations there were, and damaged stores.
+#[derive(Default)]
+struct Found {
+    reached: u64,
+    foreign: u64,
+    strips: u64,
+    passed: u64,
+    refused: u64,
+}
+
+impl fmt::Display for Found {
+    fn fmt(&self, formatter: &mut fmt::Formatter<'_>) -> fmt::Result {
+        write!(
+            formatter,
+            "lot books: {} strips with {} operations on reached stores and {} on damaged ones that pass the check, every read after each strip; \
+             damaged stores: {} pass, {} are refused by every call",
+            self.strips, self.reached, self.foreign, self.passed, self.refused
+        )
+    }
+}
+
+impl Found {
+    /// A damaged copy of a book's memory, on both sides if it passes the check.
+    fn damaged(
+        &mut self,
+        shelf: &Shelf,
+        size: Size,
+        mix: Mix,
+        rng: &mut Rng,
+        tally: &mut Tally,
+    ) -> Same {
+        let mut memory = shelf.book.memory().clone();
+        damage(&mut memory, rng);
+        if let Err(refused) = LotBook::from_memory(memory.clone()).check() {
+            self.refused += 1;
+            return compare_refused(&memory, refused, rng, tally);
+        }
+        self.passed += 1;
+        let place = || format!("a damaged store, {memory:?}");
+        let read = read(written(&memory));
+        tally.same(Thing::Damaged, place, None, read.as_ref().err())?;
+        let capacities = Capacities {
+            nodes: memory.nodes.len() as u32,
+            edges: memory.edges.len() as u32,
+        };
+        let graph = read.expect("nothing differs");
+        let mut shelf = Shelf::of(RustStore { graph, capacities }, memory);
+        shelf.compare_reads(rng, tally)?;
+        for _ in 0..rng.between(1, 3) {
+            let mut generator = Generator { rng, mix, size };
+            self.foreign += shelf.strip(60, &mut generator, tally)?;
+            self.strips += 1;
+        }
+        Ok(())
+    }
+
+    /// Strips from a fresh store, a damaged copy after each, now and then a
+    /// compaction.
+    fn sequence(&mut self, rng: &mut Rng, tally: &mut Tally) -> Same {
+        let size = rng.pick(&[SHORT, SHORT, MEDIUM]);
+        let mix = rng.pick(&MIXES);
+        let mut shelf = Shelf::fresh(size.capacities(rng));
+        for _ in 0..rng.between(4, 24) {
+            let most = rng.pick(&[1, 8, 64, 256]);
+            let mut generator = Generator { rng, mix, size };
+            self.reached += shelf.strip(most, &mut generator, tally)?;
+            self.strips += 1;
+            self.damaged(&shelf, size, mix, rng, tally)?;
+            if rng.one_in(5) {
+                shelf.compact();
+            }
+        }
+        Ok(())
+    }
+}
+
+/// Sequences until there were so many operations on reached stores, and so many on
+/// damaged ones.
+pub fn compare(reached: u64, foreign: u64, seed: u64, tally: &mut Tally) -> Same {
+    let mut rng = Rng::new(seed);
+    let mut found = Found::default();
+    while found.reached < reached || found.foreign < foreign {
+        guarded(|| found.sequence(&mut rng, tally))?;
+    }
+    println!("{found}");
+    Ok(())
+}

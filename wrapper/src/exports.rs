@@ -1,0 +1,262 @@
+//! What the static library of crate `boundary` exports, and the one place where it
+//! is called. A slice is a pointer and a length. No function requires more than
+//! that its slices can be read, those for answers and a strip's store written, and
+//! that they do not overlap: the borrows say so.
+
+use super::Memory;
+
+/// `Slots` of crate `plain`.
+#[repr(C)]
+#[derive(Debug, Clone, Copy, Default, PartialEq, Eq)]
+pub struct Slots {
+    /// All slots.
+    pub bound: u32,
+    /// Those that the compressed base holds.
+    pub base: u32,
+    pub live: u32,
+}
+
+/// `Counts` of crate `plain`.
+#[repr(C)]
+#[derive(Debug, Clone, Copy, Default, PartialEq, Eq)]
+pub struct Counts {
+    pub nodes: Slots,
+    pub edges: Slots,
+}
+
+/// `Answer` of crate `plain`.
+#[repr(C)]
+#[derive(Clone, Copy)]
+pub struct Answer {
+    pub number: u32,
+    pub value: u64,
+}
+
+/// `Changed` of crate `plain`.
+#[repr(C)]
+#[derive(Clone, Copy)]
+pub struct Changed {
+    pub number: u32,
+    pub value: u64,
+    pub counts: Counts,
+}
+
+/// `Record` of crate `plain`.
+#[repr(C)]
+#[derive(Clone, Copy)]
+pub struct Record {
+    pub number: u32,
+    pub value: u64,
+    pub source: u32,
+    pub target: u32,
+    pub payload: u32,
+}
+
+/// Declares reads of a store, each with its own arguments and whether it is lent a
+/// slice, and a method of [`Memory`] for each.
+macro_rules! reads {
+    ($($name:ident($($argument:ident),* $(; $slots:ident)?) -> $answer:ty;)*) => {
+        mod reads {
+            use super::{Answer, Counts, Record};
+
+            unsafe extern "C" {
+                $(pub fn $name(
+                    counts: Counts,
+                    nodes: *const u32,
+                    nodes_length: usize,
+                    edges: *const u32,
+                    edges_length: usize,
+                    live_nodes: *const u64,
+                    live_nodes_length: usize,
+                    live_edges: *const u64,
+                    live_edges_length: usize,
+                    outgoing: *const u32,
+                    outgoing_length: usize,
+                    incoming: *const u32,
+                    incoming_length: usize,
+                    $($argument: u32,)*
+                    $($slots: *mut u32, length: usize,)?
+                ) -> $answer;)*
+            }
+        }
+
+        impl Memory {
+            $(pub fn $name(&self, $($argument: u32,)* $($slots: &mut [u32])?) -> $answer {
+                let [outgoing, incoming] = &self.axes;
+                // SAFETY: the slices are borrowed and as long as stated.
+                unsafe {
+                    reads::$name(
+                        self.counts,
+                        self.nodes.as_ptr(),
+                        self.nodes.len(),
+                        self.edges.as_ptr(),
+                        self.edges.len(),
+                        self.live_nodes.as_ptr(),
+                        self.live_nodes.len(),
+                        self.live_edges.as_ptr(),
+                        self.live_edges.len(),
+                        outgoing.as_ptr(),
+                        outgoing.len(),
+                        incoming.as_ptr(),
+                        incoming.len(),
+                        $($argument,)*
+                        $($slots.as_mut_ptr(), $slots.len(),)?
+                    )
+                }
+            })*
+        }
+    };
+}
+
+reads! {
+    lot_check() -> Answer;
+    lot_outgoing(node; slots) -> Answer;
+    lot_incoming(node; slots) -> Answer;
+    lot_successors(node; slots) -> Answer;
+    lot_predecessors(node; slots) -> Answer;
+    lot_out_degree(node) -> Answer;
+    lot_in_degree(node) -> Answer;
+    lot_find(first, second) -> Answer;
+    lot_node_payload(node) -> Answer;
+    lot_edge_record(edge) -> Record;
+    lot_live_edge_record(edge) -> Record;
+    lot_contains_node(node) -> Answer;
+    lot_contains_edge(edge) -> Answer;
+    lot_is_empty() -> Answer;
+    lot_is_compact() -> Answer;
+    lot_node_bound() -> Answer;
+    lot_edge_bound() -> Answer;
+    lot_node_count() -> Answer;
+    lot_edge_count() -> Answer;
+    lot_node_ids(; slots) -> Answer;
+    lot_edge_ids(; slots) -> Answer;
+}
+
+mod others {
+    use super::{Answer, Changed, Counts};
+
+    unsafe extern "C" {
+        pub fn lot_fresh(
+            nodes: *const u32,
+            nodes_length: usize,
+            edges: *const u32,
+            edges_length: usize,
+            live_nodes: *const u64,
+            live_nodes_length: usize,
+            live_edges: *const u64,
+            live_edges_length: usize,
+            outgoing: *const u32,
+            outgoing_length: usize,
+            incoming: *const u32,
+            incoming_length: usize,
+        ) -> Changed;
+        pub fn lot_strip(
+            counts: Counts,
+            nodes: *mut u32,
+            nodes_length: usize,
+            edges: *mut u32,
+            edges_length: usize,
+            live_nodes: *mut u64,
+            live_nodes_length: usize,
+            live_edges: *mut u64,
+            live_edges_length: usize,
+            outgoing: *mut u32,
+            outgoing_length: usize,
+            incoming: *mut u32,
+            incoming_length: usize,
+            words: *const u32,
+            words_length: usize,
+            answers: *mut u32,
+            answers_length: usize,
+        ) -> Changed;
+        pub fn lot_lookup(renumbering: *const u32, length: usize, slot: u32) -> Answer;
+        pub fn lot_compose(
+            first: *const u32,
+            first_length: usize,
+            second: *const u32,
+            second_length: usize,
+            result: *mut u32,
+            result_length: usize,
+        ) -> Answer;
+        pub fn lot_is_identity(
+            nodes: *const u32,
+            nodes_length: usize,
+            edges: *const u32,
+            edges_length: usize,
+        ) -> Answer;
+    }
+}
+
+impl Memory {
+    pub fn lot_fresh(&self) -> Changed {
+        let [outgoing, incoming] = &self.axes;
+        // SAFETY: the slices are borrowed and as long as stated.
+        unsafe {
+            others::lot_fresh(
+                self.nodes.as_ptr(),
+                self.nodes.len(),
+                self.edges.as_ptr(),
+                self.edges.len(),
+                self.live_nodes.as_ptr(),
+                self.live_nodes.len(),
+                self.live_edges.as_ptr(),
+                self.live_edges.len(),
+                outgoing.as_ptr(),
+                outgoing.len(),
+                incoming.as_ptr(),
+                incoming.len(),
+            )
+        }
+    }
+
+    pub fn lot_strip(&mut self, words: &[u32], answers: &mut [u32]) -> Changed {
+        let [outgoing, incoming] = &mut self.axes;
+        // SAFETY: the slices are borrowed, all but `words` mutably, and as long as
+        // stated.
+        unsafe {
+            others::lot_strip(
+                self.counts,
+                self.nodes.as_mut_ptr(),
+                self.nodes.len(),
+                self.edges.as_mut_ptr(),
+                self.edges.len(),
+                self.live_nodes.as_mut_ptr(),
+                self.live_nodes.len(),
+                self.live_edges.as_mut_ptr(),
+                self.live_edges.len(),
+                outgoing.as_mut_ptr(),
+                outgoing.len(),
+                incoming.as_mut_ptr(),
+                incoming.len(),
+                words.as_ptr(),
+                words.len(),
+                answers.as_mut_ptr(),
+                answers.len(),
+            )
+        }
+    }
+}
+
+pub fn lookup(renumbering: &[u32], slot: u32) -> Answer {
+    // SAFETY: the slice is borrowed and as long as stated.
+    unsafe { others::lot_lookup(renumbering.as_ptr(), renumbering.len(), slot) }
+}
+
+pub fn compose(first: &[u32], second: &[u32], result: &mut [u32]) -> Answer {
+    // SAFETY: the slices are borrowed, `result` mutably, and as long as stated.
+    unsafe {
+        others::lot_compose(
+            first.as_ptr(),
+            first.len(),
+            second.as_ptr(),
+            second.len(),
+            result.as_mut_ptr(),
+            result.len(),
+        )
+    }
+}
+
+pub fn is_identity(nodes: &[u32], edges: &[u32]) -> Answer {
+    // SAFETY: the slices are borrowed and as long as stated.
+    unsafe { others::lot_is_identity(nodes.as_ptr(), nodes.len(), edges.as_ptr(), edges.len()) }
+}

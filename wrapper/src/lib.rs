@@ -1,0 +1,454 @@
+//! A lot book: the proved lot store for Rust programs. A lot is a node, a transfer
+//! between lots is an edge.
+//!
+//! [`LotBook`] owns the memory of a store and lends it to the proved functions,
+//! which require nothing: whatever the memory holds, a call answers as
+//! `docs/ENTRIES.md` says, or refuses with a number of its table and leaves every
+//! word. So there is nothing to test before a call; that slices do not overlap and
+//! are as long as stated is what a Rust borrow means.
+//!
+//! ```
+//! use lots::{LotBook, Operation, Refused};
+//!
+//! # fn main() -> Result<(), Refused> {
+//! // Room for 100 lots and 200 transfers.
+//! let mut book = LotBook::new(100, 200)?;
+//!
+//! let malt = book.operation(Operation::AddNode { payload: 7 })?;
+//! let beer = book.operation(Operation::AddNode { payload: 9 })?;
+//! let transfer = book.operation(Operation::AddEdge {
+//!     source: malt,
+//!     target: beer,
+//!     payload: 250,
+//! })?;
+//!
+//! assert_eq!(book.outgoing(malt)?, [transfer]);
+//! assert_eq!(book.predecessors(beer)?, [malt]);
+//! assert_eq!(book.find(malt, beer)?, Some(transfer));
+//! assert_eq!(book.edge_record(transfer)?.payload, 250);
+//!
+//! // A lot that there is not: number 5.
+//! assert_eq!(book.out_degree(2).unwrap_err().number, 5);
+//!
+//! // Many operations in one call. A refused one changes nothing, the rest is done.
+//! let answers = book.strip(&[
+//!     Operation::RemoveEdge { edge: transfer },
+//!     Operation::MoveOutgoing { old: malt, new: malt },
+//!     Operation::RemoveNode { node: beer },
+//! ])?;
+//! assert_eq!(answers[0], Ok(1));
+//! assert_eq!(answers[1].unwrap_err().number, 9);
+//! assert_eq!(answers[2], Ok(1));
+//! assert_eq!(book.node_ids()?, [malt]);
+//! # Ok(())
+//! # }
+//! ```
+
+mod exports;
+pub mod maps;
+
+pub use exports::{Counts, Slots};
+
+use exports::Changed;
+
+/// "None" where the store answers a slot.
+pub const NONE: u32 = u32::MAX;
+
+/// A refused call or operation: number and value of document 01's table. A call
+/// that is refused leaves every word as it was.
+#[derive(Debug, Clone, Copy, PartialEq, Eq)]
+pub struct Refused {
+    pub number: u32,
+    pub value: u64,
+}
+
+/// The ends and the payload of an edge.
+#[derive(Debug, Clone, Copy, PartialEq, Eq)]
+pub struct EdgeRecord {
+    pub source: u32,
+    pub target: u32,
+    pub payload: u32,
+}
+
+/// An operation of a strip.
+#[derive(Debug, Clone, Copy, PartialEq, Eq)]
+pub enum Operation {
+    /// Answers the new slot.
+    AddNode { payload: u32 },
+    /// Answers the new slot.
+    AddEdge {
+        source: u32,
+        target: u32,
+        payload: u32,
+    },
+    /// Answers 1, or 0 where nothing live was there.
+    RemoveEdge { edge: u32 },
+    /// Removes the node's edges with it. Answers 1, or 0 where nothing live was there.
+    RemoveNode { node: u32 },
+    /// Answers the previous source.
+    RedirectSource { edge: u32, node: u32 },
+    /// Answers the previous target.
+    RedirectTarget { edge: u32, node: u32 },
+    /// Moves the whole out-list. Answers the edges moved.
+    MoveOutgoing { old: u32, new: u32 },
+    /// Moves the whole in-list. Answers the edges moved.
+    MoveIncoming { old: u32, new: u32 },
+    /// Of a removed edge too. Answers 0.
+    SetPayload { edge: u32, payload: u32 },
+}
+
+impl Operation {
+    /// Its four words in a strip.
+    pub const fn words(self) -> [u32; 4] {
+        match self {
+            Self::AddNode { payload } => [1, 0, 0, payload],
+            Self::AddEdge {
+                source,
+                target,
+                payload,
+            } => [2, source, target, payload],
+            Self::RemoveEdge { edge } => [3, edge, 0, 0],
+            Self::RemoveNode { node } => [4, node, 0, 0],
+            Self::RedirectSource { edge, node } => [5, edge, node, 0],
+            Self::RedirectTarget { edge, node } => [6, edge, node, 0],
+            Self::MoveOutgoing { old, new } => [7, old, new, 0],
+            Self::MoveIncoming { old, new } => [8, old, new, 0],
+            Self::SetPayload { edge, payload } => [9, edge, 0, payload],
+        }
+    }
+}
+
+/// The memory of a store: counts and six slices (`docs/ENTRIES.md` has the lengths
+/// and `crates/shape` the columns). It may hold anything: the check judges it.
+#[derive(Debug, Clone, PartialEq, Eq)]
+pub struct Memory {
+    pub counts: Counts,
+    /// Payloads; the length is the capacity.
+    pub nodes: Vec<u32>,
+    /// Payloads; the length is the capacity.
+    pub edges: Vec<u32>,
+    pub live_nodes: Vec<u64>,
+    pub live_edges: Vec<u64>,
+    /// Outgoing, incoming.
+    pub axes: [Vec<u32>; 2],
+}
+
+impl Memory {
+    /// Zeros, as long as a store of these capacities needs.
+    pub fn zeros(nodes: usize, edges: usize) -> Self {
+        let axis = 4 * edges + 6 * nodes + 1;
+        Self {
+            counts: Counts::default(),
+            nodes: vec![0; nodes],
+            edges: vec![0; edges],
+            live_nodes: vec![0; nodes.div_ceil(64)],
+            live_edges: vec![0; edges.div_ceil(64)],
+            axes: [vec![0; axis], vec![0; axis]],
+        }
+    }
+}
+
+/// Number and value as a result.
+const fn done(number: u32, value: u64) -> Result<u64, Refused> {
+    match number {
+        0 => Ok(value),
+        _ => Err(Refused { number, value }),
+    }
+}
+
+/// A slot or a number of slots, which is never wider.
+fn narrow(value: u64) -> u32 {
+    u32::try_from(value).expect("promised: a slot, a payload or a count of slots")
+}
+
+/// A store and its memory.
+#[derive(Debug, Clone, PartialEq, Eq)]
+pub struct LotBook {
+    memory: Memory,
+}
+
+impl LotBook {
+    /// A fresh store with room for so many nodes and edges, at most 32,768 each.
+    ///
+    /// # Errors
+    /// 13 above that, with the capacity.
+    pub fn new(nodes: usize, edges: usize) -> Result<Self, Refused> {
+        // Refused before any memory is taken for it.
+        const LIMIT: usize = 32_768;
+        if let Some(above) = [nodes, edges].into_iter().find(|&slots| LIMIT < slots) {
+            return Err(Refused {
+                number: 13,
+                value: above as u64,
+            });
+        }
+        let mut book = Self::from_memory(Memory::zeros(nodes, edges));
+        book.fresh()?;
+        Ok(book)
+    }
+
+    /// A store in memory that came from elsewhere. It may hold anything: each call
+    /// answers 1 with the first broken rule where it is no store.
+    pub const fn from_memory(memory: Memory) -> Self {
+        Self { memory }
+    }
+
+    pub const fn memory(&self) -> &Memory {
+        &self.memory
+    }
+
+    pub fn into_memory(self) -> Memory {
+        self.memory
+    }
+
+    /// Makes the store a fresh one in the same memory. Refused, it is one with no
+    /// slot all the same.
+    ///
+    /// # Errors
+    /// 13 (a capacity), then 2 (the length needed).
+    pub fn fresh(&mut self) -> Result<(), Refused> {
+        let changed = self.memory.lot_fresh();
+        self.changed(changed)
+    }
+
+    fn changed(&mut self, changed: Changed) -> Result<(), Refused> {
+        self.memory.counts = changed.counts;
+        done(changed.number, changed.value).map(|_| ())
+    }
+
+    /// Makes the operations in turn, and gives each one's answer. The store is
+    /// checked once.
+    ///
+    /// # Errors
+    /// 1 (the first broken rule).
+    pub fn strip(
+        &mut self,
+        operations: &[Operation],
+    ) -> Result<Vec<Result<u32, Refused>>, Refused> {
+        let words: Vec<u32> = operations.iter().flat_map(|each| each.words()).collect();
+        let mut answers = vec![0; 2 * operations.len()];
+        self.strip_words(&words, &mut answers)?;
+        let (answers, _) = answers.as_chunks();
+        let answer = |&[number, value]: &[u32; 2]| done(number, value.into()).map(narrow);
+        Ok(answers.iter().map(answer).collect())
+    }
+
+    /// A strip of one: its answer.
+    ///
+    /// # Errors
+    /// 1, then those of the operation.
+    pub fn operation(&mut self, operation: Operation) -> Result<u32, Refused> {
+        let mut answers = [0; 2];
+        self.strip_words(&operation.words(), &mut answers)?;
+        let [number, value] = answers;
+        done(number, value.into()).map(narrow)
+    }
+
+    /// A strip as words, four an operation, with two words of answer each. Words of
+    /// `answers` past them keep their content.
+    ///
+    /// # Errors
+    /// 1 (the first broken rule), 3 (the strip's length), 2 (the length needed).
+    pub fn strip_words(&mut self, words: &[u32], answers: &mut [u32]) -> Result<(), Refused> {
+        let changed = self.memory.lot_strip(words, answers);
+        self.changed(changed)
+    }
+
+    /// Whether the memory holds a store.
+    ///
+    /// # Errors
+    /// 1 (the first broken rule).
+    pub fn check(&self) -> Result<(), Refused> {
+        self.answer(Memory::lot_check).map(|_| ())
+    }
+
+    fn answer(&self, call: impl FnOnce(&Memory) -> exports::Answer) -> Result<u64, Refused> {
+        let answer = call(&self.memory);
+        done(answer.number, answer.value)
+    }
+
+    fn slot_answer(&self, call: impl FnOnce(&Memory) -> exports::Answer) -> Result<u32, Refused> {
+        self.answer(call).map(narrow)
+    }
+
+    fn yes_or_no(&self, call: impl FnOnce(&Memory) -> exports::Answer) -> Result<bool, Refused> {
+        self.answer(call).map(|value| value == 1)
+    }
+
+    /// A list into a slice that is lengthened once if it is too short.
+    fn list(
+        &self,
+        call: impl Fn(&Memory, &mut [u32]) -> exports::Answer,
+    ) -> Result<Vec<u32>, Refused> {
+        let mut slots = vec![0; 16];
+        let mut answer = call(&self.memory, &mut slots);
+        if answer.number == 2 {
+            slots.resize(answer.value as usize, 0);
+            answer = call(&self.memory, &mut slots);
+        }
+        slots.truncate(done(answer.number, answer.value)? as usize);
+        Ok(slots)
+    }
+
+    /// The edges of a node's out-list, in order.
+    ///
+    /// # Errors
+    /// 1, 5; and so the next five.
+    pub fn outgoing(&self, node: u32) -> Result<Vec<u32>, Refused> {
+        self.list(|memory, slots| memory.lot_outgoing(node, slots))
+    }
+
+    /// The edges of a node's in-list, in order.
+    pub fn incoming(&self, node: u32) -> Result<Vec<u32>, Refused> {
+        self.list(|memory, slots| memory.lot_incoming(node, slots))
+    }
+
+    /// The targets of a node's out-list, in order.
+    pub fn successors(&self, node: u32) -> Result<Vec<u32>, Refused> {
+        self.list(|memory, slots| memory.lot_successors(node, slots))
+    }
+
+    /// The sources of a node's in-list, in order.
+    pub fn predecessors(&self, node: u32) -> Result<Vec<u32>, Refused> {
+        self.list(|memory, slots| memory.lot_predecessors(node, slots))
+    }
+
+    pub fn out_degree(&self, node: u32) -> Result<u32, Refused> {
+        self.slot_answer(|memory| memory.lot_out_degree(node))
+    }
+
+    pub fn in_degree(&self, node: u32) -> Result<u32, Refused> {
+        self.slot_answer(|memory| memory.lot_in_degree(node))
+    }
+
+    /// A node's list into a lent slice: how many entries it has. Words past them
+    /// keep their content.
+    ///
+    /// # Errors
+    /// 1, 5, 2 (the length needed); and so the next three.
+    pub fn outgoing_into(&self, node: u32, slots: &mut [u32]) -> Result<u32, Refused> {
+        self.slot_answer(|memory| memory.lot_outgoing(node, slots))
+    }
+
+    pub fn incoming_into(&self, node: u32, slots: &mut [u32]) -> Result<u32, Refused> {
+        self.slot_answer(|memory| memory.lot_incoming(node, slots))
+    }
+
+    pub fn successors_into(&self, node: u32, slots: &mut [u32]) -> Result<u32, Refused> {
+        self.slot_answer(|memory| memory.lot_successors(node, slots))
+    }
+
+    pub fn predecessors_into(&self, node: u32, slots: &mut [u32]) -> Result<u32, Refused> {
+        self.slot_answer(|memory| memory.lot_predecessors(node, slots))
+    }
+
+    /// Some live edge from the first node to the second, if there is any.
+    ///
+    /// # Errors
+    /// 1, first 5, second 5.
+    pub fn find(&self, first: u32, second: u32) -> Result<Option<u32>, Refused> {
+        let found = self.slot_answer(|memory| memory.lot_find(first, second))?;
+        Ok((found != NONE).then_some(found))
+    }
+
+    /// The payload of a node, of a removed one too.
+    ///
+    /// # Errors
+    /// 1, 5.
+    pub fn node_payload(&self, node: u32) -> Result<u32, Refused> {
+        self.slot_answer(|memory| memory.lot_node_payload(node))
+    }
+
+    /// The record of an edge, of a removed one too: it keeps its last ends.
+    ///
+    /// # Errors
+    /// 1, 7.
+    pub fn edge_record(&self, edge: u32) -> Result<EdgeRecord, Refused> {
+        self.memory.lot_edge_record(edge).into()
+    }
+
+    /// The record of a live edge.
+    ///
+    /// # Errors
+    /// 1, 7, 8.
+    pub fn live_edge_record(&self, edge: u32) -> Result<EdgeRecord, Refused> {
+        self.memory.lot_live_edge_record(edge).into()
+    }
+
+    /// Whether a node is live; one out of range is not.
+    ///
+    /// # Errors
+    /// 1; and so the next seven.
+    pub fn contains_node(&self, node: u32) -> Result<bool, Refused> {
+        self.yes_or_no(|memory| memory.lot_contains_node(node))
+    }
+
+    /// Whether an edge is live; one out of range is not.
+    pub fn contains_edge(&self, edge: u32) -> Result<bool, Refused> {
+        self.yes_or_no(|memory| memory.lot_contains_edge(edge))
+    }
+
+    /// Whether no node is live.
+    pub fn is_empty(&self) -> Result<bool, Refused> {
+        self.yes_or_no(Memory::lot_is_empty)
+    }
+
+    pub fn is_compact(&self) -> Result<bool, Refused> {
+        self.yes_or_no(Memory::lot_is_compact)
+    }
+
+    /// How many node slots there are, removed ones too.
+    pub fn node_bound(&self) -> Result<u32, Refused> {
+        self.slot_answer(Memory::lot_node_bound)
+    }
+
+    /// How many edge slots there are, removed ones too.
+    pub fn edge_bound(&self) -> Result<u32, Refused> {
+        self.slot_answer(Memory::lot_edge_bound)
+    }
+
+    /// How many nodes are live.
+    pub fn node_count(&self) -> Result<u32, Refused> {
+        self.slot_answer(Memory::lot_node_count)
+    }
+
+    /// How many edges are live.
+    pub fn edge_count(&self) -> Result<u32, Refused> {
+        self.slot_answer(Memory::lot_edge_count)
+    }
+
+    /// The live nodes in slot order.
+    ///
+    /// # Errors
+    /// 1; and so the next.
+    pub fn node_ids(&self) -> Result<Vec<u32>, Refused> {
+        self.list(Memory::lot_node_ids)
+    }
+
+    /// The live edges in slot order.
+    pub fn edge_ids(&self) -> Result<Vec<u32>, Refused> {
+        self.list(Memory::lot_edge_ids)
+    }
+
+    /// The live nodes into a lent slice: how many there are.
+    ///
+    /// # Errors
+    /// 1, 2 (the length needed); and so the next.
+    pub fn node_ids_into(&self, slots: &mut [u32]) -> Result<u32, Refused> {
+        self.slot_answer(|memory| memory.lot_node_ids(slots))
+    }
+
+    pub fn edge_ids_into(&self, slots: &mut [u32]) -> Result<u32, Refused> {
+        self.slot_answer(|memory| memory.lot_edge_ids(slots))
+    }
+}
+
+impl From<exports::Record> for Result<EdgeRecord, Refused> {
+    fn from(record: exports::Record) -> Self {
+        done(record.number, record.value)?;
+        Ok(EdgeRecord {
+            source: record.source,
+            target: record.target,
+            payload: record.payload,
+        })
+    }
+}

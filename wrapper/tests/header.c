@@ -1,0 +1,110 @@
+/* A small program in C over lots.h: every function once, the layout of every struct, and answers that document 01 fixes. Ends with status 0 if all hold. */
+#include <stdio.h>
+#include <stdlib.h>
+
+#include "lots.h"
+
+_Static_assert(sizeof(lot_counts) == 24 && offsetof(lot_counts, edges) == 12 && offsetof(lot_slots, live) == 8, "counts");
+_Static_assert(sizeof(lot_answer) == 16 && offsetof(lot_answer, value) == 8, "answer");
+_Static_assert(sizeof(lot_changed) == 40 && offsetof(lot_changed, counts) == 16, "changed");
+_Static_assert(sizeof(lot_record) == 32 && offsetof(lot_record, source) == 16 && offsetof(lot_record, payload) == 24, "record");
+
+enum { NODES = 3, EDGES = 4 };
+
+static uint32_t nodes[NODES], edges[EDGES], outgoing[LOT_AXIS_WORDS(NODES, EDGES)], incoming[LOT_AXIS_WORDS(NODES, EDGES)];
+static uint64_t live_nodes[LOT_LIVE_WORDS(NODES)], live_edges[LOT_LIVE_WORDS(EDGES)];
+
+#define LENGTH(slice) (sizeof(slice) / sizeof(slice)[0])
+#define SLICE(slice) slice, LENGTH(slice)
+#define STORE SLICE(nodes), SLICE(edges), SLICE(live_nodes), SLICE(live_edges), SLICE(outgoing), SLICE(incoming)
+
+static int failed;
+
+static void expect(const char *what, uint64_t number, uint64_t value, uint64_t expected_number, uint64_t expected_value) {
+    if (number == expected_number && value == expected_value)
+        return;
+    printf("%s: %llu %llu, expected %llu %llu\n", what, (unsigned long long)number, (unsigned long long)value, (unsigned long long)expected_number,
+           (unsigned long long)expected_value);
+    failed = 1;
+}
+
+#define ANSWERS(call, number_, value_)                           \
+    do {                                                         \
+        lot_answer answer = call;                                \
+        expect(#call, answer.number, answer.value, number_, value_); \
+    } while (0)
+
+int main(void) {
+    lot_changed changed = lot_fresh(STORE);
+    expect("fresh", changed.number, changed.value, 0, 0);
+    lot_counts counts = changed.counts;
+    ANSWERS(lot_is_empty(counts, STORE), 0, 1);
+    ANSWERS(lot_is_compact(counts, STORE), 0, 1);
+
+    /* Nodes 0 to 2; edges 0 and 1 from 0 to 1, 2 a loop at 1; node 2 removed; a move onto itself. */
+    static const uint32_t strip[] = {1, 0, 0, 7, 1, 0, 0, 9, 1, 0, 0, 11, 2, 0, 1, 5, 2, 0, 1, 6, 2, 1, 1, 8, 4, 2, 0, 0, 7, 0, 0, 0, 3, 1, 0, 0};
+    static const uint32_t expected[] = {0, 0, 0, 1, 0, 2, 0, 0, 0, 1, 0, 2, 0, 1, 9, LOT_NONE, 0, 1};
+    uint32_t answers[LENGTH(expected)];
+    changed = lot_strip(counts, STORE, SLICE(strip), answers, 3);
+    expect("a strip with too few words of answer", changed.number, changed.value, 2, LENGTH(expected));
+    changed = lot_strip(counts, STORE, SLICE(strip), SLICE(answers));
+    expect("strip", changed.number, changed.value, 0, 0);
+    for (size_t i = 0; i < LENGTH(expected); i++)
+        expect("word of the answers", i, answers[i], i, expected[i]);
+    counts = changed.counts;
+    expect("counts of nodes", counts.nodes.bound, counts.nodes.live, 3, 2);
+    expect("counts of edges", counts.edges.bound, counts.edges.live, 3, 2);
+
+    ANSWERS(lot_check(counts, STORE), 0, 0);
+    ANSWERS(lot_out_degree(counts, STORE, 0), 0, 1);
+    ANSWERS(lot_in_degree(counts, STORE, 1), 0, 2);
+    uint32_t slots[3] = {77, 77, 77};
+    ANSWERS(lot_incoming(counts, STORE, 1, slots, 1), 2, 2);
+    expect("refused", slots[0], slots[1], 77, 77);
+    ANSWERS(lot_incoming(counts, STORE, 1, SLICE(slots)), 0, 2);
+    expect("in-list", slots[0], slots[1], 0, 2);
+    ANSWERS(lot_predecessors(counts, STORE, 1, SLICE(slots)), 0, 2);
+    expect("sources", slots[0], slots[1], 0, 1);
+    ANSWERS(lot_outgoing(counts, STORE, 0, SLICE(slots)), 0, 1);
+    expect("out-list", slots[0], slots[1], 0, 1);
+    ANSWERS(lot_successors(counts, STORE, 0, SLICE(slots)), 0, 1);
+    expect("targets", slots[0], slots[1], 1, 1);
+    ANSWERS(lot_find(counts, STORE, 0, 1), 0, 0);
+    ANSWERS(lot_find(counts, STORE, 1, 0), 0, LOT_NONE);
+    ANSWERS(lot_find(counts, STORE, 0, 3), 5, LOT_NONE);
+    ANSWERS(lot_node_payload(counts, STORE, 2), 0, 11);
+    lot_record record = lot_edge_record(counts, STORE, 1);
+    expect("record", record.number, record.value, 0, 0);
+    expect("ends", record.source, record.target, 0, 1);
+    expect("payload", record.payload, 0, 6, 0);
+    record = lot_live_edge_record(counts, STORE, 1);
+    expect("live record", record.number, record.value, 8, LOT_NONE);
+    expect("refused record", record.source | record.target, record.payload, 0, 0);
+    ANSWERS(lot_contains_node(counts, STORE, 2), 0, 0);
+    ANSWERS(lot_contains_edge(counts, STORE, 2), 0, 1);
+    ANSWERS(lot_node_bound(counts, STORE), 0, 3);
+    ANSWERS(lot_edge_bound(counts, STORE), 0, 3);
+    ANSWERS(lot_node_count(counts, STORE), 0, 2);
+    ANSWERS(lot_edge_count(counts, STORE), 0, 2);
+    ANSWERS(lot_is_empty(counts, STORE), 0, 0);
+    ANSWERS(lot_is_compact(counts, STORE), 0, 0);
+    ANSWERS(lot_node_ids(counts, STORE, SLICE(slots)), 0, 2);
+    expect("live nodes", slots[0], slots[1], 0, 1);
+    ANSWERS(lot_edge_ids(counts, STORE, SLICE(slots)), 0, 2);
+    expect("live edges", slots[0], slots[1], 0, 2);
+    expect("past the list", slots[2], 77, 77, 77);
+
+    /* A count that is not true: rule 2. */
+    counts.nodes.live = 3;
+    ANSWERS(lot_node_count(counts, STORE), 1, 2);
+
+    static const uint32_t first[] = {1, LOT_NONE, 0}, second[] = {5}, identity[] = {0, 1};
+    uint32_t result[3];
+    ANSWERS(lot_lookup(SLICE(first), 2), 0, 0);
+    ANSWERS(lot_compose(SLICE(first), SLICE(second), SLICE(result)), 0, 0);
+    expect("composed", result[0], result[2], LOT_NONE, 5);
+    ANSWERS(lot_is_identity(SLICE(identity), SLICE(identity)), 0, 1);
+    if (!failed)
+        puts("lots.h and the library agree");
+    return failed ? EXIT_FAILURE : EXIT_SUCCESS;
+}
