@@ -169,6 +169,27 @@ mod others {
             answers: *mut u32,
             answers_length: usize,
         ) -> Changed;
+        pub fn lot_compact(
+            counts: Counts,
+            nodes: *mut u32,
+            nodes_length: usize,
+            edges: *mut u32,
+            edges_length: usize,
+            live_nodes: *mut u64,
+            live_nodes_length: usize,
+            live_edges: *mut u64,
+            live_edges_length: usize,
+            outgoing: *mut u32,
+            outgoing_length: usize,
+            incoming: *mut u32,
+            incoming_length: usize,
+            node_map: *mut u32,
+            node_map_length: usize,
+            edge_map: *mut u32,
+            edge_map_length: usize,
+            work: *mut u32,
+            work_length: usize,
+        ) -> Changed;
         pub fn lot_lookup(renumbering: *const u32, length: usize, slot: u32) -> Answer;
         pub fn lot_compose(
             first: *const u32,
@@ -232,6 +253,39 @@ impl Memory {
                 words.len(),
                 answers.as_mut_ptr(),
                 answers.len(),
+            )
+        }
+    }
+
+    pub fn lot_compact(
+        &mut self,
+        node_map: &mut [u32],
+        edge_map: &mut [u32],
+        work: &mut [u32],
+    ) -> Changed {
+        let [outgoing, incoming] = &mut self.axes;
+        // SAFETY: the slices are borrowed mutably and as long as stated.
+        unsafe {
+            others::lot_compact(
+                self.counts,
+                self.nodes.as_mut_ptr(),
+                self.nodes.len(),
+                self.edges.as_mut_ptr(),
+                self.edges.len(),
+                self.live_nodes.as_mut_ptr(),
+                self.live_nodes.len(),
+                self.live_edges.as_mut_ptr(),
+                self.live_edges.len(),
+                outgoing.as_mut_ptr(),
+                outgoing.len(),
+                incoming.as_mut_ptr(),
+                incoming.len(),
+                node_map.as_mut_ptr(),
+                node_map.len(),
+                edge_map.as_mut_ptr(),
+                edge_map.len(),
+                work.as_mut_ptr(),
+                work.len(),
             )
         }
     }

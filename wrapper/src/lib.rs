@@ -70,6 +70,16 @@ pub struct EdgeRecord {
     pub payload: u32,
 }
 
+/// What a compaction answers: the new slot of every old one, NONE where it was
+/// removed, and the lists of all nodes, joined, by the new numbers.
+#[derive(Debug, Clone, PartialEq, Eq)]
+pub struct Compaction {
+    pub node_map: Vec<u32>,
+    pub edge_map: Vec<u32>,
+    pub outgoing: Vec<u32>,
+    pub incoming: Vec<u32>,
+}
+
 /// An operation of a strip.
 #[derive(Debug, Clone, Copy, PartialEq, Eq)]
 pub enum Operation {
@@ -250,6 +260,36 @@ impl LotBook {
     /// 1 (the first broken rule), 3 (the strip's length), 2 (the length needed).
     pub fn strip_words(&mut self, words: &[u32], answers: &mut [u32]) -> Result<(), Refused> {
         let changed = self.memory.lot_strip(words, answers);
+        self.changed(changed)
+    }
+
+    /// Drops the removed slots and numbers the live ones from 0 in slot order.
+    /// Answers the maps from old slots to new ones, and the lists by new numbers.
+    ///
+    /// # Errors
+    /// 1 (the first broken rule).
+    pub fn compact(&mut self) -> Result<Compaction, Refused> {
+        let bound = |slots: Slots, capacity: usize| capacity.min(slots.bound as usize);
+        let Memory { counts, nodes, edges, .. } = &self.memory;
+        let mut node_map = vec![0; bound(counts.nodes, nodes.len())];
+        let mut edge_map = vec![0; bound(counts.edges, edges.len())];
+        let mut work = vec![0; 2 * edges.len().min(counts.edges.live as usize)];
+        self.compact_into(&mut node_map, &mut edge_map, &mut work)?;
+        let incoming = work.split_off(work.len() / 2);
+        Ok(Compaction { node_map, edge_map, outgoing: work, incoming })
+    }
+
+    /// Compaction into lent slices. Words past what is needed keep their content.
+    ///
+    /// # Errors
+    /// 1 (the first broken rule), then 2 (the length needed) of the three in turn.
+    pub fn compact_into(
+        &mut self,
+        node_map: &mut [u32],
+        edge_map: &mut [u32],
+        work: &mut [u32],
+    ) -> Result<(), Refused> {
+        let changed = self.memory.lot_compact(node_map, edge_map, work);
         self.changed(changed)
     }
 

@@ -175,6 +175,39 @@ fn capacities() {
 
 /// Every call on memory that is no store answers 1 and leaves every word.
 #[test]
+fn compacted() {
+    // M7: three edges, the first removed: the map is NONE, 0, 1.
+    let mut book = LotBook::new(2, 3).unwrap();
+    for payload in [7, 9] {
+        book.operation(Operation::AddNode { payload }).unwrap();
+    }
+    for payload in [5, 6, 8] {
+        book.operation(Operation::AddEdge { source: 0, target: 1, payload }).unwrap();
+    }
+    book.operation(Operation::RemoveEdge { edge: 0 }).unwrap();
+    let before = book.clone();
+    assert_eq!(book.compact_into(&mut [0], &mut [0; 3], &mut [0; 4]), Err(refused(2, 2)));
+    assert_eq!(book.compact_into(&mut [0; 2], &mut [0; 2], &mut [0; 4]), Err(refused(2, 3)));
+    assert_eq!(book.compact_into(&mut [0; 2], &mut [0; 3], &mut [0; 3]), Err(refused(2, 4)));
+    assert_eq!(book, before);
+    let compaction = book.compact().unwrap();
+    assert_eq!(compaction.node_map, [0, 1]);
+    assert_eq!(compaction.edge_map, [lots::NONE, 0, 1]);
+    assert_eq!(compaction.outgoing, [0, 1]);
+    assert_eq!(compaction.incoming, [0, 1]);
+    assert!(book.is_compact().unwrap());
+    assert_eq!(book.edge_record(1).unwrap().payload, 8);
+    assert_eq!(book.outgoing(0).unwrap(), [0, 1]);
+    // Again: no word changes, and the maps leave every slot.
+    let once = book.clone();
+    let again = book.compact().unwrap();
+    assert!(maps::is_identity(&again.node_map, &again.edge_map));
+    assert_eq!(book, once);
+    // "Dead slots are usable again afterwards."
+    assert_eq!(book.operation(Operation::AddEdge { source: 1, target: 0, payload: 1 }), Ok(2));
+}
+
+#[test]
 fn damaged() {
     let mut memory = book().into_memory();
     memory.counts.nodes.live += 1;

@@ -9,6 +9,7 @@ ghost use Rattle.shape.specs.Shape.{store};
 ghost use Rattle.shape.specs.Rules.{broken};
 ghost use Rattle.strip.specs.Fresh.{FreshOf};
 ghost use Rattle.strip.specs.Strip.{StripOf};
+ghost use Rattle.compact.specs.Calls.{CompactOf};
 
 #[no_mangle]
 pub extern "C" fn lot_fresh(
@@ -77,5 +78,38 @@ pub extern "C" fn lot_strip(
         incoming,
         words,
         answers,
+    )
+}
+
+#[no_mangle]
+pub extern "C" fn lot_compact(
+    counts: Counts,
+    nodes: &mut [u32],
+    edges: &mut [u32],
+    live_nodes: &mut [u64],
+    live_edges: &mut [u64],
+    outgoing: &mut [u32],
+    incoming: &mut [u32],
+    node_map: &mut [u32],
+    edge_map: &mut [u32],
+    work: &mut [u32],
+) -> Changed
+    ensures { λ r. ⌜ CompactOf
+        (store counts (now (nodes .entry)) (now (edges .entry)) (now («live_nodes» .entry)) (now («live_edges» .entry)) (now (outgoing .entry)) (now (incoming .entry)))
+        (now («node_map» .entry)) (now («edge_map» .entry)) (now (work .entry)) (r .number) (r .value)
+        (store (r .counts) (now (nodes .exit)) (now (edges .exit)) (now («live_nodes» .exit)) (now («live_edges» .exit)) (now (outgoing .exit)) (now (incoming .exit)))
+        (now («node_map» .exit)) (now («edge_map» .exit)) (now (work .exit)) ⌝ }
+{
+    compact::compact(
+        counts,
+        nodes,
+        edges,
+        live_nodes,
+        live_edges,
+        outgoing,
+        incoming,
+        node_map,
+        edge_map,
+        work,
     )
 }
