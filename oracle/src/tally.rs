@@ -116,6 +116,8 @@ things! {
         "A short second map gives NONE.";
     BookWhole: "book: bounds, counts, empty, compact, the check",
         "The check, the yes or no reads of a store, bounds and counts: 1.";
+    BookCompaction: "book: compactions, their maps, work slices and refusals, and second ones",
+        "Compaction works as `Graph::compact`.";
     BookList: "book: walks, successors and predecessors, lists of live slots, into slices of several lengths",
         "Walk: 1, 5, 2. List of live nodes or edges in slot order: 1, 2.";
     BookDegree: "book: degrees",

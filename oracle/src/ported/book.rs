@@ -16,7 +16,7 @@ use crate::calls::{self, Lots};
 use crate::checked::read;
 use crate::generate::{Generator, MEDIUM, MIXES, Mix, SHORT, Size};
 use crate::graph::traverse::TraversalDirection;
-use crate::lots::{EdgeRecord, LotBook, Refused};
+use crate::lots::{EdgeRecord, LotBook, Refused, maps};
 use crate::model::{Answer, Capacities, DIRECTIONS, Model, NONE};
 use crate::rng::Rng;
 use crate::rust_store::{self, RustStore};
@@ -124,12 +124,45 @@ impl Shelf {
         Ok(words.len() as u64 / 4)
     }
 
-    /// The Rust compacts, and its memory is put into the book's: the library has no
-    /// compaction yet.
-    fn compact(&mut self) {
-        self.rust.graph.compact();
-        let memory = Memory::of(&self.rust).words();
-        *self = Self::of(self.rust.clone(), memory);
+    /// Compacts on both sides: the maps and the lists into slices with words to
+    /// spare, then every read. Before it, one of the three slices is too short.
+    fn compact(&mut self, rng: &mut Rng, tally: &mut Tally) -> Same {
+        let place = || "a compaction".to_string();
+        let [nodes, edges] = self.rust.bounds();
+        let needed = [nodes, edges, 2 * self.rust.graph.edge_count()];
+        let short = rng.below(needed.len());
+        if let Some(shorter) = needed[short].checked_sub(1) {
+            let before = self.book.clone();
+            let mut slices = needed.map(|length| vec![NONE - 1; length]);
+            slices[short].truncate(shorter);
+            let untouched = slices.clone();
+            let [node_map, edge_map, work] = &mut slices;
+            let given = self.book.compact_into(node_map, edge_map, work);
+            let given = (given.map_err(Answer::from), self.book == before, slices);
+            let expected = (Err(Answer::too_short(needed[short])), true, untouched);
+            tally.same(Thing::BookCompaction, place, expected, given)?;
+        }
+        let mut slices = needed.map(lent);
+        let [node_map, edge_map, work] = &mut slices;
+        let given = self.book.compact_into(node_map, edge_map, work);
+        let given = given.map(|()| slices.map(kept)).map_err(Answer::from);
+        let [node_map, edge_map] = rust_store::maps(&self.rust.graph.compact());
+        let [(_, outgoing), (_, incoming)] = self.rust.graph.compressed_base();
+        let expected = Ok([node_map, edge_map, [outgoing, incoming].concat()]);
+        tally.same(Thing::BookCompaction, place, expected, given)?;
+        self.model.plain = self.rust.plain();
+        self.model.compact = true;
+        self.compare_reads(rng, tally)?;
+        self.compact_again(tally)
+    }
+
+    /// A second compaction changes no word, and its maps leave every slot.
+    fn compact_again(&mut self, tally: &mut Tally) -> Same {
+        let place = || "a second compaction".to_string();
+        let before = self.book.clone();
+        let given = self.book.compact().map_err(Answer::from);
+        let given = given.map(|each| maps::is_identity(&each.node_map, &each.edge_map));
+        tally.same(Thing::BookCompaction, place, (Ok(true), true), (given, self.book == before))
     }
 
     fn compare_reads(&self, rng: &mut Rng, tally: &mut Tally) -> Same {
@@ -356,7 +389,7 @@ impl Found {
             self.foreign += shelf.strip(60, &mut generator, tally)?;
             self.strips += 1;
         }
-        Ok(())
+        shelf.compact(rng, tally)
     }
 
     /// Strips from a fresh store, a damaged copy after each, now and then a
@@ -372,7 +405,7 @@ impl Found {
             self.strips += 1;
             self.damaged(&shelf, size, mix, rng, tally)?;
             if rng.one_in(5) {
-                shelf.compact();
+                shelf.compact(rng, tally)?;
             }
         }
         Ok(())
