@@ -1,4 +1,4 @@
--- Compacting again changes nothing: what compaction leaves is settled, and compacting a settled store leaves every word as it was.
+-- Compacting again changes nothing: what compaction leaves is canonical, and compacting a canonical store leaves every word as it was.
 use Prim.Native.Nat.{ℕ, _+_, _*_, _≤_, _<_}
 use mathlib.Core.Path.{_≡_, refl, sym, ap, ap₂, subst, subst₂, _∙_}
 use mathlib.Core.Bool.{true}
@@ -37,7 +37,7 @@ use Rattle.compact.specs.Slots.{kept-word, rewritten-same, kept-all-live
 use Rattle.compact.specs.Bases.{Compactable, AxisCompacted}
 use Rattle.compact.specs.Dropping.{based, Droppable, Dropped, axis-compactable, first-half, drop-room}
 use Rattle.compact.specs.Compacted.{left-sound, left-nodes, left-edges, nodes-bound, edges-bound, out-base, in-base-of, dropped-shape}
-use Rattle.compact.specs.Calls.{AxisSettled, Settled}
+use Rattle.compact.specs.Calls.{AxisCanonical, Canonical}
 
 -- words whose slots were all made live are those words
 reset-same : {entry exit : List ℕ} {slots : ℕ} → Reset entry slots exit → Reset exit slots exit
@@ -48,10 +48,10 @@ reset-same {entry} {exit} {slots} p = record {
       ∙ sym (ap (λ (l : List ℕ). all-live slots ++ drop (length (all-live slots)) l) (p .words));
 }
 
--- a new base is settled
-axis-settled : {ws : List ℕ} {ce cn : ℕ} {counts : Counts} {ends : List ℕ} {ls : List (List ℕ)} → NewBase ws ce cn counts ends ls
-    → AxisSettled ws ce cn (counts .nodes .bound) (counts .edges .bound) (joined ls)
-axis-settled {ws} {ce} {cn} {counts} {ends} b =
+-- a new base is canonical
+axis-canonical : {ws : List ℕ} {ce cn : ℕ} {counts : Counts} {ends : List ℕ} {ls : List (List ℕ)} → NewBase ws ce cn counts ends ls
+    → AxisCanonical ws ce cn (counts .nodes .bound) (counts .edges .bound) (joined ls)
+axis-canonical {ws} {ce} {cn} {counts} {ends} b =
     let there : ends-of ws (counts .edges .bound) ≡ ends = ap (ends-of ws) (b .edges-bound) ∙ b .built .ends-there in
     record {
       offsets = λ x h. b .built .offsets x h ∙ ap (λ (l : List ℕ). before l x) (sym there);
@@ -76,25 +76,25 @@ module _ {w : Words} {node-map work : List ℕ} {v : Words} (pre : Droppable w n
   listed : (d : TraversalDirection) → map (list-of d (lists v)) (from 0 (v .counts .nodes .bound)) ≡ map (list-of d (of-survivors left)) (from 0 (length (left .nodes)))
   listed d = ap₂ (λ (p : Plain) (n : ℕ). map (list-of d p) (from 0 n)) lists-left (nodes-bound pre r ∙ sym (left-nodes pre r))
 
-  directions : (d : TraversalDirection) → AxisSettled (axis-words d v) (length (v .edges)) (length (v .nodes)) (v .counts .nodes .bound) (v .counts .edges .bound)
+  directions : (d : TraversalDirection) → AxisCanonical (axis-words d v) (length (v .edges)) (length (v .nodes)) (v .counts .nodes .bound) (v .counts .edges .bound)
       (joined (map (list-of d (lists v)) (from 0 (v .counts .nodes .bound))))
   unfolding of-survivors
   directions Outgoing =
-      subst₂ (λ (ce cn : ℕ). AxisSettled (v .outgoing) ce cn (v .counts .nodes .bound) (v .counts .edges .bound)
+      subst₂ (λ (ce cn : ℕ). AxisCanonical (v .outgoing) ce cn (v .counts .nodes .bound) (v .counts .edges .bound)
       (joined (map (list-of Outgoing (lists v)) (from 0 (v .counts .nodes .bound))))) (sym (r .lengths .edges)) (sym (r .lengths .nodes))
-      (subst (AxisSettled (v .outgoing) (length (w .edges)) (length (w .nodes)) (v .counts .nodes .bound) (v .counts .edges .bound))
+      (subst (AxisCanonical (v .outgoing) (length (w .edges)) (length (w .nodes)) (v .counts .nodes .bound) (v .counts .edges .bound))
       (sym (ap joined (listed Outgoing ∙ all-lists (length (left .nodes)) (left .outs) (fitted-many (left-sound pre r .outs)))))
-      (axis-settled (out-base pre r outs ins)))
+      (axis-canonical (out-base pre r outs ins)))
   directions Incoming =
-      subst₂ (λ (ce cn : ℕ). AxisSettled (v .incoming) ce cn (v .counts .nodes .bound) (v .counts .edges .bound)
+      subst₂ (λ (ce cn : ℕ). AxisCanonical (v .incoming) ce cn (v .counts .nodes .bound) (v .counts .edges .bound)
       (joined (map (list-of Incoming (lists v)) (from 0 (v .counts .nodes .bound))))) (sym (r .lengths .edges)) (sym (r .lengths .nodes))
-      (subst (AxisSettled (v .incoming) (length (w .edges)) (length (w .nodes)) (v .counts .nodes .bound) (v .counts .edges .bound))
+      (subst (AxisCanonical (v .incoming) (length (w .edges)) (length (w .nodes)) (v .counts .nodes .bound) (v .counts .edges .bound))
       (sym (ap joined (listed Incoming ∙ all-lists (length (left .nodes)) (left .ins) (fitted-many (left-sound pre r .ins)))))
-      (axis-settled (in-base-of pre r outs ins)))
+      (axis-canonical (in-base-of pre r outs ins)))
 
-  -- what compaction leaves is settled
-  pub dropped-settled : Settled v
-  dropped-settled = record {
+  -- what compaction leaves is canonical
+  pub dropped-canonical : Canonical v
+  dropped-canonical = record {
     nodes-based = ap (λ (c : Counts). c .nodes .base) (r .counts) ∙ sym (nodes-bound pre r);
     nodes-live = ap (λ (c : Counts). c .nodes .live) (r .counts) ∙ sym (nodes-bound pre r);
     edges-based = ap (λ (c : Counts). c .edges .base) (r .counts) ∙ sym (edges-bound pre r);
@@ -104,13 +104,13 @@ module _ {w : Words} {node-map work : List ℕ} {v : Words} (pre : Droppable w n
     axis = directions;
   }
 
--- ---- a settled store compacted
+-- ---- a canonical store compacted
 
 -- one direction
 module _ {ws : List ℕ} {ce cn : ℕ} {live : List ℕ} {bound : ℕ} {node-map : List ℕ} {n : ℕ} {entries ws' : List ℕ} (joins : List ℕ)
     (pre : Compactable ws ce cn live bound node-map n bound entries) (r : AxisCompacted ws ce cn live bound node-map n bound entries ws')
     (all : live-flags live bound ≡ replicate bound true) (own : (e : ℕ) → e < bound → getD node-map (end-at ws e) 0 ≡ end-at ws e)
-    (s : AxisSettled ws ce cn n bound joins) (lined : take bound entries ≡ joins) where
+    (s : AxisCanonical ws ce cn n bound joins) (lined : take bound entries ≡ joins) where
   moved-same : r .moved ≡ ws
   moved-same =
       kept-all-live (live-flags live bound) bound all
@@ -146,8 +146,8 @@ module _ {ws : List ℕ} {ce cn : ℕ} {live : List ℕ} {bound : ℕ} {node-map
   axis-again =
       rewritten-same (r .rebuilds .marks) (λ x h. sym (s .marks x h) ∙ ap (λ (l : List ℕ). cell l (4 * ce + 4 * cn) x) (sym emptied-same)) ∙ emptied-same
 
--- no node of a settled store has a ring
-no-ring : {w : Words} → Settled w → (d : TraversalDirection) (x : ℕ) → adjacency-of d (shape-of w) x .ring ≡ []
+-- no node of a canonical store has a ring
+no-ring : {w : Words} → Canonical w → (d : TraversalDirection) (x : ℕ) → adjacency-of d (shape-of w) x .ring ≡ []
 unfolding ring-of ring
 no-ring {w} s d x =
     ⊎-elim
@@ -157,9 +157,9 @@ no-ring {w} s d x =
     (rw (axis-is w d, axis-nodes (axis-words d w) (length (w .edges)) (length (w .nodes)) (w .counts)) l)))
     (below-or-not x (w .counts .nodes .bound))
 
-settled-reached : {w : Words} → Settled w → Reached (shape-of w)
+canonical-reached : {w : Words} → Canonical w → Reached (shape-of w)
 unfolding ascends member
-settled-reached s = record {
+canonical-reached s = record {
   rings = λ d x. ap ascends (no-ring s d x);
   order = λ d x e f m k. in-none f (ap (member f) (sym (no-ring s d x)) ∙ k);
 }
@@ -168,10 +168,10 @@ plain-bound : (w : Words) → node-bound (lists w) ≡ w .counts .nodes .bound
 unfolding plain-of
 plain-bound w = node-bound-is w
 
-module _ {w : Words} (k : Checked w) (s : Settled w) where
+module _ {w : Words} (k : Checked w) (s : Canonical w) where
   -- compaction sees the plain lists
   seen-lists : settled (shape-of w) ≡ lists w
-  seen-lists = settled-is-plain (checked-proper w k) (settled-reached s)
+  seen-lists = settled-is-plain (checked-proper w k) (canonical-reached s)
 
   node-flags-on : node-live w ≡ replicate (w .counts .nodes .bound) true
   node-flags-on = s .node-words .flags
@@ -205,7 +205,7 @@ module _ {w : Words} (k : Checked w) (s : Settled w) where
 
 module _ {w : Words} {node-map work : List ℕ} {v : Words} (pre : Droppable w node-map work) (r : Dropped w node-map work v)
     (outs : take (w .counts .edges .live) work ≡ joined (survivors (settled (shape-of w)) .outs))
-    (ins : take (w .counts .edges .live) (drop (w .counts .edges .live) work) ≡ joined (survivors (settled (shape-of w)) .ins)) (s : Settled w) where
+    (ins : take (w .counts .edges .live) (drop (w .counts .edges .live) work) ≡ joined (survivors (settled (shape-of w)) .ins)) (s : Canonical w) where
   abbrev k : Checked w
   k = pre .checked
 
@@ -230,7 +230,7 @@ module _ {w : Words} {node-map work : List ℕ} {v : Words} (pre : Droppable w n
       (s .nodes-live) (s .edges-live) a)
       (edge-flags-on k s) (own-number d) (s .axis d) (ap (λ (m : ℕ). take m entries) (sym (s .edges-live)) ∙ lined)
 
-  -- compacting a settled store leaves every word, and the counts
+  -- compacting a canonical store leaves every word, and the counts
   pub dropped-again : v ≡ w
   dropped-again =
       let counts : v .counts ≡ w .counts = r .counts ∙ counts-again in

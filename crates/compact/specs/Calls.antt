@@ -29,14 +29,14 @@ abbrev pub compacting-of : Words → ℕ → ℕ → ℕ → Compacted
 compacting-of w node-map edge-map work = judged-compaction (broken w) (seen w) (compaction (seen w) node-map edge-map work)
 
 -- One direction whose words are what compaction writes: all that it holds is in the base.
-pub record AxisSettled (ws : List ℕ) (ce cn n m : ℕ) (entries : List ℕ) : Type 0 where
+pub record AxisCanonical (ws : List ℕ) (ce cn n m : ℕ) (entries : List ℕ) : Type 0 where
   pub offsets : (x : ℕ) → x < n + 1 → offset-at ws ce cn x ≡ before (ends-of ws m) x
   pub lists : map (cell ws ce) (from 0 m) ≡ entries
   pub rings : (x : ℕ) → x < n → last-at ws ce x ≡ NONE
   pub marks : (x : ℕ) → x < n → mark-at ws ce cn x ≡ 0
 
 -- A store whose words are what compaction and image reading write.
-pub record Settled (w : Words) : Type 0 where
+pub record Canonical (w : Words) : Type 0 where
   pub nodes-based : w .counts .nodes .base ≡ w .counts .nodes .bound
   pub nodes-live : w .counts .nodes .live ≡ w .counts .nodes .bound
   pub edges-based : w .counts .edges .base ≡ w .counts .edges .bound
@@ -44,7 +44,7 @@ pub record Settled (w : Words) : Type 0 where
   pub node-words : Reset (w .live-nodes) (w .counts .nodes .bound) (w .live-nodes)
   pub edge-words : Reset (w .live-edges) (w .counts .edges .bound) (w .live-edges)
   pub axis : (d : TraversalDirection)
-      → AxisSettled (axis-words d w) (length (w .edges)) (length (w .nodes)) (w .counts .nodes .bound) (w .counts .edges .bound)
+      → AxisCanonical (axis-words d w) (length (w .edges)) (length (w .nodes)) (w .counts .nodes .bound) (w .counts .edges .bound)
       (joined (map (list-of d (lists w)) (from 0 (w .counts .nodes .bound))))
 
 pub record CompactOf (w : Words) (node-map edge-map work : List ℕ) (number value : ℕ) (v : Words) (node-map' edge-map' work' : List ℕ) : Type 0 where
@@ -59,8 +59,8 @@ pub record CompactOf (w : Words) (node-map edge-map work : List ℕ) (number val
   pub shape : number ≡ 0 → shape-of v ≡ shape-of-survivors (survivors (settled (shape-of w)))
   pub checked : number ≡ 0 → Checked v
   pub reached : number ≡ 0 → Reached (shape-of v)
-  pub settles : number ≡ 0 → Settled v
+  pub canonical : number ≡ 0 → Canonical v
   -- "compacting again changes no field": not a word
-  pub again : number ≡ 0 → Settled w → v ≡ w
+  pub again : number ≡ 0 → Canonical w → v ≡ w
   pub lengths : SameLengths w v
   pub refused-keeps : (number ≡ 0 → ⊥) → v ≡ w

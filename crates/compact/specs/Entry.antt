@@ -28,7 +28,7 @@ use Rattle.compact.specs.ListsStore.{settled-well-formed, settled-node-f
 use Rattle.compact.specs.Settling.{Settleable, Settling, droppable}
 use Rattle.compact.specs.Compacted.{dropped-shape, dropped-state, dropped-reached, dropped-checked}
 use Rattle.compact.specs.Calls.{seen, compacting-of, CompactOf}
-use Rattle.compact.specs.Again.{dropped-settled, dropped-again}
+use Rattle.compact.specs.Again.{dropped-canonical, dropped-again}
 
 module _ (w : Words) (node-map edge-map work : List ℕ) where
   -- refused: not a word changes
@@ -44,7 +44,7 @@ module _ (w : Words) (node-map edge-map work : List ℕ) where
     shape = λ h. absurd (refused h);
     checked = λ h. absurd (refused h);
     reached = λ h. absurd (refused h);
-    settles = λ h. absurd (refused h);
+    canonical = λ h. absurd (refused h);
     again = λ h. absurd (refused h);
     lengths = same-lengths w;
     refused-keeps = λ h. refl;
@@ -193,7 +193,7 @@ module _ (w : Words) (node-map edge-map work : List ℕ) where
                 shape = λ h. dropped-shape pre r outs ins;
                 checked = λ h. dropped-checked pre r outs ins;
                 reached = λ h. dropped-reached pre r outs ins;
-                settles = λ h. dropped-settled pre r outs ins;
+                canonical = λ h. dropped-canonical pre r outs ins;
                 again = λ h s. dropped-again pre r outs ins s;
                 lengths = r .lengths;
                 refused-keeps = λ h. absurd (h refl);
