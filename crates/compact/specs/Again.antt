@@ -1,10 +1,9 @@
 -- Compacting again changes nothing: what compaction leaves is canonical, and compacting a canonical store leaves every word as it was.
 use Prim.Native.Nat.{ℕ, _+_, _*_, _≤_, _<_}
-use mathlib.Core.Path.{_≡_, refl, sym, ap, ap₂, subst, subst₂, _∙_}
+use mathlib.Core.Path.{_≡_, sym, ap, ap₂, subst, subst₂, _∙_}
 use mathlib.Core.Bool.{true}
 use mathlib.Core.Logic.{⊎-elim}
 use mathlib.Core.List.{List, [], map, _++_}
-use native.Mathlib.Omega.{arith}
 use native.Mathlib.Nat.{zero-add}
 use lib.ListN.{length, getD, take, drop, replicate, List·getD-eq-default}
 use lib.Seq.{drop-append-seam, getD-take}
@@ -18,7 +17,6 @@ use Rattle.plain.specs.Compaction.{Survivors, survivors, of-survivors, compacte
 use Rattle.plain.specs.Laws.AllLive.{AllLive, live-slot, own-rank, compacted-same}
 use Rattle.plain.specs.Laws.Booleans.{below-or-not}
 use Rattle.plain.specs.Laws.ListLaws.{map-getD, getD-map, length-from, getD-from}
-use Rattle.plain.specs.Laws.WellFormed.{Fitted}
 use Rattle.plain.specs.Laws.Fitting.{fitted-many}
 use Rattle.liveness.specs.Flags.{live-flags}
 use Rattle.liveness.specs.Calls.{Reset, all-live}
@@ -36,7 +34,7 @@ use Rattle.compact.specs.Survivors.{survivors-plain}
 use Rattle.compact.specs.Slots.{kept-word, rewritten-same, kept-all-live}
 use Rattle.compact.specs.Bases.{Compactable, AxisCompacted}
 use Rattle.compact.specs.Dropping.{based, Droppable, Dropped, axis-compactable, first-half, drop-room}
-use Rattle.compact.specs.Compacted.{left-sound, left-nodes, left-edges, nodes-bound, edges-bound, out-base, in-base-of, dropped-shape}
+use Rattle.compact.specs.Compacted.{left-sound, left-nodes, nodes-bound, edges-bound, out-base, in-base-of, dropped-shape}
 use Rattle.compact.specs.Calls.{AxisCanonical, Canonical}
 
 -- words whose slots were all made live are those words

@@ -8,7 +8,7 @@ use native.Mathlib.Nat.{zero-add}
 use lib.ListN.{length, getD, take}
 use Rattle.plain.specs.declared.Counts.{Counts}
 use Rattle.plain.specs.Numbers.{NONE}
-use Rattle.plain.specs.Lists.{joined, from}
+use Rattle.plain.specs.Lists.{joined}
 use Rattle.plain.specs.Reads.{live-count, live-slots}
 use Rattle.plain.specs.Laws.ListLaws.{count-length}
 use Rattle.plain.specs.Laws.Rank.{live-slot-live}
@@ -17,7 +17,7 @@ use Rattle.liveness.specs.Flags.{live-flags}
 use Rattle.liveness.specs.FlagLaws.{length-flags}
 use Rattle.shape.specs.Columns.{Sized, cell, end-at}
 use Rattle.shape.specs.Laws.Indexing.{Rewritten, before, ends-of, ends-same, length-ends, map-from-same}
-use Rattle.shape.specs.Laws.NewBase.{Built, NewBase, built-by}
+use Rattle.shape.specs.Laws.NewBase.{NewBase, built-by}
 use Rattle.adjacency.specs.Index.{Compressible, Copyable}
 use Rattle.compact.specs.Slots.{Keepable, kept-word, Translatable, translated-word}
 

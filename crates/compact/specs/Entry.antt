@@ -17,7 +17,6 @@ use Rattle.plain.specs.Laws.WellFormed.{Sound}
 use Rattle.plain.specs.Laws.Compacting.{survivors-sound, length-surviving-edges}
 use Rattle.plain.specs.Calls.{Compacted, compaction, judged-compaction}
 use Rattle.shape.specs.Shape.{Words, capacities, shape-of, settled}
-use Rattle.shape.specs.Checked.{Checked}
 use Rattle.shape.specs.Rules.{broken}
 use Rattle.shape.specs.Laws.CheckedShape.{checked-proper}
 use Rattle.shape.specs.Laws.NewBase.{fitted-total}

@@ -1,13 +1,12 @@
 -- What compacting a checked store asks and promises, with its answers: the two maps, the work slice, and the store without its dead slots.
-use Prim.Native.Nat.{ℕ, _+_, _*_, _≤_, _<_}
-use mathlib.Core.Path.{_≡_, sym, ap, _∙_}
+use Prim.Native.Nat.{ℕ, _*_, _≤_}
+use mathlib.Core.Path.{_≡_, ap, _∙_}
 use mathlib.Core.Bool.{Bool}
-use mathlib.Core.List.{List, _++_}
+use mathlib.Core.List.{List}
 use native.Mathlib.Omega.{arith}
-use lib.ListN.{length, getD, take, drop, length-append, length-drop}
-use lib.Seq.{take-append-le, drop-append-le, take-at, drop-at}
+use lib.ListN.{length, getD, drop, length-append, length-drop}
 use Rattle.plain.specs.declared.TraversalDirection.the-variants.{Outgoing}
-use Rattle.plain.specs.Lists.{written, joined}
+use Rattle.plain.specs.Lists.{written}
 use Rattle.plain.specs.Compaction.{renumbering, survivors, adjacency}
 use Rattle.plain.specs.Laws.Renumberings.{length-renumbering}
 use Rattle.liveness.specs.FlagLaws.{length-flags}

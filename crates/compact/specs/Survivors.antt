@@ -5,8 +5,7 @@ use native.Mathlib.Omega.{arith}
 use mathlib.Core.Path.{_≡_, refl, sym, ap, ap₂, _∙_}
 use mathlib.Core.Bool.{Bool, true, false, not}
 use mathlib.Core.List.{List, [], _∷_, map, append-nil}
-use lib.ListN.{length, getD, length-map, List·getD-map, length-replicate, replicate}
-use lib.Dec.{ltb}
+use lib.ListN.{length, getD, length-map, List·getD-map, replicate}
 use borrow.Author.Tests.{lt-ltb, ltb-true, eq-eqb}
 use Rattle.plain.specs.declared.TraversalDirection.{TraversalDirection}
 use Rattle.plain.specs.declared.TraversalDirection.the-variants.{Outgoing, Incoming}
@@ -19,7 +18,7 @@ use Rattle.plain.specs.Laws.Rank.{live-all-live}
 use Rattle.plain.specs.Laws.WellFormed.{Fitted, Sound}
 use Rattle.plain.specs.Laws.Fitting.{fitted-many, right-at, has-end-below}
 use Rattle.plain.specs.Laws.Compacting.{node-flags-of, edge-flags-of}
-use Rattle.shape.specs.Shape.{Adjacency, Axis, Shape, live-in, walk-of, adjacency-of, no-adjacency, incidence-by, plain-of, ascends, has-run, is-compact}
+use Rattle.shape.specs.Shape.{Adjacency, Shape, live-in, walk-of, adjacency-of, no-adjacency, incidence-by, plain-of, ascends, has-run, is-compact}
 use Rattle.shape.specs.Checked.{Reached}
 use Rattle.shape.specs.Steps.{state-of}
 use Rattle.shape.specs.Laws.Chains.{in-none}

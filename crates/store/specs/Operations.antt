@@ -4,7 +4,7 @@
 use Prim.Native.Nat.{ℕ, _+_, _-_, _≤_, _<_}
 use mathlib.Core.Path.{_≡_, refl}
 use mathlib.Core.Bool.{Bool, true, false}
-use mathlib.Core.List.{List, []}
+use mathlib.Core.List.{[]}
 use mathlib.Core.Logic.{_≢_}
 use lib.ListN.{length, getD}
 use Rattle.plain.specs.declared.Operation.{Operation}
