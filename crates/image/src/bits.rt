@@ -1,0 +1,115 @@
+// Fields of bits in lent bytes, most significant bit first: the least width of a count, and reading and writing a field at a bit. All functions are
+// internal: the field's room is required. What a field is stands in crate `plain`, specs/Bits.antt.
+
+ghost use mathlib.Core.Path.{_≡_};
+ghost use Prim.Native.Nat.{_+_, _*_, _/_, _%_, _^_, _<_, _≤_, min};
+ghost use lib.ListN.{length};
+ghost use Rattle.plain.specs.Bits.{field-at, least-width};
+ghost use Rattle.image.specs.Fields.{Room, Part};
+
+// The least width that holds every number below n.
+pub fn least_width(n: u32) -> u32
+    ensures { λ r. ⌜ r ≡ least-width n ⌝ }
+{
+    let mut width: u32 = 0;
+    let mut power: u64 = 1;
+    while power < n as u64 {
+        power = power * 2;
+        width += 1;
+    }
+    width
+}
+
+// The lesser of two numbers.
+fn lesser(a: u32, b: u32) -> u32
+    ensures { λ r. ⌜ r ≡ min a b ⌝ }
+{
+    if a < b { a } else { b }
+}
+
+// The bits of x from bit `below` up, `width` of them.
+fn cut(x: u64, below: u32, width: u32) -> u64
+    requires { ⌜ (below < 64) × (width < 64) ⌝ }
+    ensures { λ r. ⌜ r ≡ x / 2 ^ below % 2 ^ width ⌝ }
+{
+    (x >> below) & ((1u64 << width) - 1)
+}
+
+// The number x with zero bits after it.
+fn raise(x: u64, zeros: u32) -> u64
+    requires { ⌜ (zeros < 64) × (x * 2 ^ zeros < 2 ^ 64) ⌝ }
+    ensures { λ r. ⌜ r ≡ x * 2 ^ zeros ⌝ }
+{
+    x << zeros
+}
+
+// The byte at i, as a field.
+fn byte(bytes: &[u8], i: usize) -> u64
+    requires { ⌜ i < length (now bytes) ⌝ }
+    ensures { λ r. ⌜ r ≡ field-at (now (bytes .entry)) (8 * i) 8 ⌝ }
+{
+    bytes[i] as u64
+}
+
+// The two bytes from i on.
+fn two_bytes(bytes: &[u8], i: usize) -> u64
+    requires { ⌜ i + 2 ≤ length (now bytes) ⌝ }
+    ensures { λ r. ⌜ r ≡ field-at (now (bytes .entry)) (8 * i) 16 ⌝ }
+{
+    byte(bytes, i) * 256 + byte(bytes, i + 1)
+}
+
+// The four bytes from i on.
+fn four_bytes(bytes: &[u8], i: usize) -> u64
+    requires { ⌜ i + 4 ≤ length (now bytes) ⌝ }
+    ensures { λ r. ⌜ r ≡ field-at (now (bytes .entry)) (8 * i) 32 ⌝ }
+{
+    two_bytes(bytes, i) * 65536 + two_bytes(bytes, i + 2)
+}
+
+// The five bytes from i on: a window that holds a field of up to 32 bits, wherever in its first byte the field starts.
+fn five_bytes(bytes: &[u8], i: usize) -> u64
+    requires { ⌜ i + 5 ≤ length (now bytes) ⌝ }
+    ensures { λ r. ⌜ r ≡ field-at (now (bytes .entry)) (8 * i) 40 ⌝ }
+{
+    four_bytes(bytes, i) * 256 + byte(bytes, i + 4)
+}
+
+// A field that lies in one byte.
+fn read_part(bytes: &[u8], position: usize, width: u32) -> u64
+    requires { ⌜ Part (now bytes) position width ⌝ }
+    ensures { λ r. ⌜ r ≡ field-at (now (bytes .entry)) position width ⌝ }
+{
+    let offset = (position % 8) as u32;
+    cut(byte(bytes, position / 8), 8 - offset - width, width)
+}
+
+// A field, byte by byte: for the last bytes, where a window of five does not fit.
+fn read_bytewise(bytes: &[u8], position: usize, width: u32) -> u32
+    requires { ⌜ Room (now bytes) position width ⌝ }
+    ensures { λ r. ⌜ r ≡ field-at (now (bytes .entry)) position width ⌝ }
+{
+    let mut value: u64 = 0;
+    let mut at = position;
+    let mut left = width;
+    while left > 0 {
+        let part = lesser(left, 8 - (at % 8) as u32);
+        value = raise(value, part) + read_part(bytes, at, part);
+        at += part as usize;
+        left -= part;
+    }
+    value as u32
+}
+
+// The field of `width` bits at bit `position`.
+pub fn read_field(bytes: &[u8], position: usize, width: u32) -> u32
+    requires { ⌜ Room (now bytes) position width ⌝ }
+    ensures { λ r. ⌜ r ≡ field-at (now (bytes .entry)) position width ⌝ }
+{
+    let i = position / 8;
+    if i + 5 <= bytes.len() {
+        let offset = (position % 8) as u32;
+        return cut(five_bytes(bytes, i), 40 - offset - width, width) as u32;
+    }
+    read_bytewise(bytes, position, width)
+}
