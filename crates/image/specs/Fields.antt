@@ -1,10 +1,10 @@
 -- Fields in bytes: the room that a field needs, and how a field is read in parts and out of a window of whole bytes.
 use Prim.Native.Nat.{ℕ, zero, suc, _+_, _-_, _*_, _/_, _%_, _^_, _≤_, _<_, min}
-use mathlib.Core.Path.{_≡_, refl, sym, ap, _∙_}
+use mathlib.Core.Path.{_≡_, sym, ap, _∙_}
 use mathlib.Core.List.{List, _∷_, _++_}
 use native.Mathlib.Omega.{arith}
 use native.Mathlib.Nat.{mod-eq-of-lt, lt-of-lt-of-le, one-mul}
-use lib.ListN.{length, take, drop, getD, length-append, length-take, length-drop}
+use lib.ListN.{length, take, drop, getD, length-take, length-drop}
 use lib.Seq.{take-at, drop-at, take-add, drop-drop, split-at}
 use lib.Pow.{pow-mono, shl-exact, high, low}
 use lib.Dec.{lit<}

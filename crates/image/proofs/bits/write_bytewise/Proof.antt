@@ -1,5 +1,5 @@
 -- `image::bits::write_bytewise` meets its contract: the field's high bits were written, and only they.
-use Prim.Native.Nat.{_+_, _-_, _/_, _%_, _^_, _≤_, _<_}
+use Prim.Native.Nat.{_+_, _-_, _/_, _^_, _≤_}
 use mathlib.Core.Path.{_≡_, refl, _∙_}
 use native.Mathlib.Nat.{mod-lt}
 use native.Mathlib.Omega.{arith}
