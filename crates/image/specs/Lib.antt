@@ -1,0 +1,4 @@
+pub mod Fields
+pub mod Widths
+pub mod Wrote
+pub mod Replaced
