@@ -1,5 +1,5 @@
 //! Recorded sequences with their answers, for tests that replay them without the
-//! Rust. README.md describes the two files.
+//! Rust. README.md describes the files.
 //!
 //! In `sequences.txt` every answer is the Rust's, and was compared with the
 //! model's; `images.txt` is the model's alone, for the Rust has no images.
@@ -17,11 +17,15 @@ use crate::tally::{Difference, Tally, Thing};
 
 pub const SEQUENCES: &str = "sequences.txt";
 pub const IMAGES: &str = "images.txt";
+pub const CALLS: &str = "replay-stdin";
+pub const ANSWERS: &str = "replay-stdout";
 
 /// The committed files.
-const COMMITTED: [(&str, &str); 2] = [
+const COMMITTED: [(&str, &str); 4] = [
     (SEQUENCES, include_str!("../vectors/sequences.txt")),
     (IMAGES, include_str!("../vectors/images.txt")),
+    (CALLS, include_str!("../../crates/replay_main/stdin")),
+    (ANSWERS, include_str!("../../crates/replay_main/stdout")),
 ];
 
 /// Adds a line: a word and numbers, separated by single spaces.
@@ -354,9 +358,83 @@ fn covers_reading(text: &str) -> bool {
             .all(|&number| seen.iter().any(|seen| seen.1 == Some(number)))
 }
 
-/// Both files, by name.
-pub fn files(seed: u64, tally: &mut Tally) -> Result<[(&'static str, String); 2], Difference> {
-    Ok([(SEQUENCES, sequences(seed, tally)?), (IMAGES, images(seed))])
+/// What `crates/replay_main` reads and has to print: the sequences up to their
+/// first compaction or reading, which the port has not yet, an operation as a
+/// strip of one. Left out are refused strips, finds and images.
+fn replay(sequences: &str) -> [String; 2] {
+    let [mut calls, mut answers] = [String::new(), String::new()];
+    let mut from_fresh = true;
+    for text in sequences.lines().skip(1) {
+        let (name, rest) = text.split_once(' ').unwrap_or((text, ""));
+        match name {
+            "fresh" => from_fresh = true,
+            "compact" | "read" => from_fresh = false,
+            _ => {}
+        }
+        let numbers: Vec<u32> = rest
+            .split(' ')
+            .map_while(|number| number.parse().ok())
+            .collect();
+        // The kind of call, how many of the numbers are its arguments, and whether
+        // the first of them is left out.
+        let (kind, arguments, shift) = match name {
+            _ if !from_fresh => continue,
+            "fresh" => (0, 2, 0),
+            "out" => (2, 2, 0),
+            "in" => (3, 2, 0),
+            "nodes" => (4, 1, 1),
+            "edges" => (5, 1, 1),
+            "payload" => (6, 1, 0),
+            "record" => (7, 1, 0),
+            "live-record" => (8, 1, 0),
+            "store" => (9, 0, 0),
+            code if code.parse::<u32>().is_ok() => (1, 3, 0),
+            _ => continue,
+        };
+        let (given, told) = numbers.split_at(arguments);
+        let mut words = [kind, 0, 0, 0, 0];
+        let start = match kind {
+            1 => {
+                words[1] = name.parse().expect("a code");
+                2
+            }
+            _ => 1 + shift,
+        };
+        words[start..start + given.len()].copy_from_slice(given);
+        let [kind, a, b, c, d] = words;
+        line!(calls, "{kind:08x} {a:08x} {b:08x} {c:08x} {d:08x}");
+        let told: Vec<String> = told.iter().map(u32::to_string).collect();
+        match kind {
+            0 => line!(answers, "0 0"),
+            _ => line!(answers, "{}", told.join(" ")),
+        }
+        // "Where NUMBER is 0 or 2, VALUE is the degree too."
+        if let 2 | 3 = kind {
+            line!(
+                calls,
+                "{:08x} {a:08x} {:08x} {:08x} {:08x}",
+                kind + 8,
+                0,
+                0,
+                0
+            );
+            let number = if told[0] == "2" { "0" } else { &told[0] };
+            line!(answers, "{number} {}", told[1]);
+        }
+    }
+    [calls, answers]
+}
+
+/// All files, by name.
+pub fn files(seed: u64, tally: &mut Tally) -> Result<[(&'static str, String); 4], Difference> {
+    let sequences = sequences(seed, tally)?;
+    let [calls, answers] = replay(&sequences);
+    Ok([
+        (SEQUENCES, sequences),
+        (IMAGES, images(seed)),
+        (CALLS, calls),
+        (ANSWERS, answers),
+    ])
 }
 
 /// Compares the committed files with what their seed gives, byte for byte.

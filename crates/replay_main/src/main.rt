@@ -1,0 +1,663 @@
+// Replays recorded calls: reads them from standard input, a call a line, and prints each answer on a line. The file stdout beside src has the answers of the Rust,
+// so that a changed answer fails the check. oracle/README.md tells how both files are made.
+//
+// A line is five words of eight hexadecimal digits, separated by a space: the kind of call and its arguments. Kinds: 0 fresh (node and edge capacity), 1 an
+// operation (its four words), 2 and 3 walk out and in (node, words lent), 4 and 5 live nodes and edges (words lent), 6 node payload, 7 and 8 record in both readings,
+// 9 bounds, counts, empty and compact, 10 and 11 degree out and in.
+
+use plain::Answer;
+use plain::Counts;
+use plain::Record;
+use plain::Slots;
+use plain::TraversalDirection;
+ghost use Prim.Native.Nat.{_≤_, _<_};
+ghost use Rattle.io.specs.Counts.{Counts as Front};
+
+// A call as it is recorded.
+struct Call {
+    kind: u32,
+    first: u32,
+    second: u32,
+    third: u32,
+    fourth: u32,
+}
+
+// The counts of the store and its capacities.
+struct Held {
+    counts: Counts,
+    nodes: u32,
+    edges: u32,
+}
+
+// What a hexadecimal digit stands for, of which the letters are small; any other byte gives some number too.
+fn digit(byte: u8) -> u64
+    ensures { λ r. ⌜ r < 16 ⌝ }
+{
+    let code = byte as u64;
+    (code % 16 + 9 * (code / 64)) % 16
+}
+
+// Four digits.
+fn half(a: u8, b: u8, c: u8, d: u8) -> u64
+    ensures { λ r. ⌜ r < 65536 ⌝ }
+{
+    digit(a) * 4096 + digit(b) * 256 + digit(c) * 16 + digit(d)
+}
+
+// The word that begins there.
+fn field(line: &[u8; 45], at: usize) -> u32
+    requires { ⌜ at ≤ 37 ⌝ }
+{
+    let high = half(line[at], line[at + 1], line[at + 2], line[at + 3]);
+    let low = half(line[at + 4], line[at + 5], line[at + 6], line[at + 7]);
+    (high * 65536 + low) as u32
+}
+
+fn decode(line: &[u8; 45]) -> Call {
+    Call {
+        kind: field(line, 0),
+        first: field(line, 9),
+        second: field(line, 18),
+        third: field(line, 27),
+        fourth: field(line, 36),
+    }
+}
+
+fn wide(x: u32) -> u64 {
+    x as u64
+}
+
+// A number and a space.
+fn number(x: u64) {
+    io::print_decimal(1, x);
+    io::write_all(1, b" ");
+}
+
+// The last number of a line.
+fn last(x: u64) {
+    io::print_decimal(1, x);
+    io::write_all(1, b"\n");
+}
+
+fn print_answer(a: Answer) {
+    number(wide(a.number));
+    last(a.value);
+}
+
+fn print_record(r: Record) {
+    number(wide(r.number));
+    number(r.value);
+    number(wide(r.source));
+    number(wide(r.target));
+    last(wide(r.payload));
+}
+
+// A space and a number for each of the first entries.
+fn print_entries(slots: &[u32; 2048], count: u64) {
+    let mut i: usize = 0;
+    while i < 2048 {
+        if count <= i as u64 {
+            return;
+        }
+        io::write_all(1, b" ");
+        io::print_decimal(1, wide(slots[i]));
+        i += 1;
+    }
+}
+
+// An answer and the entries that it says were written.
+fn print_list(a: Answer, slots: &[u32; 2048]) {
+    number(wide(a.number));
+    io::print_decimal(1, a.value);
+    if a.number == 0 {
+        print_entries(slots, a.value);
+    }
+    io::write_all(1, b"\n");
+}
+
+// A recorded length, cut where the words end.
+fn within(length: u32, words: &[u32]) -> usize
+    ensures { λ r. ⌜ Front r (now (words .entry)) ⌝ }
+{
+    let n = length as usize;
+    if n < words.len() {
+        return n;
+    }
+    words.len()
+}
+
+// A fresh store of other capacities in the same memory.
+fn fresh(
+    call: Call,
+    nodes: &[u32],
+    edges: &[u32],
+    live_nodes: &[u64],
+    live_edges: &[u64],
+    outgoing: &[u32],
+    incoming: &[u32],
+) -> Held {
+    let n = within(call.first, nodes);
+    let e = within(call.second, edges);
+    let changed = strip::fresh(
+        &nodes[..n],
+        &edges[..e],
+        live_nodes,
+        live_edges,
+        outgoing,
+        incoming,
+    );
+    number(wide(changed.number));
+    last(changed.value);
+    let counts = changed.counts;
+    Held {
+        counts,
+        nodes: call.first,
+        edges: call.second,
+    }
+}
+
+// An operation, as a strip of one.
+fn operate(
+    held: Held,
+    nodes: &mut [u32],
+    edges: &mut [u32],
+    live_nodes: &mut [u64],
+    live_edges: &mut [u64],
+    outgoing: &mut [u32],
+    incoming: &mut [u32],
+    call: Call,
+) -> Counts {
+    let words: [u32; 4] = [call.first, call.second, call.third, call.fourth];
+    let mut answers: [u32; 2] = [0; 2];
+    let n = within(held.nodes, nodes);
+    let e = within(held.edges, edges);
+    let changed = strip::strip(
+        held.counts,
+        &mut nodes[..n],
+        &mut edges[..e],
+        live_nodes,
+        live_edges,
+        outgoing,
+        incoming,
+        &words,
+        &mut answers,
+    );
+    if changed.number != 0 {
+        io::write_all(1, b"refused ");
+    }
+    number(wide(answers[0]));
+    last(wide(answers[1]));
+    let counts = changed.counts;
+    counts
+}
+
+// A list into a slice of the recorded length.
+fn read_list(
+    counts: Counts,
+    nodes: &[u32],
+    edges: &[u32],
+    live_nodes: &[u64],
+    live_edges: &[u64],
+    outgoing: &[u32],
+    incoming: &[u32],
+    call: Call,
+) {
+    let mut slots: [u32; 2048] = [0; 2048];
+    let room = within(call.second, &slots);
+    let answered = list_answer(
+        counts,
+        nodes,
+        edges,
+        live_nodes,
+        live_edges,
+        outgoing,
+        incoming,
+        call,
+        &mut slots[..room],
+    );
+    print_list(answered, &slots);
+}
+
+fn list_answer(
+    counts: Counts,
+    nodes: &[u32],
+    edges: &[u32],
+    live_nodes: &[u64],
+    live_edges: &[u64],
+    outgoing: &[u32],
+    incoming: &[u32],
+    call: Call,
+    slots: &mut [u32],
+) -> Answer {
+    if call.kind == 2 {
+        return view::walks::walk(
+            counts,
+            nodes,
+            edges,
+            live_nodes,
+            live_edges,
+            outgoing,
+            incoming,
+            TraversalDirection::Outgoing,
+            call.first,
+            slots,
+        );
+    }
+    if call.kind == 3 {
+        return view::walks::walk(
+            counts,
+            nodes,
+            edges,
+            live_nodes,
+            live_edges,
+            outgoing,
+            incoming,
+            TraversalDirection::Incoming,
+            call.first,
+            slots,
+        );
+    }
+    if call.kind == 4 {
+        return view::ids::node_ids(
+            counts,
+            nodes,
+            edges,
+            live_nodes,
+            live_edges,
+            outgoing,
+            incoming,
+            slots,
+        );
+    }
+    view::ids::edge_ids(
+        counts,
+        nodes,
+        edges,
+        live_nodes,
+        live_edges,
+        outgoing,
+        incoming,
+        slots,
+    )
+}
+
+// Bounds, counts, whether the store is empty and whether it is compact.
+fn read_whole(
+    counts: Counts,
+    nodes: &[u32],
+    edges: &[u32],
+    live_nodes: &[u64],
+    live_edges: &[u64],
+    outgoing: &[u32],
+    incoming: &[u32],
+) {
+    number(
+        view::whole::node_bound(
+            counts,
+            nodes,
+            edges,
+            live_nodes,
+            live_edges,
+            outgoing,
+            incoming,
+        ).value,
+    );
+    number(
+        view::whole::edge_bound(
+            counts,
+            nodes,
+            edges,
+            live_nodes,
+            live_edges,
+            outgoing,
+            incoming,
+        ).value,
+    );
+    number(
+        view::whole::node_count(
+            counts,
+            nodes,
+            edges,
+            live_nodes,
+            live_edges,
+            outgoing,
+            incoming,
+        ).value,
+    );
+    number(
+        view::whole::edge_count(
+            counts,
+            nodes,
+            edges,
+            live_nodes,
+            live_edges,
+            outgoing,
+            incoming,
+        ).value,
+    );
+    number(
+        view::whole::is_empty(
+            counts,
+            nodes,
+            edges,
+            live_nodes,
+            live_edges,
+            outgoing,
+            incoming,
+        ).value,
+    );
+    last(
+        view::compactness::is_compact(
+            counts,
+            nodes,
+            edges,
+            live_nodes,
+            live_edges,
+            outgoing,
+            incoming,
+        ).value,
+    );
+}
+
+fn read_node(
+    counts: Counts,
+    nodes: &[u32],
+    edges: &[u32],
+    live_nodes: &[u64],
+    live_edges: &[u64],
+    outgoing: &[u32],
+    incoming: &[u32],
+    call: Call,
+) {
+    if call.kind == 6 {
+        print_answer(view::slots::node_payload(
+            counts,
+            nodes,
+            edges,
+            live_nodes,
+            live_edges,
+            outgoing,
+            incoming,
+            call.first,
+        ));
+        return;
+    }
+    if call.kind == 10 {
+        print_answer(view::walks::degree(
+            counts,
+            nodes,
+            edges,
+            live_nodes,
+            live_edges,
+            outgoing,
+            incoming,
+            TraversalDirection::Outgoing,
+            call.first,
+        ));
+        return;
+    }
+    print_answer(view::walks::degree(
+        counts,
+        nodes,
+        edges,
+        live_nodes,
+        live_edges,
+        outgoing,
+        incoming,
+        TraversalDirection::Incoming,
+        call.first,
+    ));
+}
+
+fn read_record(
+    counts: Counts,
+    nodes: &[u32],
+    edges: &[u32],
+    live_nodes: &[u64],
+    live_edges: &[u64],
+    outgoing: &[u32],
+    incoming: &[u32],
+    call: Call,
+) {
+    if call.kind == 7 {
+        print_record(view::slots::edge_record(
+            counts,
+            nodes,
+            edges,
+            live_nodes,
+            live_edges,
+            outgoing,
+            incoming,
+            call.first,
+        ));
+        return;
+    }
+    print_record(view::slots::live_edge_record(
+        counts,
+        nodes,
+        edges,
+        live_nodes,
+        live_edges,
+        outgoing,
+        incoming,
+        call.first,
+    ));
+}
+
+fn read(
+    held: Held,
+    nodes: &[u32],
+    edges: &[u32],
+    live_nodes: &[u64],
+    live_edges: &[u64],
+    outgoing: &[u32],
+    incoming: &[u32],
+    call: Call,
+) {
+    let counts = held.counts;
+    let n = within(held.nodes, nodes);
+    let e = within(held.edges, edges);
+    read_of(
+        counts,
+        &nodes[..n],
+        &edges[..e],
+        live_nodes,
+        live_edges,
+        outgoing,
+        incoming,
+        call,
+    );
+}
+
+fn read_of(
+    counts: Counts,
+    nodes: &[u32],
+    edges: &[u32],
+    live_nodes: &[u64],
+    live_edges: &[u64],
+    outgoing: &[u32],
+    incoming: &[u32],
+    call: Call,
+) {
+    let kind = call.kind;
+    if kind <= 5 {
+        read_list(
+            counts,
+            nodes,
+            edges,
+            live_nodes,
+            live_edges,
+            outgoing,
+            incoming,
+            call,
+        );
+        return;
+    }
+    if kind == 9 {
+        read_whole(
+            counts,
+            nodes,
+            edges,
+            live_nodes,
+            live_edges,
+            outgoing,
+            incoming,
+        );
+        return;
+    }
+    if kind == 7 || kind == 8 {
+        read_record(
+            counts,
+            nodes,
+            edges,
+            live_nodes,
+            live_edges,
+            outgoing,
+            incoming,
+            call,
+        );
+        return;
+    }
+    read_node(
+        counts,
+        nodes,
+        edges,
+        live_nodes,
+        live_edges,
+        outgoing,
+        incoming,
+        call,
+    );
+}
+
+// One call on the store; the store afterwards.
+fn step(
+    held: Held,
+    nodes: &mut [u32],
+    edges: &mut [u32],
+    live_nodes: &mut [u64],
+    live_edges: &mut [u64],
+    outgoing: &mut [u32],
+    incoming: &mut [u32],
+    call: Call,
+) -> Held {
+    if call.kind == 0 {
+        return fresh(
+            call,
+            nodes,
+            edges,
+            live_nodes,
+            live_edges,
+            outgoing,
+            incoming,
+        );
+    }
+    if call.kind == 1 {
+        let counts = operate(
+            held,
+            nodes,
+            edges,
+            live_nodes,
+            live_edges,
+            outgoing,
+            incoming,
+            call,
+        );
+        return Held {
+            counts,
+            nodes: held.nodes,
+            edges: held.edges,
+        };
+    }
+    read(
+        held,
+        nodes,
+        edges,
+        live_nodes,
+        live_edges,
+        outgoing,
+        incoming,
+        call,
+    );
+    held
+}
+
+// The kind that stands for the end of the input.
+const END: u32 = 4294967295;
+
+// The next call of the input.
+fn next() -> Call {
+    let mut line: [u8; 45] = [0; 45];
+    if io::read_full(0, &mut line) < 45 {
+        return Call {
+            kind: END,
+            first: 0,
+            second: 0,
+            third: 0,
+            fourth: 0,
+        };
+    }
+    decode(&line)
+}
+
+// The calls of the input in turn. A proved loop has to end, and nothing says that the input does: it counts from a number that no input uses up.
+fn run(
+    held: Held,
+    nodes: &mut [u32],
+    edges: &mut [u32],
+    live_nodes: &mut [u64],
+    live_edges: &mut [u64],
+    outgoing: &mut [u32],
+    incoming: &mut [u32],
+) {
+    let mut held = held;
+    let mut calls: u64 = 18446744073709551615;
+    while calls > 0 {
+        let call = next();
+        if call.kind == END {
+            return;
+        }
+        held = step(
+            held,
+            nodes,
+            edges,
+            live_nodes,
+            live_edges,
+            outgoing,
+            incoming,
+            call,
+        );
+        calls -= 1;
+    }
+}
+
+fn main() {
+    let mut nodes: [u32; 512] = [0; 512];
+    let mut edges: [u32; 1024] = [0; 1024];
+    let mut live_nodes: [u64; 8] = [0; 8];
+    let mut live_edges: [u64; 16] = [0; 16];
+    let mut outgoing: [u32; 7169] = [0; 7169];
+    let mut incoming: [u32; 7169] = [0; 7169];
+    let none = Slots {
+        bound: 0,
+        base: 0,
+        live: 0,
+    };
+    let held = Held {
+        counts: Counts {
+            nodes: none,
+            edges: none,
+        },
+        nodes: 0,
+        edges: 0,
+    };
+    run(
+        held,
+        &mut nodes,
+        &mut edges,
+        &mut live_nodes,
+        &mut live_edges,
+        &mut outgoing,
+        &mut incoming,
+    );
+}
