@@ -2,3 +2,4 @@ pub mod Fields
 pub mod Widths
 pub mod Wrote
 pub mod Replaced
+pub mod Calls

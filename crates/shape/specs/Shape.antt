@@ -12,6 +12,7 @@ use Rattle.plain.specs.declared.Counts.{Counts}
 use Rattle.plain.specs.Lists.{member, keep, all, from}
 use Rattle.plain.specs.Plain.{Plain, NodeSlot, EdgeSlot, Incidence}
 use Rattle.plain.specs.Step.{Capacities}
+use Rattle.plain.specs.Memory.{Lengths}
 use Rattle.liveness.specs.Flags.{live-flags}
 use Rattle.shape.specs.Columns.{last-at, first-at, count-at, mark-at, offset-at, cell}
 use Rattle.shape.specs.Chains.{chain, ring}
@@ -83,6 +84,16 @@ store counts nodes edges live-nodes live-edges outgoing incoming = record {
 
 abbrev pub capacities : Words → Capacities
 capacities w = record { nodes = length (w .nodes); edges = length (w .edges) }
+
+-- the lengths of a store's memory
+abbrev pub lengths-of : Words → Lengths
+lengths-of w = record {
+  capacities = capacities w;
+  live-nodes = length (w .live-nodes);
+  live-edges = length (w .live-edges);
+  outgoing = length (w .outgoing);
+  incoming = length (w .incoming);
+}
 
 abbrev pub node-live : Words → List Bool
 node-live w = live-flags (w .live-nodes) (w .counts .nodes .bound)

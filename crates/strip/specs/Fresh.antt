@@ -16,12 +16,12 @@ use Rattle.plain.specs.Numbers.{LIMIT}
 use Rattle.plain.specs.Lists.{member, all, from, count}
 use Rattle.plain.specs.Plain.{Plain}
 use Rattle.plain.specs.Step.{State}
-use Rattle.plain.specs.Memory.{Lengths, first-short, live-words, other-slices}
+use Rattle.plain.specs.Memory.{first-short, live-words, other-slices}
 use Rattle.plain.specs.Calls.{fresh-state, short-answer, within, fresh-within, fresh}
 use Rattle.plain.specs.Laws.Operating.{empty-well-formed}
 use Rattle.plain.specs.Laws.WellFormed.{WellFormed}
 use Rattle.liveness.specs.Flags.{packed, live-flags}
-use Rattle.shape.specs.Shape.{Words, Adjacency, store, capacities, node-live, edge-live, axis-words, axis-of, adjacency-of, no-adjacency, shape-of, plain-of, ascends, is-compact}
+use Rattle.shape.specs.Shape.{Words, Adjacency, store, capacities, lengths-of, node-live, edge-live, axis-words, axis-of, adjacency-of, no-adjacency, shape-of, plain-of, ascends, is-compact}
 use Rattle.shape.specs.Checked.{LiveRight, AxisChecked, Checked, Reached}
 use Rattle.shape.specs.Steps.{state-of}
 use Rattle.shape.specs.Laws.Chains.{in-none}
@@ -32,16 +32,6 @@ empty-slots = record { bound = 0; base = 0; live = 0 }
 
 abbrev pub empty-counts : Counts
 empty-counts = record { nodes = empty-slots; edges = empty-slots }
-
--- the lengths of a store's memory
-abbrev pub lengths-of : Words → Lengths
-lengths-of w = record {
-  capacities = capacities w;
-  live-nodes = length (w .live-nodes);
-  live-edges = length (w .live-edges);
-  outgoing = length (w .outgoing);
-  incoming = length (w .incoming);
-}
 
 pub record FreshOf (w : Words) (number value : ℕ) : Type 0 where
   pub answered : _≡_ {A = Answer} (record { number = number; value = value }) (fresh (lengths-of w))

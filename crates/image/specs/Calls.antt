@@ -1,0 +1,31 @@
+-- What reading an image comes to, on any memory and any bytes. Writing is a read that fills one lent slice: `Replied` of crate view, of `written-image`.
+use Prim.Native.Nat.{ℕ}
+use mathlib.Core.Path.{_≡_}
+use mathlib.Core.List.{List}
+use Rattle.plain.specs.declared.Answer.{Answer}
+use Rattle.plain.specs.Reads.{Reply}
+use Rattle.plain.specs.Image.{parsed}
+use Rattle.plain.specs.Calls.{read-image, read-state, write-image}
+use Rattle.shape.specs.Shape.{Words, lengths-of, shape-of}
+use Rattle.shape.specs.Checked.{Checked, Reached}
+use Rattle.shape.specs.Steps.{state-of}
+use Rattle.store.specs.Operations.{SameLengths}
+use Rattle.compact.specs.Survivors.{shape-of-survivors}
+use Rattle.compact.specs.Calls.{Canonical}
+
+-- the image of a store, into a slice of a length
+abbrev pub written-image : Words → ℕ → Reply
+written-image w room = write-image (state-of (shape-of w)) room
+
+-- Reading bytes into a store's memory: w is what was there, v is what is there then.
+pub record ReadOf (w : Words) (bytes : List ℕ) (number value : ℕ) (v : Words) : Type 0 where
+  pub answered : _≡_ {A = Answer} (record { number = number; value = value }) (read-image (lengths-of w) bytes)
+  pub state : number ≡ 0 → state-of (shape-of v) ≡ read-state bytes
+  -- all is in the base: "the result equals what compaction leaves"
+  pub shape : number ≡ 0 → shape-of v ≡ shape-of-survivors (parsed bytes)
+  pub checked : number ≡ 0 → Checked v
+  pub reached : number ≡ 0 → Reached (shape-of v)
+  pub canonical : number ≡ 0 → Canonical v
+  pub lengths : SameLengths w v
+  -- not a word and not a count
+  pub refused-keeps : (number ≡ 0 → ⊥) → v ≡ w
