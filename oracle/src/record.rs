@@ -359,70 +359,116 @@ fn covers_reading(text: &str) -> bool {
 }
 
 /// What `crates/replay_main` reads and has to print: the sequences up to their
-/// first compaction or reading, which the port has not yet, an operation as a
-/// strip of one. Left out are refused strips, finds and images.
-fn replay(sequences: &str) -> [String; 2] {
-    let [mut calls, mut answers] = [String::new(), String::new()];
-    let mut from_fresh = true;
-    for text in sequences.lines().skip(1) {
-        let (name, rest) = text.split_once(' ').unwrap_or((text, ""));
-        match name {
-            "fresh" => from_fresh = true,
-            "compact" | "read" => from_fresh = false,
-            _ => {}
-        }
-        let numbers: Vec<u32> = rest
-            .split(' ')
-            .map_while(|number| number.parse().ok())
-            .collect();
-        // The kind of call, how many of the numbers are its arguments, and whether
-        // the first of them is left out.
-        let (kind, arguments, shift) = match name {
-            _ if !from_fresh => continue,
-            "fresh" => (0, 2, 0),
-            "out" => (2, 2, 0),
-            "in" => (3, 2, 0),
-            "nodes" => (4, 1, 1),
-            "edges" => (5, 1, 1),
-            "payload" => (6, 1, 0),
-            "record" => (7, 1, 0),
-            "live-record" => (8, 1, 0),
-            "store" => (9, 0, 0),
-            code if code.parse::<u32>().is_ok() => (1, 3, 0),
-            _ => continue,
-        };
-        let (given, told) = numbers.split_at(arguments);
+/// first image reading, which the port has not yet. Left out are images.
+#[derive(Default)]
+struct Replay {
+    calls: String,
+    answers: String,
+}
+
+impl Replay {
+    /// A line of the input: a kind and up to four arguments.
+    fn call(&mut self, kind: u32, arguments: &[u32]) {
         let mut words = [kind, 0, 0, 0, 0];
-        let start = match kind {
-            1 => {
-                words[1] = name.parse().expect("a code");
-                2
-            }
-            _ => 1 + shift,
-        };
-        words[start..start + given.len()].copy_from_slice(given);
+        words[1..=arguments.len()].copy_from_slice(arguments);
         let [kind, a, b, c, d] = words;
-        line!(calls, "{kind:08x} {a:08x} {b:08x} {c:08x} {d:08x}");
+        line!(self.calls, "{kind:08x} {a:08x} {b:08x} {c:08x} {d:08x}");
+    }
+
+    /// A line of the output.
+    fn answer(&mut self, told: &[u32]) {
         let told: Vec<String> = told.iter().map(u32::to_string).collect();
-        match kind {
-            0 => line!(answers, "0 0"),
-            _ => line!(answers, "{}", told.join(" ")),
+        line!(self.answers, "{}", told.join(" "));
+    }
+
+    /// A call of one line each way.
+    fn one(&mut self, kind: u32, arguments: &[u32], told: &[u32]) {
+        self.call(kind, arguments);
+        self.answer(told);
+    }
+
+    /// A walk, and the degree: "where NUMBER is 0 or 2, VALUE is the degree too".
+    fn walk(&mut self, kind: u32, numbers: &[u32]) {
+        self.one(kind, &numbers[..2], &numbers[2..]);
+        let number = if numbers[2] == 2 { 0 } else { numbers[2] };
+        self.one(kind + 8, &numbers[..1], &[number, numbers[3]]);
+    }
+
+    /// A strip, and the lines of its operations.
+    fn strip<'l>(&mut self, numbers: &[u32], lines: &mut impl Iterator<Item = &'l str>) {
+        let [words, room, number, value] = *numbers else {
+            unreachable!("a strip has four numbers")
+        };
+        let operations = if number == 0 { words / 4 } else { 0 };
+        self.call(1, &[words, room, operations]);
+        let mut told = vec![number, value];
+        for line in lines.take(operations as usize) {
+            let operation = numbers_of(line);
+            self.call(1, &operation[..4]);
+            told.extend(&operation[4..]);
         }
-        // "Where NUMBER is 0 or 2, VALUE is the degree too."
-        if let 2 | 3 = kind {
-            line!(
-                calls,
-                "{:08x} {a:08x} {:08x} {:08x} {:08x}",
-                kind + 8,
-                0,
-                0,
-                0
-            );
-            let number = if told[0] == "2" { "0" } else { &told[0] };
-            line!(answers, "{number} {}", told[1]);
+        self.answer(&told);
+    }
+
+    /// A compaction: number and value beside each of the three slices that it
+    /// leaves where it is done.
+    fn compaction<'l>(&mut self, numbers: &[u32], lines: &mut impl Iterator<Item = &'l str>) {
+        self.call(12, &numbers[..3]);
+        for _ in 0..3 {
+            let mut told = numbers[3..].to_vec();
+            if numbers[3] == 0 {
+                let (_, words) = named(lines.next().expect("a slice a line"));
+                told.extend(words);
+            }
+            self.answer(&told);
         }
     }
-    [calls, answers]
+}
+
+/// The numbers of a line's text.
+fn numbers_of(text: &str) -> Vec<u32> {
+    text.split(' ')
+        .map_while(|number| number.parse().ok())
+        .collect()
+}
+
+/// The name and the numbers of a line.
+fn named(text: &str) -> (&str, Vec<u32>) {
+    let (name, rest) = text.split_once(' ').unwrap_or((text, ""));
+    (name, numbers_of(rest))
+}
+
+fn replay(sequences: &str) -> [String; 2] {
+    let mut replay = Replay::default();
+    let mut read = false;
+    let mut lines = sequences.lines().skip(1);
+    while let Some(text) = lines.next() {
+        let (name, numbers) = named(text);
+        match name {
+            "fresh" => read = false,
+            "read" => read = true,
+            _ => {}
+        }
+        if read {
+            continue;
+        }
+        match name {
+            "fresh" => replay.one(0, &numbers, &[0, 0]),
+            "strip" => replay.strip(&numbers, &mut lines),
+            "out" => replay.walk(2, &numbers),
+            "in" => replay.walk(3, &numbers),
+            "nodes" => replay.one(4, &[0, numbers[0]], &numbers[1..]),
+            "edges" => replay.one(5, &[0, numbers[0]], &numbers[1..]),
+            "payload" => replay.one(6, &numbers[..1], &numbers[1..]),
+            "record" => replay.one(7, &numbers[..1], &numbers[1..]),
+            "live-record" => replay.one(8, &numbers[..1], &numbers[1..]),
+            "store" => replay.one(9, &[], &numbers),
+            "compact" => replay.compaction(&numbers, &mut lines),
+            "find" => replay.one(13, &numbers[..2], &numbers[2..]),
+            _ => {}
+        }
+    }
+    [replay.calls, replay.answers]
 }
 
 /// All files, by name.

@@ -1,16 +1,18 @@
 // Replays recorded calls: reads them from standard input, a call a line, and prints each answer on a line. The file stdout beside src has the answers of the Rust,
 // so that a changed answer fails the check. oracle/README.md tells how both files are made.
 //
-// A line is five words of eight hexadecimal digits, separated by a space: the kind of call and its arguments. Kinds: 0 fresh (node and edge capacity), 1 an
-// operation (its four words), 2 and 3 walk out and in (node, words lent), 4 and 5 live nodes and edges (words lent), 6 node payload, 7 and 8 record in both readings,
-// 9 bounds, counts, empty and compact, 10 and 11 degree out and in.
+// A line is five words of eight hexadecimal digits, separated by a space: the kind of call and its arguments. Kinds: 0 fresh (node and edge capacity), 1 strip (words,
+// words lent for the answers, lines that follow: an operation each, in the last four words), 2 and 3 walk out and in (node, words lent), 4 and 5 live nodes and edges
+// (0, words lent), 6 node payload, 7 and 8 record in both readings, 9 bounds, counts, empty and compact, 10 and 11 degree out and in, 12 compaction (words lent for
+// the node map, the edge map and the work), 13 finding (two nodes).
 
 use plain::Answer;
 use plain::Counts;
 use plain::Record;
 use plain::Slots;
 use plain::TraversalDirection;
-ghost use Prim.Native.Nat.{_≤_, _<_};
+ghost use Prim.Native.Nat.{_+_, _≤_, _<_};
+ghost use lib.ListN.{length};
 ghost use Rattle.io.specs.Counts.{Counts as Front};
 
 // A call as it is recorded.
@@ -105,12 +107,12 @@ fn print_entries(slots: &[u32; 2048], count: u64) {
     }
 }
 
-// An answer and the entries that it says were written.
-fn print_list(a: Answer, slots: &[u32; 2048]) {
-    number(wide(a.number));
-    io::print_decimal(1, a.value);
-    if a.number == 0 {
-        print_entries(slots, a.value);
+// Number and value of a call and, where it is done, the words that it wrote.
+fn print_written(number_of: u32, value: u64, words: &[u32; 2048], count: u64) {
+    number(wide(number_of));
+    io::print_decimal(1, value);
+    if number_of == 0 {
+        print_entries(words, count);
     }
     io::write_all(1, b"\n");
 }
@@ -156,8 +158,33 @@ fn fresh(
     }
 }
 
-// An operation, as a strip of one.
-fn operate(
+// Puts the four words of an operation at `at`.
+fn put_operation(words: &mut [u32], at: usize, operation: Call)
+    requires { ⌜ at + 4 ≤ length (now words) ⌝ }
+{
+    words[at] = operation.first;
+    words[at + 1] = operation.second;
+    words[at + 2] = operation.third;
+    words[at + 3] = operation.fourth;
+}
+
+// Reads the operations of a strip, a line each, to the start of `words`; what is left of a shorter input is 0.
+fn read_operations(words: &mut [u32], lines: u32) {
+    let mut left = lines;
+    let mut at: usize = 0;
+    while left > 0 {
+        let operation = next();
+        if words.len() < at + 4 {
+            return;
+        }
+        put_operation(words, at, operation);
+        at += 4;
+        left -= 1;
+    }
+}
+
+// A strip, whole.
+fn strip_of(
     held: Held,
     nodes: &mut [u32],
     edges: &mut [u32],
@@ -167,10 +194,13 @@ fn operate(
     incoming: &mut [u32],
     call: Call,
 ) -> Counts {
-    let words: [u32; 4] = [call.first, call.second, call.third, call.fourth];
-    let mut answers: [u32; 2] = [0; 2];
+    let mut words: [u32; 2048] = [0; 2048];
+    let mut answers: [u32; 2048] = [0; 2048];
+    read_operations(&mut words, call.third);
     let n = within(held.nodes, nodes);
     let e = within(held.edges, edges);
+    let length = within(call.first, &words);
+    let room = within(call.second, &answers);
     let changed = strip::strip(
         held.counts,
         &mut nodes[..n],
@@ -179,14 +209,48 @@ fn operate(
         live_edges,
         outgoing,
         incoming,
-        &words,
-        &mut answers,
+        &words[..length],
+        &mut answers[..room],
     );
-    if changed.number != 0 {
-        io::write_all(1, b"refused ");
-    }
-    number(wide(answers[0]));
-    last(wide(answers[1]));
+    print_written(changed.number, changed.value, &answers, wide(call.second));
+    let counts = changed.counts;
+    counts
+}
+
+// A compaction with slices of the recorded lengths; where it is done, maps and work.
+fn compact(
+    held: Held,
+    nodes: &mut [u32],
+    edges: &mut [u32],
+    live_nodes: &mut [u64],
+    live_edges: &mut [u64],
+    outgoing: &mut [u32],
+    incoming: &mut [u32],
+    call: Call,
+) -> Counts {
+    let mut node_map: [u32; 2048] = [0; 2048];
+    let mut edge_map: [u32; 2048] = [0; 2048];
+    let mut work: [u32; 2048] = [0; 2048];
+    let n = within(held.nodes, nodes);
+    let e = within(held.edges, edges);
+    let first = within(call.first, &node_map);
+    let second = within(call.second, &edge_map);
+    let third = within(call.third, &work);
+    let changed = compact::compact(
+        held.counts,
+        &mut nodes[..n],
+        &mut edges[..e],
+        live_nodes,
+        live_edges,
+        outgoing,
+        incoming,
+        &mut node_map[..first],
+        &mut edge_map[..second],
+        &mut work[..third],
+    );
+    print_written(changed.number, changed.value, &node_map, wide(call.first));
+    print_written(changed.number, changed.value, &edge_map, wide(call.second));
+    print_written(changed.number, changed.value, &work, wide(call.third));
     let counts = changed.counts;
     counts
 }
@@ -215,7 +279,7 @@ fn read_list(
         call,
         &mut slots[..room],
     );
-    print_list(answered, &slots);
+    print_written(answered.number, answered.value, &slots, answered.value);
 }
 
 fn list_answer(
@@ -396,7 +460,21 @@ fn read_node(
         ));
         return;
     }
-    print_answer(view::walks::degree(
+    if call.kind == 11 {
+        print_answer(view::walks::degree(
+            counts,
+            nodes,
+            edges,
+            live_nodes,
+            live_edges,
+            outgoing,
+            incoming,
+            TraversalDirection::Incoming,
+            call.first,
+        ));
+        return;
+    }
+    print_answer(view::finding::find(
         counts,
         nodes,
         edges,
@@ -404,8 +482,8 @@ fn read_node(
         live_edges,
         outgoing,
         incoming,
-        TraversalDirection::Incoming,
         call.first,
+        call.second,
     ));
 }
 
@@ -530,6 +608,41 @@ fn read_of(
     );
 }
 
+// A strip or a compaction; the counts afterwards.
+fn change(
+    held: Held,
+    nodes: &mut [u32],
+    edges: &mut [u32],
+    live_nodes: &mut [u64],
+    live_edges: &mut [u64],
+    outgoing: &mut [u32],
+    incoming: &mut [u32],
+    call: Call,
+) -> Counts {
+    if call.kind == 1 {
+        return strip_of(
+            held,
+            nodes,
+            edges,
+            live_nodes,
+            live_edges,
+            outgoing,
+            incoming,
+            call,
+        );
+    }
+    compact(
+        held,
+        nodes,
+        edges,
+        live_nodes,
+        live_edges,
+        outgoing,
+        incoming,
+        call,
+    )
+}
+
 // One call on the store; the store afterwards.
 fn step(
     held: Held,
@@ -552,8 +665,8 @@ fn step(
             incoming,
         );
     }
-    if call.kind == 1 {
-        let counts = operate(
+    if call.kind == 1 || call.kind == 12 {
+        let counts = change(
             held,
             nodes,
             edges,
