@@ -251,13 +251,20 @@ pub fn live_record(graph: &Graph<u32, u32>, slot: u32) -> [u32; 3] {
     [ends[0], ends[1], *record.data()]
 }
 
-pub fn walk(graph: &Graph<u32, u32>, direction: TraversalDirection, slot: u32) -> Vec<u32> {
+pub fn edges_of(
+    graph: &Graph<u32, u32>,
+    direction: TraversalDirection,
+    slot: u32,
+) -> impl Iterator<Item = u32> {
     match direction {
         TraversalDirection::Outgoing => graph.outgoing(node(slot)),
         TraversalDirection::Incoming => graph.incoming(node(slot)),
     }
     .map(EdgeId::raw)
-    .collect()
+}
+
+pub fn walk(graph: &Graph<u32, u32>, direction: TraversalDirection, slot: u32) -> Vec<u32> {
+    edges_of(graph, direction, slot).collect()
 }
 
 pub fn neighbors(graph: &Graph<u32, u32>, direction: TraversalDirection, slot: u32) -> Vec<u32> {

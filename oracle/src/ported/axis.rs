@@ -284,9 +284,14 @@ impl Readable<'_> {
         }
     }
 
-    pub fn walk(&self, node: usize, live: bool) -> Vec<u32> {
+    /// The walk into a slice that it fits, and its length.
+    pub fn write(&self, node: usize, live: bool, out: &mut [u32]) -> usize {
         let Axis { words, layout } = self.asked(node);
-        let mut out = lent(self.count(node, live));
+        let count = self.count(node, live);
+        assert!(
+            count <= out.len(),
+            "required of write_walk: room for the walk"
+        );
         // SAFETY: as in `count`; `out` is borrowed mutably and `WalkFits`, since
         // the length of the walk is what `lot_count_walk` is proved to give.
         unsafe {
@@ -304,6 +309,12 @@ impl Readable<'_> {
                 out.len(),
             );
         }
+        count
+    }
+
+    pub fn walk(&self, node: usize, live: bool) -> Vec<u32> {
+        let mut out = lent(self.count(node, live));
+        self.write(node, live, &mut out);
         kept(out)
     }
 

@@ -196,10 +196,13 @@ impl Pair {
         let some = |call: &mut dyn FnMut(u32) -> u32| -> usize {
             (0..SOME).map(|node| call(node) as usize).sum()
         };
+        // Both sides fill one buffer, again and again.
+        let mut out = vec![0; graph.edge_bound()];
         let port = timed(
             &mut || {
                 each(&mut |side, node| {
-                    std::hint::black_box(reader.sides[side].walk(node as usize, true)).len()
+                    let count = reader.sides[side].write(node as usize, true, &mut out);
+                    std::hint::black_box(&out[..count]).len()
                 })
             },
             0,
@@ -211,7 +214,13 @@ impl Pair {
         let rust = timed(
             &mut || {
                 each(&mut |side, node| {
-                    std::hint::black_box(rust_store::walk(graph, DIRECTIONS[side], node)).len()
+                    let edges = rust_store::edges_of(graph, DIRECTIONS[side], node);
+                    let mut count = 0;
+                    for (word, edge) in out.iter_mut().zip(edges) {
+                        *word = edge;
+                        count += 1;
+                    }
+                    std::hint::black_box(&out[..count]).len()
                 })
             },
             1,
