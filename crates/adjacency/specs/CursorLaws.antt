@@ -167,6 +167,11 @@ pub record Seeking (test : ℕ → Bool) (linked : Bool) (entries next : List �
   pub ready : Ready linked entries next c
   pub same : from-first test (remaining linked entries next c₀) ≡ from-first test (remaining linked entries next c)
 
+-- where a search starts
+pub seek-start : {test : ℕ → Bool} {linked : Bool} {entries next : List ℕ} {c : AdjacencyCursor} → Ready linked entries next c
+    → Seeking test linked entries next c c
+seek-start r = record { ready = r; same = refl }
+
 module _ {test : ℕ → Bool} {linked : Bool} {entries next : List ℕ} {c₀ c : AdjacencyCursor} (i : Seeking test linked entries next c₀ c)
     {s : Step} (r : s ≡ step-of linked entries next c) where
   -- an entry that passes

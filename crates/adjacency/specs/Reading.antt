@@ -16,8 +16,8 @@ use Rattle.shape.specs.Laws.Walking.{until-short}
 use Rattle.adjacency.specs.declared.cursor.AdjacencyCursor.{AdjacencyCursor}
 use Rattle.adjacency.specs.declared.cursor.Found.the-variants.{Edge, Done}
 use Rattle.adjacency.specs.declared.cursor.Step.{Step}
-use Rattle.adjacency.specs.Cursor.{word, part-left, ring-left, remaining, Ready, from-first, Sought}
-use Rattle.adjacency.specs.CursorLaws.{part-counted}
+use Rattle.adjacency.specs.Cursor.{word, part-left, ring-left, remaining, step-of, Ready, from-first, Sought}
+use Rattle.adjacency.specs.CursorLaws.{part-counted, turn, found-is}
 
 -- ---- a list from its first entry on that passes
 
@@ -97,6 +97,18 @@ module _ {test : ℕ → Bool} {linked : Bool} {entries next : List ℕ} {c₀ c
   -- at the end all are past
   pub walked-end : s .found ≡ Done → keep test (remaining linked entries next c₀) ≡ w .past
   walked-end q = w .whole ∙ rw (sought-none found q) (append-nil (w .past))
+
+-- past an entry that does not pass
+module _ {test : ℕ → Bool} {linked : Bool} {entries next : List ℕ} {c : AdjacencyCursor} {s : Step} (r : Ready linked entries next c)
+    (is : s ≡ step-of linked entries next c) {e : ℕ} (q : s .found ≡ Edge e) (fails : test e ≡ false) where
+  pub walked-skip : {c₀ : AdjacencyCursor} {n : ℕ} → Walked test linked entries next c₀ n c → Walked test linked entries next c₀ n (s .cursor)
+  unfolding keep
+  walked-skip w = record {
+    past = w .past;
+    ready = turn r is .ready;
+    whole = w .whole ∙ ap (λ (l : List ℕ). w .past ++ l) (ap (keep test) (found-is r is q) ∙ rw fails);
+    counted = w .counted;
+  }
 
 -- a walk is short: the base part or run and the ring are
 remaining-short : {linked : Bool} {entries next : List ℕ} {c : AdjacencyCursor} → Ready linked entries next c
@@ -179,3 +191,10 @@ module _ {f : ℕ → ℕ} {test : ℕ → Bool} {linked : Bool} {entries next :
       let past = w .walked .past in
       let size : length (map f past) ≡ n = length-map past f ∙ sym (w .walked .counted) in
       rw (walked-end (w .walked) found q, size) (w .wrote)
+
+-- past an entry that does not pass nothing is written
+pub writing-skip : {f : ℕ → ℕ} {test : ℕ → Bool} {linked : Bool} {entries next : List ℕ} {c₀ c : AdjacencyCursor} {out₀ out : List ℕ} {n : ℕ} {s : Step} {e : ℕ}
+    → Writing f test linked entries next c₀ out₀ out n c → s ≡ step-of linked entries next c → s .found ≡ Edge e → test e ≡ false
+    → Writing f test linked entries next c₀ out₀ out n (s .cursor)
+unfolding walked-skip
+writing-skip w is q fails = record { walked = walked-skip (w .walked .ready) is q fails (w .walked); wrote = w .wrote; long = w .long; fits = w .fits }

@@ -209,7 +209,7 @@ impl AdjacencyCursor {
         }
     }
 
-    // Writes the listed entries that are left to the start of `out`.
+    // Writes the listed entries that are left to the start of `out`. It steps for itself: most walks are short, and a search for each entry is a call more.
     pub fn write(
         self,
         linked: bool,
@@ -226,17 +226,19 @@ impl AdjacencyCursor {
         let mut cursor = self;
         let mut n: usize = 0;
         loop {
-            let step = cursor.seek(linked, entries, next, tombstoned, live, slots);
+            let step = cursor.step(linked, entries, next);
             let found = step.found;
             match found {
                 Found::Edge(edge) => {
-                    out[n] = edge;
+                    if is_listed(tombstoned, live, slots, edge) {
+                        out[n] = edge;
+                        n += 1;
+                    }
                 }
                 Found::Done => {
                     return;
                 }
             }
-            n += 1;
             cursor = step.cursor;
         }
     }
