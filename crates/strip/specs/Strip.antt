@@ -91,7 +91,7 @@ same-through a b = record {
   incoming = b .incoming ∙ a .incoming;
 }
 
-same-capacities : {w v : Words} → SameLengths w v → capacities v ≡ capacities w
+pub same-capacities : {w v : Words} → SameLengths w v → capacities v ≡ capacities w
 same-capacities same = ap₂ {C = Capacities} (λ (n e : ℕ). record { nodes = n; edges = e }) (same .nodes) (same .edges)
 
 -- before the first operation
