@@ -1,6 +1,5 @@
 pub mod Runs
 pub mod Follows
 pub mod Closing
-pub mod Following
-pub mod Closings
+pub mod Laws
 pub mod Demand
