@@ -1,18 +1,18 @@
 -- What it means that a run follows its history: each answer and each store in it is the one that the definitions give for the calls alone.
 use Prim.Native.Nat.{ℕ, _*_, _<_}
 use mathlib.Core.Path.{_≡_}
-use mathlib.Core.List.{List, [], _∷_, _++_, map}
+use mathlib.Core.List.{List, [], _∷_, map}
 use lib.ListN.{length}
 use Rattle.plain.specs.Lists.{written}
-use Rattle.plain.specs.declared.Operation.{Operation}
 use Rattle.plain.specs.Operations.{operations}
-use Rattle.plain.specs.Step.{Capacities, State, step}
+use Rattle.plain.specs.Step.{Capacities, State}
 use Rattle.plain.specs.Image.{nodes-in, edges-in}
 use Rattle.plain.specs.History.{Call, Strip, Compaction, Reading, Called, called-from, history-from}
-use Rattle.shape.specs.Shape.{Words, capacities, shape-of, plain-of}
+use Rattle.shape.specs.Shape.{Words, shape-of}
 use Rattle.shape.specs.Checked.{Checked, Reached}
-use Rattle.shape.specs.Steps.{shape-run, state-of}
-use Rattle.histories.specs.Runs.{Request, call-of, lent-to, operations-of, Heard, Turn, final}
+use Rattle.shape.specs.Steps.{state-of}
+use Rattle.strip.specs.Strip.{Steps}
+use Rattle.histories.specs.Runs.{Request, StripInto, CompactionInto, ReadingOf, call-of, lent-to, Heard, Turn, final}
 
 -- the slices lent to a call, each starting with the words that it writes: "words past an answer's end keep their content"
 abbrev pub written-each : List (List ℕ) → List (List ℕ) → List (List ℕ)
@@ -48,14 +48,18 @@ pub data EachCanAnswer (caps : Capacities) : List Call → List ℕ → Type 0 w
   one-answer : {c : Call} {number : ℕ} {calls : List Call} {numbers : List ℕ} → CanAnswer caps c number → EachCanAnswer caps calls numbers
       → EachCanAnswer caps (c ∷ calls) (number ∷ numbers)
 
+-- the operations of a strip, done in turn from store w to store v; the other calls have none
+abbrev pub OperationsDone : Words → Request → Words → Type 0
+OperationsDone w (StripInto words answers) v = Steps w (operations words) v
+OperationsDone w (CompactionInto node-map edge-map work) v = Unit
+OperationsDone w (ReadingOf bytes) v = Unit
+
 -- "A refused call or operation leaves the plain lists and the store as they were."
 pub record RefusalKeeps (w : Words) (request : Request) (t : Turn) : Type 0 where
   -- a refused call: every word and every count
   pub call : (t .heard .number ≡ 0 → ⊥) → t .store ≡ w
-  -- a refused operation of a strip that is done: the store's shape, and so its plain lists, is what the strip without that operation leaves
-  pub operation : (before after : List Operation) (operation : Operation) → operations-of request ≡ before ++ (operation ∷ after) → t .heard .number ≡ 0
-      → (step (capacities w) (plain-of (shape-run (capacities w) (shape-of w) before)) operation .number ≡ 0 → ⊥)
-      → shape-of (t .store) ≡ shape-run (capacities w) (shape-of w) (before ++ after)
+  -- a refused operation of a strip that is done: likewise, `refused-keeps` of each of the `Steps`
+  pub operations : t .heard .number ≡ 0 → OperationsDone w request (t .store)
 
 pub data RefusalsKeep : Words → List Request → List Turn → Type 0 where
   no-refusal : {w : Words} → RefusalsKeep w [] []

@@ -3,8 +3,6 @@
 use Prim.Native.Nat.{ℕ}
 use mathlib.Core.List.{List, [], _∷_}
 use lib.ListN.{length}
-use Rattle.plain.specs.declared.Operation.{Operation}
-use Rattle.plain.specs.Operations.{operations}
 use Rattle.plain.specs.History.{Call, Strip, Compaction, Reading}
 use Rattle.shape.specs.Shape.{Words}
 use Rattle.strip.specs.Fresh.{FreshOf}
@@ -32,12 +30,6 @@ abbrev pub lent-to : Request → List (List ℕ)
 lent-to (StripInto words answers) = answers ∷ []
 lent-to (CompactionInto node-map edge-map work) = node-map ∷ edge-map ∷ work ∷ []
 lent-to (ReadingOf bytes) = []
-
--- the operations of a strip; the other calls have none
-abbrev pub operations-of : Request → List Operation
-operations-of (StripInto words answers) = operations words
-operations-of (CompactionInto node-map edge-map work) = []
-operations-of (ReadingOf bytes) = []
 
 -- What a caller sees of a call: number and value, and what the slices lent for answers hold then.
 pub record Heard : Type 0 where

@@ -1,31 +1,24 @@
--- Laws on the definitions of calls that runs need: the numbers that a call of a history can answer, reading into a store's own memory, and what a refused
--- operation leaves.
+-- Laws on the definitions of calls: reading into a store's own memory, and the numbers that a call of a history can answer.
 use Prim.Native.Nat.{ℕ, _*_, _%_, _≤_}
-use mathlib.Core.Path.{_≡_, refl, sym, ap, _∙_}
-use mathlib.Core.Bool.{Bool, false, cond}
+use mathlib.Core.Path.{_≡_, sym, ap, _∙_}
 use mathlib.Core.Option.{Option, none, some}
-use mathlib.Core.List.{List, [], _∷_, _++_}
+use mathlib.Core.List.{List, _∷_}
 use native.Mathlib.Omega.{arith}
-use lib.ListN.{length, length-append}
+use lib.ListN.{length}
 use lib.Dec.{eqb, ltb}
-use borrow.Author.Tests.{ne-eqb, ltb-true}
+use borrow.Author.Tests.{ltb-true}
 use Rattle.plain.specs.declared.TraversalDirection.the-variants.{Outgoing, Incoming}
-use Rattle.plain.specs.declared.Operation.{Operation}
-use Rattle.plain.specs.declared.Operation.the-variants.{AddNode, AddEdge, RemoveEdge, RemoveNode, Redirect, Move, SetPayload, Unknown}
-use Rattle.plain.specs.Plain.{Plain}
 use Rattle.plain.specs.Operations.{operations}
-use Rattle.plain.specs.Step.{Capacities, State, step, refused}
+use Rattle.plain.specs.Step.{Capacities, State}
 use Rattle.plain.specs.Image.{broken-image, nodes-in, edges-in}
 use Rattle.plain.specs.Memory.{Slice, first-short, Lengths, other-slices, exact}
 use Rattle.plain.specs.Calls.{strip, short-answer, limits, within, readable, compaction-slices, compacting, compaction, read-within, read-image}
 use Rattle.plain.specs.History.{Call, Strip, Compaction, Reading, call}
 use Rattle.plain.specs.Laws.Booleans.{by-test}
 use Rattle.plain.specs.Laws.CallCases.{LongEnough, no-slice, slice-fits, short-here, short-later, all-long}
-use Rattle.plain.specs.Laws.Stepping.{refused-unchanged}
 use Rattle.plain.specs.Laws.Histories.{Within, ReadCase, unreadable, read-too-short, read-fits, read-case}
-use Rattle.shape.specs.Shape.{Words, Shape, lengths-of, plain-of}
+use Rattle.shape.specs.Shape.{Words, lengths-of}
 use Rattle.shape.specs.Checked.{Checked}
-use Rattle.shape.specs.Steps.{acts, acted, shape-step, shape-run}
 use Rattle.histories.specs.Follows.{CanAnswer, strip-done, strip-ragged, strip-short, compaction-done, compaction-short, reading-done, reading-broken, reading-nodes, reading-edges}
 
 -- ---- reading into a store's own memory: the slices other than the payloads are never short
@@ -79,32 +72,3 @@ module _ (caps : Capacities) (s : State) where
   call-numbers few (Strip words room) = strip-numbers words room
   call-numbers few (Compaction node-map edge-map work) = compacting-numbers node-map edge-map work (first-short (compaction-slices (s .lists) node-map edge-map work))
   call-numbers few (Reading bytes) = reading-numbers bytes (read-case caps few bytes)
-
--- ---- a refused operation leaves the shape
-
-never-acts : (operation : Operation) (number : ℕ) (p : Plain) → (number ≡ 0 → ⊥) → acts operation (refused number p) ≡ false
-never-acts (AddNode v) number p h = ne-eqb number 0 h
-never-acts (AddEdge s t v) number p h = ne-eqb number 0 h
-never-acts (RemoveEdge e) number p h = refl
-never-acts (RemoveNode x) number p h = refl
-never-acts (Redirect d e x) number p h = rw (ne-eqb number 0 h)
-never-acts (Move d old new) number p h = rw (ne-eqb number 0 h)
-never-acts (SetPayload e v) number p h = ne-eqb number 0 h
-never-acts Unknown number p h = refl
-
-module _ (caps : Capacities) where
-  refused-keeps-shape : (s : Shape) (operation : Operation) → (step caps (plain-of s) operation .number ≡ 0 → ⊥) → shape-step caps s operation ≡ s
-  unfolding shape-step
-  refused-keeps-shape s operation h =
-      ap (λ (b : Bool). cond b (acted operation s) s)
-      (ap (acts operation) (refused-unchanged caps (plain-of s) operation h) ∙ never-acts operation (step caps (plain-of s) operation .number) (plain-of s) h)
-
-  pub run-without : (s : Shape) (before after : List Operation) (operation : Operation)
-      → (step caps (plain-of (shape-run caps s before)) operation .number ≡ 0 → ⊥) → shape-run caps s (before ++ (operation ∷ after)) ≡ shape-run caps s (before ++ after)
-  unfolding shape-run
-  run-without s [] after operation h = ap (λ (t : Shape). shape-run caps t after) (refused-keeps-shape s operation h)
-  run-without s (x ∷ before) after operation h = run-without (shape-step caps s x) before after operation h
-
--- a call that is no strip has no operation
-pub no-operation : (before after : List Operation) (operation : Operation) → [] ≡ before ++ (operation ∷ after) → ⊥
-no-operation before after operation e = omega (arith, ap length e, length-append before (operation ∷ after))

@@ -17,7 +17,7 @@ use Rattle.plain.specs.History.{Call, Strip, Compaction, Reading, call, called-
 use Rattle.plain.specs.Laws.Histories.{Within, call-refused}
 use Rattle.shape.specs.Shape.{Words, capacities, lengths-of, shape-of, is-compact}
 use Rattle.shape.specs.Checked.{Checked, Reached}
-use Rattle.shape.specs.Steps.{shape-run, state-of}
+use Rattle.shape.specs.Steps.{state-of}
 use Rattle.shape.specs.Laws.Judging.{checked-sound}
 use Rattle.shape.specs.Laws.CheckedShape.{checked-proper}
 use Rattle.shape.specs.Laws.Settling.{settled-is-plain}
@@ -26,7 +26,7 @@ use Rattle.compact.specs.Calls.{seen, compacting-of, CompactOf}
 use Rattle.image.specs.Calls.{ReadOf}
 use Rattle.histories.specs.Runs.{Request, StripInto, CompactionInto, ReadingOf, call-of, Heard, Turn, Turned, stripped as by-strip, compacted as by-compaction, read as by-reading, Turns, no-turn, turn, Ran}
 use Rattle.histories.specs.Follows.{told, CanAnswer, no-answer, one-answer, RefusalKeeps, no-refusal, one-kept, Follows}
-use Rattle.histories.specs.Laws.Calling.{roomy-read, checked-long, call-numbers, run-without, no-operation}
+use Rattle.histories.specs.Laws.Calling.{roomy-read, checked-long, call-numbers}
 
 -- ---- a checked store
 
@@ -92,11 +92,7 @@ module _ {caps : Capacities} {s : State} {w : Words} (at : Stands caps s w) wher
       let answered = of .answered ∙ ap (λ (r : Stripped). written (r .words) entry) is in
       record {
         heard = λ i. record { number = numbered i; value = valued i; lent = answered i ∷ [] };
-        keeps = record {
-          call = of .refused-keeps;
-          operation = λ before after operation split done h.
-              of .shape done ∙ ap (shape-run (capacities w) (shape-of w)) split ∙ run-without (capacities w) (shape-of w) before after operation h;
-        };
+        keeps = record { call = of .refused-keeps; operations = of .steps };
         stands = goes-on (Strip words (length entry)) at number numbered
             (λ done. record {
               checked = of .checked done;
@@ -120,7 +116,7 @@ module _ {caps : Capacities} {s : State} {w : Words} (at : Stands caps s w) wher
       let worked = of .worked ∙ ap (λ (r : Compacted). written (r .work) work) is in
       record {
         heard = λ i. record { number = numbered i; value = valued i; lent = nodes i ∷ edges i ∷ worked i ∷ [] };
-        keeps = record { call = of .refused-keeps; operation = λ before after operation split. absurd (no-operation before after operation split) };
+        keeps = record { call = of .refused-keeps; operations = λ done. tt };
         stands = goes-on (Compaction (length node-map) (length edge-map) (length work)) at number numbered
             (λ done. record {
               checked = of .checked done;
@@ -139,7 +135,7 @@ module _ {caps : Capacities} {s : State} {w : Words} (at : Stands caps s w) wher
       let valued = ap (λ (a : Answer). a .value) is in
       record {
         heard = λ i. record { number = numbered i; value = valued i; lent = [] };
-        keeps = record { call = of .refused-keeps; operation = λ before after operation split. absurd (no-operation before after operation split) };
+        keeps = record { call = of .refused-keeps; operations = λ done. tt };
         stands = goes-on (Reading bytes) at number numbered
             (λ done. record {
               checked = of .checked done;
