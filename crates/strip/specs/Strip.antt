@@ -30,6 +30,11 @@ pub record Runnable (w : Words) (words answers : List ℕ) : Type 0 where
   pub checked : Checked w
   pub room : 2 * length (operations words) ≤ length answers
 
+-- Operations done in turn, from store w to store v, each on the store that the one before left: of these a refused one leaves every word.
+pub data Steps : Words → List Operation → Words → Type 0 where
+  no-step : {w : Words} → Steps w [] w
+  one-step : {w u v : Words} {x : Operation} {ops : List Operation} {number value : ℕ} → StepOf x w u number value → Steps u ops v → Steps w (x ∷ ops) v
+
 -- What operations come to that were done in turn on store w, with answers into `entry`: the store v, and the answer slice `exit`.
 pub record Ran (w : Words) (ops : List Operation) (entry : List ℕ) (v : Words) (exit : List ℕ) : Type 0 where
   pub shape : shape-of v ≡ shape-run (capacities w) (shape-of w) ops
@@ -37,6 +42,7 @@ pub record Ran (w : Words) (ops : List Operation) (entry : List ℕ) (v : Words)
   pub checked : Checked v
   pub reached : Reached (shape-of w) → Reached (shape-of v)
   pub lengths : SameLengths w v
+  pub steps : Steps w ops v
   -- "words past an answer's end keep their content"
   pub answered : exit ≡ written (answers (capacities w) (state-of (shape-of w)) ops) entry
 
@@ -56,6 +62,8 @@ pub record StripOf (w : Words) (words entry : List ℕ) (number value : ℕ) (v 
   pub checked : number ≡ 0 → Checked v
   pub reached : Reached (shape-of w) → Reached (shape-of v)
   pub lengths : SameLengths w v
+  -- "A refused operation changes nothing and the strip goes on": not a word
+  pub steps : number ≡ 0 → Steps w (operations words) v
   -- "a lent slice too short .. everything": not a word of the store changes
   pub refused-keeps : (number ≡ 0 → ⊥) → v ≡ w
 
@@ -91,13 +99,17 @@ same-through a b = record {
   incoming = b .incoming ∙ a .incoming;
 }
 
-same-capacities : {w v : Words} → SameLengths w v → capacities v ≡ capacities w
+pub same-capacities : {w v : Words} → SameLengths w v → capacities v ≡ capacities w
 same-capacities same = ap₂ {C = Capacities} (λ (n e : ℕ). record { nodes = n; edges = e }) (same .nodes) (same .edges)
 
 -- before the first operation
 ran-none : {w : Words} {entry : List ℕ} → Checked w → Ran w [] entry w entry
 unfolding shape-run run answers
-ran-none {w} c = record { shape = refl; state = refl; checked = c; reached = λ r. r; lengths = same-lengths w; answered = refl }
+ran-none {w} c = record { shape = refl; state = refl; checked = c; reached = λ r. r; lengths = same-lengths w; steps = no-step; answered = refl }
+
+steps-more : {w v u : Words} {ops : List Operation} {x : Operation} {number value : ℕ} → Steps w ops v → StepOf x v u number value → Steps w (ops ++ (x ∷ [])) u
+steps-more no-step does = one-step does no-step
+steps-more (one-step first rest) does = one-step first (steps-more rest does)
 
 -- one operation more
 module _ {w v u : Words} {ops : List Operation} {entry exit : List ℕ} {x : Operation} {number value : ℕ}
@@ -116,6 +128,7 @@ module _ {w v u : Words} {ops : List Operation} {entry exit : List ℕ} {x : Ope
     checked = does .checked;
     reached = λ r. step-keeps (ran .checked) does (ran .reached r);
     lengths = same-through (ran .lengths) (does .lengths);
+    steps = steps-more (ran .steps) does;
     answered = ap (λ (l : List ℕ). set (set l at number) (at + 1) value) (ran .answered)
         ∙ two-more before entry at number value (is ∙ sym (length-answers (capacities w) (state-of (shape-of w)) ops)) room
         ∙ ap₂ {C = List ℕ} (λ (n m : ℕ). written (before ++ (n ∷ m ∷ [])) entry) (does .numbered ∙ ap (λ (o : Outcome). o .number) ran-outcome)
@@ -192,6 +205,7 @@ module _ (w : Words) (words entry : List ℕ) where
         checked = λ h. absurd (refused h);
         reached = λ r. r;
         lengths = same-lengths w;
+        steps = λ h. absurd (refused h);
         refused-keeps = λ h. refl;
       }
 
@@ -248,5 +262,6 @@ module _ (w : Words) (words entry : List ℕ) where
               checked = λ h. ran .checked;
               reached = ran .reached;
               lengths = ran .lengths;
+              steps = λ h. ran .steps;
               refused-keeps = λ h. absurd (h refl);
             }

@@ -1,0 +1,69 @@
+-- DEMAND 3, one theorem about two whole lists of calls. Document 01, sentence by sentence:
+-- "It is one claim about two whole lists of calls, not one for each call." `demand-3`: of any two runs, in any memory, with whatever is lent.
+-- "Every number answered in them follows from the plain lists and the calls' arguments, lengths included, never from the store's counts or words": `answers` and
+-- `numbers` of `Follows`; of the closing calls `Compacts` and `Writes`.
+-- "a refused call or operation leaves the plain lists and the store as they were": `refusals` of `Follows`.
+-- "The closing compactions and image writings are meant where they answer 0; the only other number they can give is 2": `Done`, and `zero-or-two` of both.
+-- "A field is a count of the record or a word of the store's own memory .. whose content can change an answer": `unchanged` of `NothingMore` has every count and
+-- every word, field or not.
+-- "an identity map holds i at each i below the bound": `node-map` and `edge-map` of `NothingMore`.
+-- "Order and image equality are measured on the plain lists, never on the port's own walks": `images`, by the survivors of the history's plain lists.
+use mathlib.Core.Path.{_≡_, sym, ap, subst, subst₂, _∙_}
+use mathlib.Core.Logic.{_↔_}
+use mathlib.Core.List.{List, map}
+use Rattle.plain.specs.Step.{State}
+use Rattle.plain.specs.Compaction.{survivors}
+use Rattle.plain.specs.Image.{image}
+use Rattle.plain.specs.Calls.{fresh-state}
+use Rattle.plain.specs.History.{history}
+use Rattle.plain.specs.Laws.ImageLaws.{image-injective}
+use Rattle.shape.specs.Shape.{Words, capacities, shape-of, settled}
+use Rattle.shape.specs.Checked.{Checked}
+use Rattle.histories.specs.Runs.{Request, call-of, Turn, Ran, final}
+use Rattle.histories.specs.Follows.{Follows}
+use Rattle.histories.specs.Closing.{Closing, Done, image-of, Closes}
+use Rattle.histories.specs.Laws.Following.{seen-is, run-follows}
+use Rattle.histories.specs.Laws.Closing.{checked-closes, seen-sound}
+
+-- the history of requests in memory w: of the capacities and the calls, of no count and no word
+abbrev pub history-of : Words → List Request → State
+history-of w requests = history (capacities w) (map call-of requests)
+
+-- What holds of two runs, each closed by a compaction and an image writing: "It is one claim about two whole lists of calls, not one for each call."
+pub record Demand3 (w₁ w₂ : Words) (requests₁ requests₂ : List Request) (turns₁ turns₂ : List Turn) (c₁ : Closing (final w₁ turns₁)) (c₂ : Closing (final w₂ turns₂))
+    : Type 0 where
+  pub first : Follows (capacities w₁) fresh-state w₁ requests₁ turns₁
+  pub second : Follows (capacities w₂) fresh-state w₂ requests₂ turns₂
+  pub first-closes : Closes (history-of w₁ requests₁) c₁
+  pub second-closes : Closes (history-of w₂ requests₂) c₂
+  -- where the closing calls answer 0, the images are equal, length and bytes, exactly when the survivors are equal: payloads, ends, and both lists of each lot
+  pub images : Done c₁ → Done c₂ → (image-of c₁ ≡ image-of c₂) ↔ (survivors (history-of w₁ requests₁ .lists) ≡ survivors (history-of w₂ requests₂ .lists))
+
+-- The image half, of any two checked stores, wherever they come from: where the closing calls answer 0, the images are equal exactly when what survives is equal, in
+-- the order that compaction sees.
+pub checked-images : {w₁ w₂ : Words} → Checked w₁ → Checked w₂ → (c₁ : Closing w₁) (c₂ : Closing w₂) → Done c₁ → Done c₂
+    → (image-of c₁ ≡ image-of c₂) ↔ (survivors (settled (shape-of w₁)) ≡ survivors (settled (shape-of w₂)))
+checked-images {w₁} {w₂} k₁ k₂ c₁ c₂ d₁ d₂ =
+    let i₁ = checked-closes k₁ c₁ .imaged d₁ in
+    let i₂ = checked-closes k₂ c₂ .imaged d₂ in (
+      λ same. image-injective (survivors (settled (shape-of w₁))) (survivors (settled (shape-of w₂))) (seen-sound k₁) (seen-sound k₂) (sym i₁ ∙ same ∙ i₂),
+      λ same. i₁ ∙ ap image same ∙ sym i₂,
+    )
+
+-- every two runs, closed in any way
+pub demand-3 : {w₁ w₂ : Words} {requests₁ requests₂ : List Request} {turns₁ turns₂ : List Turn} → Ran w₁ requests₁ turns₁ → Ran w₂ requests₂ turns₂
+    → (c₁ : Closing (final w₁ turns₁)) (c₂ : Closing (final w₂ turns₂)) → Demand3 w₁ w₂ requests₁ requests₂ turns₁ turns₂ c₁ c₂
+unfolding history
+demand-3 ran₁ ran₂ c₁ c₂ =
+    let f₁ = run-follows ran₁ in
+    let f₂ = run-follows ran₂ in
+    let s₁ = seen-is (f₁ .checked) (f₁ .reached) ∙ f₁ .ends in
+    let s₂ = seen-is (f₂ .checked) (f₂ .reached) ∙ f₂ .ends in
+    record {
+      first = f₁;
+      second = f₂;
+      first-closes = subst (λ (s : State). Closes s c₁) s₁ (checked-closes (f₁ .checked) c₁);
+      second-closes = subst (λ (s : State). Closes s c₂) s₂ (checked-closes (f₂ .checked) c₂);
+      images = λ d₁ d₂. subst₂ (λ (s t : State). (image-of c₁ ≡ image-of c₂) ↔ (survivors (s .lists) ≡ survivors (t .lists))) s₁ s₂
+          (checked-images (f₁ .checked) (f₂ .checked) c₁ c₂ d₁ d₂);
+    }

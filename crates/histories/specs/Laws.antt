@@ -1,0 +1,4 @@
+-- The laws that the theorem rests on, apart from what it says.
+pub mod Calling
+pub mod Following
+pub mod Closing

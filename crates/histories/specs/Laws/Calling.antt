@@ -1,0 +1,74 @@
+-- Laws on the definitions of calls: reading into a store's own memory, and the numbers that a call of a history can answer.
+use Prim.Native.Nat.{ℕ, _*_, _%_, _≤_}
+use mathlib.Core.Path.{_≡_, sym, ap, _∙_}
+use mathlib.Core.Option.{Option, none, some}
+use mathlib.Core.List.{List, _∷_}
+use native.Mathlib.Omega.{arith}
+use lib.ListN.{length}
+use lib.Dec.{eqb, ltb}
+use borrow.Author.Tests.{ltb-true}
+use Rattle.plain.specs.declared.TraversalDirection.the-variants.{Outgoing, Incoming}
+use Rattle.plain.specs.Operations.{operations}
+use Rattle.plain.specs.Step.{Capacities, State}
+use Rattle.plain.specs.Image.{broken-image, nodes-in, edges-in}
+use Rattle.plain.specs.Memory.{Slice, first-short, Lengths, other-slices, exact}
+use Rattle.plain.specs.Calls.{strip, short-answer, limits, within, readable, compaction-slices, compacting, compaction, read-within, read-image}
+use Rattle.plain.specs.History.{Call, Strip, Compaction, Reading, call}
+use Rattle.plain.specs.Laws.Booleans.{by-test}
+use Rattle.plain.specs.Laws.CallCases.{LongEnough, no-slice, slice-fits, short-here, short-later, all-long}
+use Rattle.plain.specs.Laws.Histories.{Within, ReadCase, unreadable, read-too-short, read-fits, read-case}
+use Rattle.shape.specs.Shape.{Words, lengths-of}
+use Rattle.shape.specs.Checked.{Checked}
+use Rattle.histories.specs.Follows.{CanAnswer, strip-done, strip-ragged, strip-short, compaction-done, compaction-short, reading-done, reading-broken, reading-nodes, reading-edges}
+
+-- ---- reading into a store's own memory: the slices other than the payloads are never short
+
+behind-two : (a b : Slice) (slices others : List Slice) → first-short slices ≡ first-short others → first-short (a ∷ b ∷ slices) ≡ first-short (a ∷ b ∷ others)
+unfolding first-short
+behind-two a b slices others same = rw same
+
+exact-long : (caps : Capacities) → LongEnough (other-slices (exact caps))
+exact-long caps =
+    let itself : (n : ℕ) → n ≤ n = λ n. omega arith in
+    slice-fits (itself _) (slice-fits (itself _) (slice-fits (itself _) (slice-fits (itself _) no-slice)))
+
+pub roomy-read : (l : Lengths) → LongEnough (other-slices l) → (bytes : List ℕ) → read-image l bytes ≡ read-image (exact (l .capacities)) bytes
+unfolding read-image read-within
+roomy-read l long bytes =
+    ap (λ (short : Option ℕ). within limits 13 (l .capacities) (readable (broken-image bytes) (short-answer short)))
+    (behind-two (record { needs = nodes-in bytes; has = l .capacities .nodes }) (record { needs = edges-in bytes; has = l .capacities .edges })
+    (other-slices l) (other-slices (exact (l .capacities))) (all-long long ∙ sym (all-long (exact-long (l .capacities)))))
+
+pub checked-long : {w : Words} → Checked w → LongEnough (other-slices (lengths-of w))
+checked-long k =
+    slice-fits (k .live-nodes-long) (slice-fits (k .live-edges-long) (slice-fits (k .axis Outgoing .sized .room) (slice-fits (k .axis Incoming .sized .room) no-slice)))
+
+-- ---- the numbers that calls can answer
+
+module _ (caps : Capacities) (s : State) where
+  strip-numbers : (words : List ℕ) (room : ℕ) → CanAnswer caps (Strip words room) (strip caps s words room .number)
+  unfolding strip
+  strip-numbers words room =
+      by-test (eqb (length words % 4) 0)
+      (λ q. rw q (by-test (ltb room (2 * length (operations words))) (λ r. rw r (strip-short (ltb-true room (2 * length (operations words)) r))) (λ r. rw r strip-done)))
+      (λ q. rw q strip-ragged)
+
+  compacting-numbers : (node-map edge-map work : ℕ) (short : Option ℕ) → CanAnswer caps (Compaction node-map edge-map work) (compacting short s .number)
+  compacting-numbers node-map edge-map work none = compaction-done
+  compacting-numbers node-map edge-map work (some needed) = compaction-short
+
+  reading-numbers : (bytes : List ℕ) {number value : ℕ} → ReadCase caps bytes number value → CanAnswer caps (Reading bytes) number
+  reading-numbers bytes (unreadable e) = reading-broken
+  reading-numbers bytes (read-fits e f) = reading-done
+  reading-numbers bytes (read-too-short e (short-here h)) = reading-nodes h
+  reading-numbers bytes (read-too-short e (short-later k (short-here h))) = reading-edges h
+  reading-numbers bytes (read-too-short e (short-later k (short-later l (short-here h)))) = absurd (omega arith)
+  reading-numbers bytes (read-too-short e (short-later k (short-later l (short-later m (short-here h))))) = absurd (omega arith)
+  reading-numbers bytes (read-too-short e (short-later k (short-later l (short-later m (short-later n (short-here h)))))) = absurd (omega arith)
+  reading-numbers bytes (read-too-short e (short-later k (short-later l (short-later m (short-later n (short-later o (short-here h))))))) = absurd (omega arith)
+
+  pub call-numbers : Within caps → (c : Call) → CanAnswer caps c (call caps s c .number)
+  unfolding call compaction
+  call-numbers few (Strip words room) = strip-numbers words room
+  call-numbers few (Compaction node-map edge-map work) = compacting-numbers node-map edge-map work (first-short (compaction-slices (s .lists) node-map edge-map work))
+  call-numbers few (Reading bytes) = reading-numbers bytes (read-case caps few bytes)

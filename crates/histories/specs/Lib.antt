@@ -1,0 +1,5 @@
+pub mod Runs
+pub mod Follows
+pub mod Closing
+pub mod Laws
+pub mod Demand

@@ -1,0 +1,70 @@
+-- Runs: calls made one after the other on one store's memory, from a fresh store on. What a call came to is what its entry's contract says and nothing else: the
+-- records `FreshOf`, `StripOf`, `CompactOf` and `ReadOf` are those that the contracts cite.
+use Prim.Native.Nat.{ℕ}
+use mathlib.Core.List.{List, [], _∷_}
+use lib.ListN.{length}
+use Rattle.plain.specs.History.{Call, Strip, Compaction, Reading}
+use Rattle.shape.specs.Shape.{Words}
+use Rattle.strip.specs.Fresh.{FreshOf}
+use Rattle.strip.specs.Strip.{StripOf}
+use Rattle.compact.specs.Calls.{CompactOf}
+use Rattle.image.specs.Calls.{ReadOf}
+
+-- A call as it is made: a call of a history, and what the slices hold that are lent for its answers, which is arbitrary.
+pub data Request : Type 0 where
+  -- a strip's words, and the answer slice
+  StripInto : List ℕ → List ℕ → Request
+  -- the node map, the edge map and the work slice
+  CompactionInto : List ℕ → List ℕ → List ℕ → Request
+  -- an image's bytes, read into the store's own six slices
+  ReadingOf : List ℕ → Request
+
+-- the call of a history: "the calls' arguments, lengths included"
+abbrev pub call-of : Request → Call
+call-of (StripInto words answers) = Strip words (length answers)
+call-of (CompactionInto node-map edge-map work) = Compaction (length node-map) (length edge-map) (length work)
+call-of (ReadingOf bytes) = Reading bytes
+
+-- the slices lent for answers, in parameter order
+abbrev pub lent-to : Request → List (List ℕ)
+lent-to (StripInto words answers) = answers ∷ []
+lent-to (CompactionInto node-map edge-map work) = node-map ∷ edge-map ∷ work ∷ []
+lent-to (ReadingOf bytes) = []
+
+-- What a caller sees of a call: number and value, and what the slices lent for answers hold then.
+pub record Heard : Type 0 where
+  pub number : ℕ
+  pub value : ℕ
+  pub lent : List (List ℕ)
+
+-- What a call came to: its answer, and the store's counts and words then.
+pub record Turn : Type 0 where
+  pub heard : Heard
+  pub store : Words
+
+-- A call on store w came to this.
+pub data Turned (w : Words) : Request → Turn → Type 0 where
+  stripped : {words entry exit : List ℕ} {number value : ℕ} {v : Words} → StripOf w words entry number value v exit
+      → Turned w (StripInto words entry) (record { heard = record { number = number; value = value; lent = exit ∷ [] }; store = v })
+  compacted : {node-map edge-map work node-map' edge-map' work' : List ℕ} {number value : ℕ} {v : Words}
+      → CompactOf w node-map edge-map work number value v node-map' edge-map' work'
+      → Turned w (CompactionInto node-map edge-map work)
+      (record { heard = record { number = number; value = value; lent = node-map' ∷ edge-map' ∷ work' ∷ [] }; store = v })
+  read : {bytes : List ℕ} {number value : ℕ} {v : Words} → ReadOf w bytes number value v
+      → Turned w (ReadingOf bytes) (record { heard = record { number = number; value = value; lent = [] }; store = v })
+
+-- Calls on store w came to these, each on the store that the one before left.
+pub data Turns : Words → List Request → List Turn → Type 0 where
+  no-turn : {w : Words} → Turns w [] []
+  turn : {w : Words} {request : Request} {t : Turn} {requests : List Request} {turns : List Turn} → Turned w request t → Turns (t .store) requests turns
+      → Turns w (request ∷ requests) (t ∷ turns)
+
+-- A run: "from a fresh store", made in memory w.
+pub record Ran (w : Words) (requests : List Request) (turns : List Turn) : Type 0 where
+  pub made : FreshOf w 0 0
+  pub went : Turns w requests turns
+
+-- the store in the end
+abbrev pub final : Words → List Turn → Words
+final w [] = w
+final w (t ∷ turns) = final (t .store) turns
