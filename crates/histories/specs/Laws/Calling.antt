@@ -23,15 +23,18 @@ use Rattle.histories.specs.Follows.{CanAnswer, strip-done, strip-ragged,
 
 -- ---- reading into a store's own memory: the slices other than the payloads are never short
 
+-- two slices before others
 behind-two : (a b : Slice) (slices others : List Slice) → first-short slices ≡ first-short others → first-short (a ∷ b ∷ slices) ≡ first-short (a ∷ b ∷ others)
 unfolding first-short
 behind-two a b slices others same = rw same
 
+-- a memory with no word to spare is long enough
 exact-long : (caps : Capacities) → LongEnough (other-slices (exact caps))
 exact-long caps =
     let itself : (n : ℕ) → n ≤ n = λ n. omega arith in
     slice-fits (itself _) (slice-fits (itself _) (slice-fits (itself _) (slice-fits (itself _) no-slice)))
 
+-- so it is read into as one with no word to spare
 pub roomy-read : (l : Lengths) → LongEnough (other-slices l) → (bytes : List ℕ) → read-image l bytes ≡ read-image (exact (l .capacities)) bytes
 unfolding read-image read-within
 roomy-read l long bytes =
@@ -39,6 +42,7 @@ roomy-read l long bytes =
     (behind-two (record { needs = nodes-in bytes; has = l .capacities .nodes }) (record { needs = edges-in bytes; has = l .capacities .edges })
     (other-slices l) (other-slices (exact (l .capacities))) (all-long long ∙ sym (all-long (exact-long (l .capacities)))))
 
+-- the memory of a checked store is long enough
 pub checked-long : {w : Words} → Checked w → LongEnough (other-slices (lengths-of w))
 checked-long k =
     slice-fits (k .live-nodes-long) (slice-fits (k .live-edges-long) (slice-fits (k .axis Outgoing .sized .room) (slice-fits (k .axis Incoming .sized .room) no-slice)))
@@ -46,6 +50,7 @@ checked-long k =
 -- ---- the numbers that calls can answer
 
 module _ (caps : Capacities) (s : State) where
+  -- 3, 2 or done
   strip-numbers : (words : List ℕ) (room : ℕ) → CanAnswer caps (Strip words room) (strip caps s words room .number)
   unfolding strip
   strip-numbers words room =
@@ -53,10 +58,12 @@ module _ (caps : Capacities) (s : State) where
       (λ q. rw q (by-test (ltb room (2 * length (operations words))) (λ r. rw r (strip-short (ltb-true room (2 * length (operations words)) r))) (λ r. rw r strip-done)))
       (λ q. rw q strip-ragged)
 
+  -- 2 or done
   compacting-numbers : (node-map edge-map work : ℕ) (short : Option ℕ) → CanAnswer caps (Compaction node-map edge-map work) (compacting short s .number)
   compacting-numbers node-map edge-map work none = compaction-done
   compacting-numbers node-map edge-map work (some needed) = compaction-short
 
+  -- 12, 2 for want of capacity, or done: the other slices are just long enough
   reading-numbers : (bytes : List ℕ) {number value : ℕ} → ReadCase caps bytes number value → CanAnswer caps (Reading bytes) number
   reading-numbers bytes (unreadable e) = reading-broken
   reading-numbers bytes (read-fits e f) = reading-done

@@ -30,6 +30,7 @@ use Rattle.histories.specs.Laws.Calling.{roomy-read, checked-long, call-
 
 -- ---- a checked store
 
+-- its capacities are within the limit
 pub checked-within : {w : Words} → Checked w → Within (capacities w)
 checked-within k = record { nodes = k .axis Outgoing .sized .nodes-within; edges = k .axis Outgoing .sized .edges-within }
 
@@ -69,6 +70,7 @@ goes-on {caps} {s} {w} {v} c at (suc number) is done keeps =
     (sym (keeps (λ q. omega arith))) at
 
 module _ {caps : Capacities} {s : State} {w : Words} (at : Stands caps s w) where
+  -- what the contracts say of a call on it is what the definitions say of its state
   stripped-is : (words : List ℕ) (room : ℕ) → stripped w words room ≡ strip caps s words room
   stripped-is words room =
       ap (λ (rule : ℕ). judged-strip rule (state-of (shape-of w)) (strip (capacities w) (state-of (shape-of w)) words room)) (checked-sound w (at .checked))
@@ -82,10 +84,11 @@ module _ {caps : Capacities} {s : State} {w : Words} (at : Stands caps s w) wher
   read-is : (bytes : List ℕ) → read-image (lengths-of w) bytes ≡ read-image (exact caps) bytes
   read-is bytes = roomy-read (lengths-of w) (checked-long (at .checked)) bytes ∙ ap (λ (c : Capacities). read-image (exact c) bytes) (at .sized)
 
+  -- so each call follows
   strip-follows : {words entry exit : List ℕ} {number value : ℕ} {v : Words} → StripOf w words entry number value v exit
       → Followed caps s w (StripInto words entry) (record { heard = record { number = number; value = value; lent = exit ∷ [] }; store = v })
   unfolding call
-  strip-follows {words} {entry} {exit} {number} {value} {v} of =
+  strip-follows {words} {entry} {number = number} of =
       let is = stripped-is words (length entry) in
       let numbered = of .numbered ∙ ap (λ (r : Stripped). r .number) is in
       let valued = of .valued ∙ ap (λ (r : Stripped). r .value) is in
@@ -152,13 +155,13 @@ module _ {caps : Capacities} {s : State} {w : Words} (at : Stands caps s w) wher
 
 -- ---- a whole run
 
+-- calls on a store that stands
 follows-from : {caps : Capacities} {s : State} {w : Words} {requests : List Request} {turns : List Turn} → Stands caps s w → Turns w requests turns
     → Follows caps s w requests turns
 unfolding called-from history-from
 follows-from at no-turn =
     record { answers = refl; numbers = no-answer; states = refl; ends = at .state; refusals = no-refusal; checked = at .checked; reached = at .reached }
-follows-from {caps} {s} at (turn {request = request} {t = t} one rest) =
-    let c = call caps s (call-of request) in
+follows-from {caps} {s} at (turn {request = request} one rest) =
     let f = one-call at one in
     let more = follows-from (f .stands) rest in
     record {
