@@ -3,3 +3,5 @@ pub mod Widths
 pub mod Wrote
 pub mod Replaced
 pub mod Calls
+pub mod Strung
+pub mod Writing
