@@ -4,11 +4,15 @@ use crate::bits::least_width;
 use crate::bits::write_field;
 use crate::bits::write_padding;
 ghost use mathlib.Core.Path.{_≡_};
-ghost use Rattle.plain.specs.Bits.{row};
-ghost use Rattle.plain.specs.Image.{edge-bits};
+ghost use Prim.Native.Nat.{_*_, _≤_, _<_};
+ghost use lib.ListN.{length};
+ghost use Rattle.plain.specs.Numbers.{LIMIT};
+ghost use Rattle.plain.specs.Lists.{written};
+ghost use Rattle.plain.specs.Bits.{row, pack, bytes-for};
+ghost use Rattle.plain.specs.Image.{edge-bits, image-size};
 ghost use Rattle.image.specs.Strung.{WroteTo, record-bits};
 ghost use Rattle.image.specs.Wrote.{Wrote};
-ghost use Rattle.image.specs.Writing.{RowFits, RecordFits, EdgesFit, records-in};
+ghost use Rattle.image.specs.Writing.{RowFits, RecordFits, EdgesFit, SlotsFit, ListsFit, ImageFits, records-in, count-bits, slot-bits, list-bits, columns, column-bits};
 
 // Writes words one after the other, each in `width` bits, from bit `position` on, and answers the bit after them. Internal: they have room.
 fn write_row(bytes: &mut [u8], position: usize, width: u32, words: &[u32]) -> usize
@@ -64,4 +68,74 @@ fn write_edges(
         e += 1;
     }
     at
+}
+
+// Writes the two counts. Internal.
+fn write_counts(bytes: &mut [u8], nodes: usize, edges: usize)
+    requires { ⌜ (4 ≤ length (now bytes)) × ((nodes ≤ LIMIT) × (edges ≤ LIMIT)) ⌝ }
+    ensures { λ _. ⌜ Wrote (now (bytes .entry)) 0 (count-bits nodes edges) (now (bytes .exit)) ⌝ }
+{
+    write_field(bytes, 0, 16, nodes as u32);
+    write_field(bytes, 16, 16, edges as u32);
+}
+
+// Writes the counts, the nodes' payloads and the edges' records, a node in `width` bits, and answers the bit after them. Internal.
+fn write_slots(
+    bytes: &mut [u8],
+    width: u32,
+    nodes: &[u32],
+    sources: &[u32],
+    targets: &[u32],
+    payloads: &[u32],
+) -> usize
+    requires { ⌜ SlotsFit (now bytes) width (now nodes) (now sources) (now targets) (now payloads) ⌝ }
+    ensures { λ r. ⌜ WroteTo (now (bytes .entry)) 0
+        (slot-bits width (now (nodes .entry)) (records-in (now (sources .entry)) (now (targets .entry)) (now (payloads .entry)))) (now (bytes .exit)) r ⌝ }
+{
+    write_counts(bytes, nodes.len(), payloads.len());
+    let at = write_row(bytes, 32, 32, nodes);
+    write_edges(bytes, at, width, sources, targets, payloads)
+}
+
+// Writes the lists of both directions, an entry in `width` bits, and answers the bit after them. Internal.
+fn write_lists(bytes: &mut [u8], position: usize, width: u32, outs: &[u32], ins: &[u32]) -> usize
+    requires { ⌜ ListsFit (now bytes) position width (now outs) (now ins) ⌝ }
+    ensures { λ r. ⌜ WroteTo (now (bytes .entry)) position (list-bits width (now (outs .entry)) (now (ins .entry))) (now (bytes .exit)) r ⌝ }
+{
+    let at = write_row(bytes, position, width, outs);
+    write_row(bytes, at, width, ins)
+}
+
+// Writes the image of columns to the start of `bytes`: the nodes' payloads, the edges' ends and payloads, and the lists of all nodes joined, of each direction.
+// Internal: there is room for it.
+fn write_columns(
+    bytes: &mut [u8],
+    nodes: &[u32],
+    sources: &[u32],
+    targets: &[u32],
+    payloads: &[u32],
+    outs: &[u32],
+    ins: &[u32],
+)
+    requires { ⌜ ImageFits (now bytes) (columns (now nodes) (now sources) (now targets) (now payloads) (now outs) (now ins)) ⌝ }
+    ensures { λ _. ⌜ now (bytes .exit) ≡ written
+        (pack (column-bits (columns (now (nodes .entry)) (now (sources .entry)) (now (targets .entry)) (now (payloads .entry)) (now (outs .entry)) (now (ins .entry)))))
+        (now (bytes .entry)) ⌝ }
+{
+    let width = least_width(nodes.len() as u32);
+    let entry_width = least_width(payloads.len() as u32);
+    let at = write_slots(bytes, width, nodes, sources, targets, payloads);
+    let end = write_lists(bytes, at, entry_width, outs, ins);
+    write_padding(bytes, end);
+}
+
+// How many bytes the image of so many nodes and edges has. Internal: both are within the limit.
+fn image_bytes(nodes: usize, edges: usize) -> usize
+    requires { ⌜ (nodes ≤ LIMIT) × (edges ≤ LIMIT) ⌝ }
+    ensures { λ r. ⌜ r ≡ bytes-for (image-size nodes edges) ⌝ }
+{
+    let width = least_width(nodes as u32) as usize;
+    let entry_width = least_width(edges as u32) as usize;
+    let slots = 32 + 32 * nodes + (2 * width + 32) * edges;
+    (slots + 2 * entry_width * edges + 7) / 8
 }
