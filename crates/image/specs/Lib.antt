@@ -5,3 +5,4 @@ pub mod Replaced
 pub mod Calls
 pub mod Strung
 pub mod Writing
+pub mod Stored
