@@ -6,3 +6,4 @@ pub mod Calls
 pub mod Strung
 pub mod Writing
 pub mod Stored
+pub mod Entry

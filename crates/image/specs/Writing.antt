@@ -229,7 +229,7 @@ length-slot-bits w c =
     simp (length-append, length-bits-of, length-row, length-edge-bits, length-records (c .sources) (c .targets) (c .payloads)) (omega arith)
 
 -- how many there are
-length-column-bits : {c : Columns} → Proper c → length (column-bits c) ≡ image-size (length (c .nodes)) (length (c .payloads))
+pub length-column-bits : {c : Columns} → Proper c → length (column-bits c) ≡ image-size (length (c .nodes)) (length (c .payloads))
 unfolding column-bits
 length-column-bits {c} p =
     let w = least-width (length (c .nodes)) in

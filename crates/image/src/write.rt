@@ -3,6 +3,14 @@
 use crate::bits::least_width;
 use crate::bits::write_field;
 use crate::bits::write_padding;
+use plain::Answer;
+use plain::Counts;
+use plain::NONE;
+use plain::numbers::DONE;
+use plain::numbers::TOO_SHORT;
+use validate::judging::judge;
+use validate::judging::no_store;
+use view::compactness::is_compact_checked;
 ghost use mathlib.Core.Path.{_≡_};
 ghost use Prim.Native.Nat.{_*_, _≤_, _<_};
 ghost use lib.ListN.{length};
@@ -10,9 +18,17 @@ ghost use Rattle.plain.specs.Numbers.{LIMIT};
 ghost use Rattle.plain.specs.Lists.{written};
 ghost use Rattle.plain.specs.Bits.{row, pack, bytes-for};
 ghost use Rattle.plain.specs.Image.{edge-bits, image-size};
+ghost use Rattle.shape.specs.Shape.{store};
+ghost use Rattle.view.specs.Calls.{Replied};
+ghost use Rattle.image.specs.Calls.{written-image};
+ghost use Rattle.image.specs.Entry.{BytesLent};
+ghost use Rattle.image.specs.Stored.{Stored, columns-of};
 ghost use Rattle.image.specs.Strung.{WroteTo, record-bits};
 ghost use Rattle.image.specs.Wrote.{Wrote};
 ghost use Rattle.image.specs.Writing.{RowFits, RecordFits, EdgesFit, SlotsFit, ListsFit, ImageFits, records-in, count-bits, slot-bits, list-bits, columns, column-bits};
+
+// Image of a store not compact.
+pub const NOT_COMPACT: u32 = 11;
 
 // Writes words one after the other, each in `width` bits, from bit `position` on, and answers the bit after them. Internal: they have room.
 fn write_row(bytes: &mut [u8], position: usize, width: u32, words: &[u32]) -> usize
@@ -138,4 +154,90 @@ fn image_bytes(nodes: usize, edges: usize) -> usize
     let entry_width = least_width(edges as u32) as usize;
     let slots = 32 + 32 * nodes + (2 * width + 32) * edges;
     (slots + 2 * entry_width * edges + 7) / 8
+}
+
+// Writes the image of a compact store of n nodes and m edges. Internal: its words are right.
+fn write_store(
+    n: usize,
+    m: usize,
+    nodes: &[u32],
+    edges: &[u32],
+    outgoing: &[u32],
+    incoming: &[u32],
+    bytes: &mut [u8],
+) -> Answer
+    requires { ⌜ Stored n m (now nodes) (now edges) (now outgoing) (now incoming) ⌝ }
+    ensures { λ r. ⌜ BytesLent
+        (pack (column-bits (columns-of n m (now (nodes .entry)) (now (edges .entry)) (now (outgoing .entry)) (now (incoming .entry)))))
+        (now (bytes .entry)) r (now (bytes .exit)) ⌝ }
+{
+    let needed = image_bytes(n, m);
+    if bytes.len() < needed {
+        return Answer {
+            number: TOO_SHORT,
+            value: needed as u64,
+        };
+    }
+    let first = edges.len();
+    let last = first + m;
+    write_columns(
+        bytes,
+        &nodes[..n],
+        &outgoing[..m],
+        &incoming[..m],
+        &edges[..m],
+        &outgoing[first..last],
+        &incoming[first..last],
+    );
+    Answer {
+        number: DONE,
+        value: needed as u64,
+    }
+}
+
+// The image of the store, into `bytes`. "Only compact stores have one. Writing: 1, 11, 2."
+pub fn write_image(
+    counts: Counts,
+    nodes: &[u32],
+    edges: &[u32],
+    live_nodes: &[u64],
+    live_edges: &[u64],
+    outgoing: &[u32],
+    incoming: &[u32],
+    bytes: &mut [u8],
+) -> Answer
+    ensures { λ r. ⌜ Replied
+        (store counts (now (nodes .entry)) (now (edges .entry)) (now («live_nodes» .entry)) (now («live_edges» .entry)) (now (outgoing .entry)) (now (incoming .entry)))
+        written-image (now (bytes .entry)) r (now (bytes .exit)) ⌝ }
+{
+    let rule = judge(
+        counts,
+        nodes,
+        edges,
+        live_nodes,
+        live_edges,
+        outgoing,
+        incoming,
+    );
+    if rule != 0 {
+        return no_store(rule);
+    }
+    let compact = is_compact_checked(
+        counts,
+        nodes,
+        edges,
+        live_nodes,
+        live_edges,
+        outgoing,
+        incoming,
+    );
+    if !compact {
+        return Answer {
+            number: NOT_COMPACT,
+            value: NONE as u64,
+        };
+    }
+    let n = counts.nodes.bound as usize;
+    let m = counts.edges.bound as usize;
+    write_store(n, m, nodes, edges, outgoing, incoming, bytes)
 }
