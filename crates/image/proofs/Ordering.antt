@@ -1,10 +1,10 @@
 -- Rule 6 in one pass: what the entries from one on decide, where those before are marked and the last of their ends is known.
-use Prim.Native.Nat.{ℕ, zero, suc, _+_, _-_, _*_, _≤_, _<_}
+use Prim.Native.Nat.{ℕ, suc, _+_, _-_, _*_, _≤_, _<_}
 use mathlib.Core.Path.{_≡_, refl, sym, ap, _∙_}
 use mathlib.Core.Bool.{Bool, true, false, _&&_, _||_}
 use mathlib.Core.List.{List, [], _∷_, map}
 use native.Mathlib.Omega.{arith}
-use native.Mathlib.Nat.{mul-le-mul-left}
+use native.Mathlib.Nat.{sub-zero}
 use lib.ListN.{length, replicate}
 use lib.Dec.{eqb, leb, ltb}
 use borrow.Author.Tests.{le-leb, lt-leb, lt-ltb, le-ltb, not-true, not-false}
@@ -12,27 +12,24 @@ use Rattle.plain.specs.Lists.{distinct, all}
 use Rattle.plain.specs.Bits.{field-at, fields-at}
 use Rattle.plain.specs.Laws.Booleans.{and-false}
 use Rattle.plain.specs.Laws.Ascending.{ascending}
-use Rattle.validate.specs.Marks.{marked, Marked, fresh, passes}
+use Rattle.validate.specs.Marks.{marked, Marked, passes}
 use Rattle.validate.specs.Fresh.{clear-map, fresh-clear, passes-none, passes-fails, passes-marked, passes-more}
 use Rattle.image.specs.Checks.{end-in, ordered}
 
 -- ---- fields, one after the other
 
--- a field, and those after it
-pub fields-more : (bytes : List ℕ) (at v left : ℕ) → 0 < left → fields-at bytes at v left ≡ field-at bytes at v ∷ fields-at bytes (at + v) v (left - 1)
+-- a field, and those after it, of m from number i on
+pub fields-more : (bytes : List ℕ) (at v i m : ℕ) → i < m → fields-at bytes at v (m - i) ≡ field-at bytes at v ∷ fields-at bytes (at + v) v (m - (i + 1))
 unfolding fields-at
-fields-more bytes at v zero l = absurd (omega arith)
-fields-more bytes at v (suc left) l = let q : left ≡ suc left - 1 = omega arith in ap (λ (z : ℕ). field-at bytes at v ∷ fields-at bytes (at + v) v z) q
+fields-more bytes at v i m l = let q : m - i ≡ suc (m - (i + 1)) = omega arith in ap (fields-at bytes at v) q
 
-pub fields-none : (bytes : List ℕ) (at v left : ℕ) → left ≤ 0 → fields-at bytes at v left ≡ []
+pub fields-none : (bytes : List ℕ) (at v i m : ℕ) → m ≤ i → fields-at bytes at v (m - i) ≡ []
 unfolding fields-at
-fields-none bytes at v zero l = refl
-fields-none bytes at v (suc left) l = absurd (omega arith)
+fields-none bytes at v i m l = let q : m - i ≡ 0 = omega arith in ap (fields-at bytes at v) q
 
 -- the bits of the first, and of those after it
-pub bits-more : (v left : ℕ) → 0 < left → v * left ≡ v + v * (left - 1)
-bits-more v zero l = absurd (omega arith)
-bits-more v (suc left) l = let q : left ≡ suc left - 1 = omega arith in ap (λ (z : ℕ). v * suc z) q ∙ omega arith
+bits-more : (v i m : ℕ) → i < m → v * (m - i) ≡ v + v * (m - (i + 1))
+bits-more v i m l = let q : m - i ≡ suc (m - (i + 1)) = omega arith in ap (λ (z : ℕ). v * z) q ∙ omega arith
 
 -- ---- entries, one after the other
 
@@ -80,38 +77,39 @@ module _ (end : ℕ → ℕ) (m : ℕ) where
 
 -- ---- the loop
 
--- The entries from bit `at` on, `left` of them, decide; those before are marked, and `last` is the last one's end.
-pub record Ordering (bytes : List ℕ) (ends w list v m : ℕ) (seen : List ℕ) (last at left : ℕ) : Type 0 where
-  pub answers : ordered (end-in bytes ends w) m (fields-at bytes list v m) ≡ right-from (end-in bytes ends w) m (marked seen) last (fields-at bytes at v left)
+-- The entries from number i on decide, the first of which stands at bit `at`; those before are marked, and `last` is the last one's end.
+pub record Ordering (bytes : List ℕ) (ends w list v m : ℕ) (seen : List ℕ) (last at i : ℕ) : Type 0 where
+  pub answers : ordered (end-in bytes ends w) m (fields-at bytes list v m) ≡ right-from (end-in bytes ends w) m (marked seen) last (fields-at bytes at v (m - i))
   pub long : length seen ≡ 512
-  pub room : at + v * left ≤ 8 * length bytes
+  pub room : at + v * (m - i) ≤ 8 * length bytes
 
 module _ (bytes : List ℕ) (ends w list v m : ℕ) where
   -- at the start
-  pub order-start : list + v * m ≤ 8 * length bytes → Ordering bytes ends w list v m (replicate 512 0) 0 list m
+  pub order-start : list + v * m ≤ 8 * length bytes → Ordering bytes ends w list v m (replicate 512 0) 0 list 0
   order-start room = record {
-    answers = right-first (end-in bytes ends w) m (marked (replicate 512 0)) (fields-at bytes list v m) (clear-map 512);
+    answers = right-first (end-in bytes ends w) m (marked (replicate 512 0)) (fields-at bytes list v m) (clear-map 512)
+        ∙ ap (λ (z : ℕ). right-from (end-in bytes ends w) m (marked (replicate 512 0)) 0 (fields-at bytes list v z)) (omega arith);
     long = refl;
-    room = room;
+    room = rw sub-zero room;
   }
 
-module _ {bytes : List ℕ} {ends w list v m : ℕ} {seen : List ℕ} {last at left : ℕ} (o : Ordering bytes ends w list v m seen last at left) where
+module _ {bytes : List ℕ} {ends w list v m : ℕ} {seen : List ℕ} {last at i : ℕ} (o : Ordering bytes ends w list v m seen last at i) where
   -- no entry is left
-  pub order-done : left ≤ 0 → true ≡ ordered (end-in bytes ends w) m (fields-at bytes list v m)
+  pub order-done : m ≤ i → true ≡ ordered (end-in bytes ends w) m (fields-at bytes list v m)
   order-done l =
-      sym (o .answers ∙ ap (right-from (end-in bytes ends w) m (marked seen) last) (fields-none bytes at v left l) ∙ right-none (end-in bytes ends w) m (marked seen) last)
+      sym (o .answers ∙ ap (right-from (end-in bytes ends w) m (marked seen) last) (fields-none bytes at v i m l) ∙ right-none (end-in bytes ends w) m (marked seen) last)
 
-  module _ (l : 0 < left) where
+  module _ (l : i < m) where
     -- there is room for an entry
     pub order-room : at + v ≤ 8 * length bytes
-    order-room = omega (arith, bits-more v left l, o .room)
+    order-room = omega (arith, bits-more v i m l, o .room)
 
     module _ {e : ℕ} (read : e ≡ field-at bytes at v) where
       -- what the entry and those after it decide
       at-entry : ordered (end-in bytes ends w) m (fields-at bytes list v m)
-          ≡ right-from (end-in bytes ends w) m (marked seen) last (e ∷ fields-at bytes (at + v) v (left - 1))
+          ≡ right-from (end-in bytes ends w) m (marked seen) last (e ∷ fields-at bytes (at + v) v (m - (i + 1)))
       at-entry = o .answers ∙ ap (right-from (end-in bytes ends w) m (marked seen) last)
-          (fields-more bytes at v left l ∙ ap (λ (z : ℕ). z ∷ fields-at bytes (at + v) v (left - 1)) (sym read))
+          (fields-more bytes at v i m l ∙ ap (λ (z : ℕ). z ∷ fields-at bytes (at + v) v (m - (i + 1))) (sym read))
 
       -- the entry is not below m
       pub order-past : m ≤ e → false ≡ ordered (end-in bytes ends w) m (fields-at bytes list v m)
@@ -124,13 +122,13 @@ module _ {bytes : List ℕ} {ends w list v m : ℕ} {seen : List ℕ} {last at l
 
         -- it is right
         pub order-more : {exit : List ℕ} {answer : Bool} → e < m → last ≤ end → Marked seen e answer exit → answer ≡ true → length exit ≡ length seen
-            → Ordering bytes ends w list v m exit end (at + v) (left - 1)
+            → Ordering bytes ends w list v m exit end (at + v) (i + 1)
         order-more {exit} h k s a long = record {
           answers = at-entry ∙ right-more (end-in bytes ends w) m (marked seen) last e _ (marked exit) (s .marks) (lt-ltb e m h) (ap (leb last) (sym there) ∙ le-leb last end k)
               (not-true (marked seen e) (sym (s .answers) ∙ a))
-              ∙ ap (λ (z : ℕ). right-from (end-in bytes ends w) m (marked exit) z (fields-at bytes (at + v) v (left - 1))) (sym there);
+              ∙ ap (λ (z : ℕ). right-from (end-in bytes ends w) m (marked exit) z (fields-at bytes (at + v) v (m - (i + 1)))) (sym there);
           long = long ∙ o .long;
-          room = omega (arith, bits-more v left l, o .room);
+          room = omega (arith, bits-more v i m l, o .room);
         }
 
       -- it is marked already

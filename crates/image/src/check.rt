@@ -77,8 +77,8 @@ fn lists_right(bytes: &[u8], ends: usize, width: u32, list: usize, thin: u32, m:
     let mut seen = [0u64; 512];
     let mut last: u32 = 0;
     let mut at = list;
-    let mut left = m;
-    while left > 0 {
+    let mut i: u32 = 0;
+    while i < m {
         let edge = read_field(bytes, at, thin);
         if edge >= m {
             return false;
@@ -92,7 +92,7 @@ fn lists_right(bytes: &[u8], ends: usize, width: u32, list: usize, thin: u32, m:
         }
         last = end;
         at += thin as usize;
-        left -= 1;
+        i += 1;
     }
     true
 }

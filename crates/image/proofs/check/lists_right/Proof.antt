@@ -1,5 +1,6 @@
 -- `image::check::lists_right` meets its contract. The loop's invariant: the entries from `at` on decide, those before are marked. The measure is the number of
 -- entries left.
+use Prim.Native.Nat.{_-_}
 use mathlib.Core.Path.{sym}
 use native.Mathlib.Omega.{arith}
 use borrow.Author.Tests.{not-true, not-false}
@@ -9,10 +10,10 @@ use Rattle.image.proofs.check.lists_right.Statement.{statement}
 use Rattle.image.proofs.check.lists_right.Tie as tie
 
 abbrev Inv-loop : tie.InvT-loop
-Inv-loop bytes ends width list thin m seen₀ last₀ at₀ left₀ seen last at left = Ordering bytes ends width list thin m seen last at left
+Inv-loop bytes ends width list thin m seen₀ last₀ at₀ i₀ seen last at i = Ordering bytes ends width list thin m seen last at i
 
 abbrev μ-loop : tie.MeasureT-loop
-μ-loop bytes ends width list thin m seen₀ last₀ at₀ left₀ seen last at left = left
+μ-loop bytes ends width list thin m seen₀ last₀ at₀ i₀ seen last at i = m - i
 
 loop-holds : tie.Need-loop-holds Inv-loop μ-loop
 loop-holds c = order-start _ _ _ _ _ _ (c .before .pre .within)
