@@ -63,10 +63,12 @@ module _ (bytes : List ℕ) {n m size : ℕ} (four : 4 ≤ length bytes) (a : n 
 
 -- ---- the ends in the records
 
+-- the record of an edge at bit p
 abbrev record-in : List ℕ → ℕ → ℕ → EdgeRecord
 record-in bytes p w = record { source = field-at bytes p w; target = field-at bytes (p + w) w; payload = payload-at bytes (p + (w + w)) }
 
 module _ (bytes : List ℕ) (w o : ℕ) (f : EdgeRecord → ℕ) (there : (p : ℕ) → f (record-in bytes p w) ≡ field-at bytes (p + o) w) where
+  -- the end of edge e, o bits into its record, where the m records stand from bit p on
   end-read : (p m e : ℕ) → e < m → getD (map f (records-at bytes p w m)) e 0 ≡ end-in bytes (p + o) w e
   unfolding records-at
   end-read p zero e h = absurd (omega arith)
@@ -75,12 +77,12 @@ module _ (bytes : List ℕ) (w o : ℕ) (f : EdgeRecord → ℕ) (there : (p : �
       end-read (p + record-width w) m e (le-of-suc-le-suc h) ∙ ap (λ (z : ℕ). field-at bytes z w) (omega arith)
 
 -- One direction of an image: its ends are in the records from bit `at` on.
-pub record Direction (bytes : List ℕ) (at : ℕ) (ends : List ℕ) : Type 0 where
-  pub long : length ends ≡ edges-in bytes
-  pub read : (e : ℕ) → e < edges-in bytes → getD ends e 0 ≡ end-in bytes at (least-width (nodes-in bytes)) e
+record Direction (bytes : List ℕ) (at : ℕ) (ends : List ℕ) : Type 0 where
+  long : length ends ≡ edges-in bytes
+  read : (e : ℕ) → e < edges-in bytes → getD ends e 0 ≡ end-in bytes at (least-width (nodes-in bytes)) e
 
 module _ (bytes : List ℕ) where
-  pub sources : Direction bytes (edges-start (nodes-in bytes)) (sources-in bytes)
+  sources : Direction bytes (edges-start (nodes-in bytes)) (sources-in bytes)
   unfolding parsed
   sources =
       let n : ℕ = nodes-in bytes in
@@ -91,7 +93,7 @@ module _ (bytes : List ℕ) where
             ∙ ap (λ (z : ℕ). field-at bytes z w) (omega arith);
       }
 
-  pub targets : Direction bytes (edges-start (nodes-in bytes) + least-width (nodes-in bytes)) (targets-in bytes)
+  targets : Direction bytes (edges-start (nodes-in bytes) + least-width (nodes-in bytes)) (targets-in bytes)
   unfolding parsed
   targets =
       let n : ℕ = nodes-in bytes in
@@ -111,7 +113,7 @@ fails-at test (x ∷ l) h =
 
 module _ {bytes : List ℕ} {at : ℕ} {ends : List ℕ} (d : Direction bytes at ends) where
   -- the ends pass
-  pub ends-pass : ends-within bytes at (least-width (nodes-in bytes)) (nodes-in bytes) (edges-in bytes) ≡ true
+  ends-pass : ends-within bytes at (least-width (nodes-in bytes)) (nodes-in bytes) (edges-in bytes) ≡ true
       → (e : ℕ) → e < edges-in bytes → getD ends e 0 < nodes-in bytes
   unfolding ends-within
   ends-pass h e l =
@@ -120,7 +122,7 @@ module _ {bytes : List ℕ} {at : ℕ} {ends : List ℕ} (d : Direction bytes at
       (member-below e (edges-in bytes) ∙ lt-ltb e (edges-in bytes) l)))
 
   -- an end does not
-  pub end-astray : ends-within bytes at (least-width (nodes-in bytes)) (nodes-in bytes) (edges-in bytes) ≡ false
+  end-astray : ends-within bytes at (least-width (nodes-in bytes)) (nodes-in bytes) (edges-in bytes) ≡ false
       → (e : ℕ) × (e < edges-in bytes) × (nodes-in bytes ≤ getD ends e 0)
   unfolding ends-within
   end-astray h =
@@ -129,7 +131,7 @@ module _ {bytes : List ℕ} {at : ℕ} {ends : List ℕ} (d : Direction bytes at
       (found .0, low, rw (d .read (found .0) low) (ltb-false _ _ (found .2)))
 
   -- the pass over the entries from bit p on is the rule's test of the lists cut out of them
-  pub lists-pass : (p : ℕ) → ((e : ℕ) → e < edges-in bytes → getD ends e 0 < nodes-in bytes)
+  lists-pass : (p : ℕ) → ((e : ℕ) → e < edges-in bytes → getD ends e 0 < nodes-in bytes)
       → let entries = fields-at bytes p (least-width (edges-in bytes)) (edges-in bytes) in
       ordered (end-in bytes at (least-width (nodes-in bytes))) (edges-in bytes) entries ≡ lists-right ends (cut (list-lengths (nodes-in bytes) ends) entries)
   unfolding ordered
@@ -202,6 +204,7 @@ module _ (bytes : List ℕ) (s : Sized bytes) where
   bounded : Small (nodes-in bytes) (edges-in bytes)
   bounded = small (nodes-in bytes) (edges-in bytes) few
 
+  -- the ends of either direction are within the bytes
   standing-ends : (at : ℕ) → at ≤ edges-start (nodes-in bytes) + node-width bytes → Ends bytes at (node-width bytes) (edges-in bytes)
   standing-ends at h = record {
     narrow = width-most (nodes-in bytes);
@@ -209,7 +212,8 @@ module _ (bytes : List ℕ) (s : Sized bytes) where
     small = omega (arith, s .length-right, bounded .size);
   }
 
-  -- what the rules say, where each test passes
+  -- ---- the five tests, and what the rules say where they pass
+
   padded : eqb (padding-in bytes) 0 ≡ true → Padded bytes
   padded p = record { sized = s; padding-clear = eqb-true (padding-in bytes) 0 p }
 
@@ -231,6 +235,7 @@ module _ (bytes : List ℕ) (s : Sized bytes) where
   unfolding source-test target-test
   ended p a b = record { padded = padded p; sources-below = ends-pass (sources bytes) a; targets-below = ends-pass (targets bytes) b }
 
+  -- the last two are rule 6
   out-rule : Ended bytes → out-test ≡ lists-right (sources-in bytes) (parsed bytes .outs)
   unfolding out-test parsed
   out-rule e = lists-pass (sources bytes) (outs-in bytes) (e .sources-below)
@@ -239,6 +244,7 @@ module _ (bytes : List ℕ) (s : Sized bytes) where
   unfolding in-test parsed
   in-rule e = lists-pass (targets bytes) (outs-in bytes + size-of bytes) (e .targets-below)
 
+  -- the first that fails is the first broken rule
   decided : Decides (eqb (padding-in bytes) 0) source-test target-test out-test in-test (broken-image bytes)
   unfolding source-test target-test
   decided =

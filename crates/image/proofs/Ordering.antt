@@ -19,11 +19,11 @@ use Rattle.image.specs.Checks.{end-in, ordered}
 -- ---- fields, one after the other
 
 -- a field, and those after it, of m from number i on
-pub fields-more : (bytes : List ℕ) (at v i m : ℕ) → i < m → fields-at bytes at v (m - i) ≡ field-at bytes at v ∷ fields-at bytes (at + v) v (m - (i + 1))
+fields-more : (bytes : List ℕ) (at v i m : ℕ) → i < m → fields-at bytes at v (m - i) ≡ field-at bytes at v ∷ fields-at bytes (at + v) v (m - (i + 1))
 unfolding fields-at
 fields-more bytes at v i m l = let q : m - i ≡ suc (m - (i + 1)) = omega arith in ap (fields-at bytes at v) q
 
-pub fields-none : (bytes : List ℕ) (at v i m : ℕ) → m ≤ i → fields-at bytes at v (m - i) ≡ []
+fields-none : (bytes : List ℕ) (at v i m : ℕ) → m ≤ i → fields-at bytes at v (m - i) ≡ []
 unfolding fields-at
 fields-none bytes at v i m l = let q : m - i ≡ 0 = omega arith in ap (fields-at bytes at v) q
 

@@ -1,5 +1,6 @@
 // The check of an image's bytes, before anything is written: the first broken rule of document 01's number 12. Rule 6 is checked by one pass over the joined
-// entries of a direction: they are right exactly when they are below m, none comes twice, and their ends do not descend.
+// entries of a direction: they are right exactly when they are below m, none comes twice, and their ends do not descend. As in document 01, w is the width of a
+// node's number and v that of an edge's.
 
 use crate::bits::least_width;
 use crate::bits::read_field;
@@ -18,8 +19,8 @@ fn outs_start(n: u32, m: u32) -> usize
     requires { ⌜ Few n m ⌝ }
     ensures { λ r. ⌜ r ≡ outs-start n m ⌝ }
 {
-    let width = least_width(n) as usize;
-    32 + 32 * n as usize + (2 * width + 32) * m as usize
+    let w = least_width(n) as usize;
+    32 + 32 * n as usize + (2 * w + 32) * m as usize
 }
 
 // The bits of the joined lists of one direction.
@@ -47,21 +48,21 @@ fn padding_clear(bytes: &[u8], size: usize) -> bool
 }
 
 // The end of an edge, of the direction whose first end stands at bit `at`.
-fn end_of(bytes: &[u8], at: usize, width: u32, edge: u32) -> u32
-    requires { ⌜ Ends (now bytes) at width (edge + 1) ⌝ }
-    ensures { λ r. ⌜ r ≡ end-in (now (bytes .entry)) at width edge ⌝ }
+fn end_of(bytes: &[u8], at: usize, w: u32, edge: u32) -> u32
+    requires { ⌜ Ends (now bytes) at w (edge + 1) ⌝ }
+    ensures { λ r. ⌜ r ≡ end-in (now (bytes .entry)) at w edge ⌝ }
 {
-    read_field(bytes, at + (2 * width as usize + 32) * edge as usize, width)
+    read_field(bytes, at + (2 * w as usize + 32) * edge as usize, w)
 }
 
 // Rule 5 of one direction: the ends of the m edges are below n.
-fn ends_below(bytes: &[u8], at: usize, width: u32, n: u32, m: u32) -> bool
-    requires { ⌜ Ends (now bytes) at width m ⌝ }
-    ensures { λ r. ⌜ r ≡ ends-within (now (bytes .entry)) at width n m ⌝ }
+fn ends_below(bytes: &[u8], at: usize, w: u32, n: u32, m: u32) -> bool
+    requires { ⌜ Ends (now bytes) at w m ⌝ }
+    ensures { λ r. ⌜ r ≡ ends-within (now (bytes .entry)) at w n m ⌝ }
 {
     let mut edge: u32 = 0;
     while edge < m {
-        if end_of(bytes, at, width, edge) >= n {
+        if end_of(bytes, at, w, edge) >= n {
             return false;
         }
         edge += 1;
@@ -70,20 +71,20 @@ fn ends_below(bytes: &[u8], at: usize, width: u32, n: u32, m: u32) -> bool
 }
 
 // Rule 6 of one direction: the m entries from bit `list` on are below m, none comes twice, and their ends, the first of which stands at bit `ends`, do not descend.
-fn lists_right(bytes: &[u8], ends: usize, width: u32, list: usize, thin: u32, m: u32) -> bool
-    requires { ⌜ Entries (now bytes) ends width list thin m ⌝ }
-    ensures { λ r. ⌜ r ≡ ordered (end-in (now (bytes .entry)) ends width) m (fields-at (now (bytes .entry)) list thin m) ⌝ }
+fn lists_right(bytes: &[u8], ends: usize, w: u32, list: usize, v: u32, m: u32) -> bool
+    requires { ⌜ Entries (now bytes) ends w list v m ⌝ }
+    ensures { λ r. ⌜ r ≡ ordered (end-in (now (bytes .entry)) ends w) m (fields-at (now (bytes .entry)) list v m) ⌝ }
 {
     let mut seen = [0u64; 512];
     let mut last: u32 = 0;
     let mut at = list;
     let mut i: u32 = 0;
     while i < m {
-        let edge = read_field(bytes, at, thin);
+        let edge = read_field(bytes, at, v);
         if edge >= m {
             return false;
         }
-        let end = end_of(bytes, ends, width, edge);
+        let end = end_of(bytes, ends, w, edge);
         if end < last {
             return false;
         }
@@ -91,7 +92,7 @@ fn lists_right(bytes: &[u8], ends: usize, width: u32, list: usize, thin: u32, m:
             return false;
         }
         last = end;
-        at += thin as usize;
+        at += v as usize;
         i += 1;
     }
     true
@@ -102,26 +103,26 @@ fn broken_content(bytes: &[u8], n: u32, m: u32) -> u32
     requires { ⌜ Whole (now bytes) n m ⌝ }
     ensures { λ r. ⌜ r ≡ broken-image (now (bytes .entry)) ⌝ }
 {
-    let width = least_width(n);
-    let thin = least_width(m);
+    let w = least_width(n);
+    let v = least_width(m);
     let sources = 32 + 32 * n as usize;
-    let targets = sources + width as usize;
+    let targets = sources + w as usize;
     let size = lists_size(m);
     let outs = outs_start(n, m);
     let ins = outs + size;
     if !padding_clear(bytes, ins + size) {
         return 4;
     }
-    if !ends_below(bytes, sources, width, n, m) {
+    if !ends_below(bytes, sources, w, n, m) {
         return 5;
     }
-    if !ends_below(bytes, targets, width, n, m) {
+    if !ends_below(bytes, targets, w, n, m) {
         return 5;
     }
-    if !lists_right(bytes, sources, width, outs, thin, m) {
+    if !lists_right(bytes, sources, w, outs, v, m) {
         return 6;
     }
-    if !lists_right(bytes, targets, width, ins, thin, m) {
+    if !lists_right(bytes, targets, w, ins, v, m) {
         return 6;
     }
     0

@@ -7,7 +7,7 @@ use Rattle.image.proofs.check.end_of.Statement.{statement}
 use Rattle.image.proofs.check.end_of.Tie as tie
 
 returns : tie.Need-returns
-returns c = let a = c .before .before .args in c .read-field .ensures ∙ ap (λ z. field-at (a .bytes .now) z (a .width)) (omega arith)
+returns c = let a = c .before .before .args in c .read-field .ensures ∙ ap (λ z. field-at (a .bytes .now) z (a .w)) (omega arith)
 
 pub end-of-spec : {M : Type 1} → statement M
 end-of-spec =

@@ -11,10 +11,10 @@ use Rattle.image.proofs.check.ends_below.Statement.{statement}
 use Rattle.image.proofs.check.ends_below.Tie as tie
 
 abbrev Inv-loop : tie.InvT-loop
-Inv-loop bytes at width n m edge₀ edge = ends-within bytes at width n m ≡ rest (λ e. ltb (end-in bytes at width e) n) edge m
+Inv-loop bytes at w n m edge₀ edge = ends-within bytes at w n m ≡ rest (λ e. ltb (end-in bytes at w e) n) edge m
 
 abbrev μ-loop : tie.MeasureT-loop
-μ-loop bytes at width n m edge₀ edge = m - edge
+μ-loop bytes at w n m edge₀ edge = m - edge
 
 loop-holds : tie.Need-loop-holds Inv-loop μ-loop
 unfolding ends-within

@@ -10,10 +10,10 @@ use Rattle.image.proofs.check.lists_right.Statement.{statement}
 use Rattle.image.proofs.check.lists_right.Tie as tie
 
 abbrev Inv-loop : tie.InvT-loop
-Inv-loop bytes ends width list thin m seen₀ last₀ at₀ i₀ seen last at i = Ordering bytes ends width list thin m seen last at i
+Inv-loop bytes ends w list v m seen₀ last₀ at₀ i₀ seen last at i = Ordering bytes ends w list v m seen last at i
 
 abbrev μ-loop : tie.MeasureT-loop
-μ-loop bytes ends width list thin m seen₀ last₀ at₀ i₀ seen last at i = m - i
+μ-loop bytes ends w list v m seen₀ last₀ at₀ i₀ seen last at i = m - i
 
 loop-holds : tie.Need-loop-holds Inv-loop μ-loop
 loop-holds c = order-start _ _ _ _ _ _ (c .before .pre .within)
