@@ -1,6 +1,6 @@
 -- The ways that writing an image ends: "Writing: 1, 11, 2." The contract is `Replied` of crate view, of `written-image`.
 use Prim.Native.Nat.{ℕ, _^_, _≤_, _<_}
-use mathlib.Core.Path.{_≡_, refl, sym, ap, ap₂, _∙_}
+use mathlib.Core.Path.{_≡_, sym, ap, ap₂, _∙_}
 use mathlib.Core.Bool.{true, false}
 use mathlib.Core.List.{List, []}
 use native.Mathlib.Omega.{arith}
@@ -11,17 +11,16 @@ use Rattle.plain.specs.Numbers.{NONE}
 use Rattle.plain.specs.Lists.{written}
 use Rattle.plain.specs.Reads.{Reply, listing}
 use Rattle.plain.specs.Bits.{pack, bytes-for}
-use Rattle.plain.specs.Image.{image, image-size}
+use Rattle.plain.specs.Image.{image-size}
 use Rattle.plain.specs.Laws.Below.{Below, below-take}
 use Rattle.plain.specs.Laws.CallCases.{lent-short, lent-done, write-not-compact, write-compact}
 use Rattle.plain.specs.Laws.Packing.{length-pack}
 use Rattle.shape.specs.Shape.{Words, shape-of, is-compact}
-use Rattle.shape.specs.Checked.{Checked}
 use Rattle.shape.specs.Steps.{state-of}
 use Rattle.validate.specs.Judging.{Judged, reply-counts}
 use Rattle.view.specs.Calls.{Replied}
 use Rattle.image.specs.Calls.{written-image}
-use Rattle.image.specs.Writing.{Columns, Proper, ImageFits, column-bits, length-column-bits}
+use Rattle.image.specs.Writing.{Proper, ImageFits, column-bits, length-column-bits}
 use Rattle.image.specs.Stored.{columns-of, Stored, image-stored}
 
 -- Bytes into a lent slice: "a lent slice too short: 2, length needed", and nothing written; else they are at its start, and their number is the value.
