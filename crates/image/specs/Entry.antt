@@ -9,19 +9,18 @@ use lib.Seq.{length-take-le}
 use Rattle.plain.specs.declared.Answer.{Answer}
 use Rattle.plain.specs.Numbers.{NONE}
 use Rattle.plain.specs.Lists.{written}
-use Rattle.plain.specs.Reads.{Reply, listing}
+use Rattle.plain.specs.Reads.{listing}
 use Rattle.plain.specs.Bits.{pack, bytes-for}
-use Rattle.plain.specs.Image.{image, image-size}
+use Rattle.plain.specs.Image.{image-size}
 use Rattle.plain.specs.Laws.Below.{Below, below-take}
 use Rattle.plain.specs.Laws.CallCases.{lent-short, lent-done, write-not-compact, write-compact}
 use Rattle.plain.specs.Laws.Packing.{length-pack}
 use Rattle.shape.specs.Shape.{Words, shape-of, is-compact}
-use Rattle.shape.specs.Checked.{Checked}
 use Rattle.shape.specs.Steps.{state-of}
-use Rattle.validate.specs.Judging.{Judged, reply-counts}
-use Rattle.view.specs.Calls.{Replied}
+use Rattle.validate.specs.Judging.{Judged}
+use Rattle.view.specs.Calls.{Replied, replies}
 use Rattle.image.specs.Calls.{written-image}
-use Rattle.image.specs.Writing.{Columns, Proper, ImageFits, column-bits, length-column-bits}
+use Rattle.image.specs.Writing.{Proper, ImageFits, column-bits, length-column-bits}
 use Rattle.image.specs.Stored.{columns-of, Stored, image-stored}
 
 -- Bytes into a lent slice: "a lent slice too short: 2, length needed", and nothing written; else they are at its start, and their number is the value.
@@ -76,29 +75,17 @@ module _ {n m : ℕ} {nodes edges outgoing incoming : List ℕ} (h : Stored n m 
 
 -- ---- the entry
 
-module _ {w : Words} {rule : ℕ} (j : Judged w rule) (h : rule ≡ 0) {entry exit : List ℕ} {r : Answer} where
-  replies : (reply : Reply) → written-image w (length entry) ≡ reply → r .number ≡ reply .number → r .value ≡ reply .value → exit ≡ written (reply .words) entry
-      → Replied w written-image entry r exit
-  replies reply is number value writes =
-      let same = sym is ∙ reply-counts j h (written-image w (length entry)) in
-      record {
-        number = number ∙ ap (λ (a : Reply). a .number) same;
-        value = value ∙ ap (λ (a : Reply). a .value) same;
-        writes = writes ∙ ap (λ (a : Reply). written (a .words) entry) same;
-      }
-
+module _ {w : Words} {rule : ℕ} (j : Judged w rule) (h : rule ≡ 0) {entry : List ℕ} where
   -- "image of a store not compact: 11, NONE"
-  pub image-refused : is-compact (shape-of w) ≡ false → r ≡ record { number = 11; value = NONE } → exit ≡ entry → Replied w written-image entry r exit
-  image-refused not is same =
-      replies (record { number = 11; value = NONE; words = [] }) (write-not-compact (state-of (shape-of w)) (length entry) not)
-      (ap (λ (a : Answer). a .number) is) (ap (λ (a : Answer). a .value) is) same
+  pub image-refused : is-compact (shape-of w) ≡ false → Replied w written-image entry (record { number = 11; value = NONE }) entry
+  image-refused not = replies j h (record { number = 11; value = NONE; words = [] }) (write-not-compact (state-of (shape-of w)) (length entry) not) refl
 
   -- a compact store: its image is lent the slice
-  pub image-replied : is-compact (shape-of w) ≡ true
+  pub image-replied : {r : Answer} {exit : List ℕ} → is-compact (shape-of w) ≡ true
       → BytesLent (pack (column-bits (columns-of (w .counts .nodes .bound) (w .counts .edges .bound) (w .nodes) (w .edges) (w .outgoing) (w .incoming)))) entry r exit
       → Replied w written-image entry r exit
   image-replied compact lent =
       let bytes = pack (column-bits (columns-of (w .counts .nodes .bound) (w .counts .edges .bound) (w .nodes) (w .edges) (w .outgoing) (w .incoming))) in
-      replies (listing (length entry) bytes)
-      (write-compact (state-of (shape-of w)) (length entry) compact ∙ ap (listing (length entry)) (image-stored (j .checked h) compact))
-      (lent .number) (lent .value) (lent .writes)
+      let image = write-compact (state-of (shape-of w)) (length entry) compact ∙ ap (listing (length entry)) (image-stored (j .checked h) compact) in
+      let replied = replies j h {read = written-image} (listing (length entry) bytes) image (lent .writes) in
+      record { number = lent .number ∙ replied .number; value = lent .value ∙ replied .value; writes = replied .writes }

@@ -1,42 +1,41 @@
 -- The image of a compact store in its words: every slot is live, so payloads and ends are the first words of their columns; no node has a run or a ring, so the
 -- lists joined are the adjacency column.
-use Prim.Native.Nat.{ℕ, zero, suc, _+_, _-_, _*_, _^_, _≤_, _<_}
+use Prim.Native.Nat.{ℕ, zero, suc, _+_, _-_, _*_, _≤_, _<_}
 use mathlib.Core.Path.{_≡_, refl, sym, ap, ap₂, subst₂, _∙_}
 use mathlib.Core.Bool.{Bool, true, false, not, _&&_, false≢true}
 use mathlib.Core.Option.{Option, none, some}
 use mathlib.Core.Logic.{inl, inr, ⊎-elim}
 use mathlib.Core.List.{List, [], _∷_, _++_, map, append-assoc, append-nil}
 use native.Mathlib.Omega.{arith}
-use lib.ListN.{length, getD, take, drop, replicate, length-map, length-take, length-drop}
+use lib.ListN.{length, getD, take, drop, replicate, length-map, length-drop}
 use lib.Seq.{getD-take, getD-drop, length-take-le}
 use lib.Dec.{eqb}
 use borrow.Author.Tests.{eqb-true, ltb-true, lt-ltb}
 use Rattle.plain.specs.declared.TraversalDirection.{TraversalDirection}
 use Rattle.plain.specs.declared.TraversalDirection.the-variants.{Outgoing, Incoming}
-use Rattle.plain.specs.Numbers.{LIMIT}
+use Rattle.plain.specs.Numbers.{NONE, LIMIT}
 use Rattle.plain.specs.Lists.{all, from, joined}
 use Rattle.plain.specs.Plain.{Plain, NodeSlot, EdgeSlot, no-node, no-edge, node-bound, node-flags, edge-flags, incidence, list-of, end-of}
-use Rattle.plain.specs.Reads.{live-slots, live-from}
-use Rattle.plain.specs.Compaction.{EdgeRecord, Survivors, rank, surviving-edge, survivors, of-survivors, compacted}
-use Rattle.plain.specs.Bits.{pack, least-width}
+use Rattle.plain.specs.Reads.{live-slots}
+use Rattle.plain.specs.Compaction.{Survivors, rank, surviving-edge, survivors, of-survivors, compacted}
+use Rattle.plain.specs.Bits.{pack}
 use Rattle.plain.specs.Image.{image-bits, image}
 use Rattle.plain.specs.Laws.AllLive.{AllLive, live-slot, own-rank, compacted-same}
 use Rattle.plain.specs.Laws.Booleans.{by-test, and-left, and-right}
-use Rattle.plain.specs.Laws.Below.{Below, below-of, below-take}
+use Rattle.plain.specs.Laws.Below.{Below, below-of}
 use Rattle.plain.specs.Laws.ListLaws.{map-same, map-getD, member-below}
 use Rattle.plain.specs.Laws.Operating.{incident}
 use Rattle.plain.specs.Laws.Rank.{live-from-all-live}
-use Rattle.shape.specs.Columns.{cell, end-at, offset-at}
+use Rattle.shape.specs.Columns.{cell, offset-at}
 use Rattle.shape.specs.Chains.{In, ring, until}
-use Rattle.shape.specs.Shape.{Words, node-live, edge-live, Shape, Adjacency, capacities, axis-words, axis-in, adjacency-of, no-adjacency, adjacency-in, base-of, ring-of, raw, part, hiding, live-in, walk-of, has-run, node-flags-of, edge-flags-of, shape-of, plain-of, lists, is-compact}
+use Rattle.shape.specs.Shape.{Words, node-live, edge-live, Shape, Adjacency, capacities, axis-words, axis-in, adjacency-of, no-adjacency, base-of, ring-of, raw, part, hiding, live-in, walk-of, has-run, node-flags-of, edge-flags-of, shape-of, plain-of, lists, is-compact}
 use Rattle.shape.specs.Checked.{Checked, Index, Indexed}
-use Rattle.shape.specs.Steps.{walk-in}
 use Rattle.shape.specs.Laws.CheckedShape.{checked-proper}
 use Rattle.shape.specs.Laws.Indexing.{total, parts-joined, front-range, ends-below-all}
 use Rattle.shape.specs.Laws.Reading.{made-at, made-length, node-bound-is, edge-bound-is, shape-adjacency, plain-end, axis-is, axis-nodes}
 use Rattle.shape.specs.Laws.Refining.{list-is-walk}
 use Rattle.shape.specs.Laws.Taking.{keep-passing}
-use Rattle.image.specs.Writing.{Columns, columns, record-at, records-of, length-records, column-bits, Proper}
+use Rattle.image.specs.Writing.{Columns, columns, record-at, records-of, length-records, column-bits}
 
 -- the columns of a store of n nodes and m edges that its image is written from
 abbrev pub columns-of : ℕ → ℕ → List ℕ → List ℕ → List ℕ → List ℕ → Columns
@@ -69,12 +68,12 @@ record CompactShape (s : Shape) : Type 0 where
 compact-shape : {s : Shape} → is-compact s ≡ true → CompactShape s
 unfolding is-compact
 compact-shape {s} all-six =
+    let nodes : Bool = eqb (s .base-nodes) (length (s .nodes)) in
     let edges : Bool = eqb (s .base-edges) (length (s .edges)) in
     let live-nodes : Bool = all (λ f. f) (node-flags-of s) in
     let live-edges : Bool = all (λ f. f) (edge-flags-of s) in
     let outs : Bool = all (λ a. not (has-run a)) (s .outgoing .nodes) in
     let ins : Bool = all (λ a. not (has-run a)) (s .incoming .nodes) in
-    let nodes : Bool = eqb (s .base-nodes) (length (s .nodes)) in
     let five = and-right nodes (edges && (live-nodes && (live-edges && (outs && ins)))) all-six in
     let four = and-right edges (live-nodes && (live-edges && (outs && ins))) five in
     let three = and-right live-nodes (live-edges && (outs && ins)) four in
@@ -117,10 +116,11 @@ part-base a h = shown (a .base) (a .run) (a .ring) h
 -- a ring among no edges is empty
 no-ring : (ws : List ℕ) (ce be eb x : ℕ) → be ≡ eb → ring-of ws ce be eb x ≡ []
 unfolding ring-of ring until
-no-ring ws ce be eb x e = let none : eb - be ≡ 0 = omega arith in by-test (eqb (cell ws (4 * ce) x) 4294967295) (λ q. rw q) (λ q. rw (q, none))
+no-ring ws ce be eb x e = let none : eb - be ≡ 0 = omega arith in by-test (eqb (cell ws (4 * ce) x) NONE) (λ q. rw q) (λ q. rw (q, none))
 
 -- ---- the index
 
+-- an offset is how many entries the parts before it have
 offsets-total : {ws : List ℕ} {ce cn bn be : ℕ} → Indexed ws ce cn bn be → (x : ℕ) → x ≤ bn
     → total (λ y. offset-at ws ce cn (suc y) - offset-at ws ce cn y) x ≡ offset-at ws ce cn x
 unfolding total
@@ -159,9 +159,16 @@ module _ {w : Words} (k : Checked w) (compact : is-compact (shape-of w) ≡ true
   abbrev m : ℕ
   m = w .counts .edges .bound
 
+  abbrev ce : ℕ
+  ce = length (w .edges)
+
+  abbrev cn : ℕ
+  cn = length (w .nodes)
+
   parts : CompactShape (shape-of w)
   parts = compact-shape compact
 
+  -- the base is everything
   based-nodes : w .counts .nodes .base ≡ n
   unfolding shape-of
   based-nodes = parts .nodes-based ∙ node-bound-is w
@@ -170,6 +177,7 @@ module _ {w : Words} (k : Checked w) (compact : is-compact (shape-of w) ≡ true
   unfolding shape-of
   based-edges = parts .edges-based ∙ edge-bound-is w
 
+  -- every slot is live
   every-live : AllLive (lists w)
   unfolding plain-of
   every-live = record {
@@ -186,8 +194,8 @@ module _ {w : Words} (k : Checked w) (compact : is-compact (shape-of w) ≡ true
   node-on x l = live-slot (node-flags-of (shape-of w)) (length (shape-of w .nodes)) x (every-live .nodes) (rw (node-bound-is w) l)
 
   -- the index holds all nodes and edges
-  index : (d : TraversalDirection) → Index (axis-words d w) (length (w .edges)) (length (w .nodes)) n m
-  index d = subst₂ (λ (bn be : ℕ). Index (axis-words d w) (length (w .edges)) (length (w .nodes)) bn be) based-nodes based-edges (k .axis d .index)
+  index : (d : TraversalDirection) → Index (axis-words d w) ce cn n m
+  index d = subst₂ (λ (bn be : ℕ). Index (axis-words d w) ce cn bn be) based-nodes based-edges (k .axis d .index)
 
   -- every entry of an adjacency is a live edge
   entry-live : (d : TraversalDirection) (x e : ℕ) → In e (raw (adjacency-of d (shape-of w) x)) → live-in (edge-flags-of (shape-of w)) e ≡ true
@@ -196,34 +204,34 @@ module _ {w : Words} (k : Checked w) (compact : is-compact (shape-of w) ≡ true
       live-slot (edge-flags-of (shape-of w)) (length (shape-of w .edges)) e (every-live .edges) (checked-proper w k .entries-below d x e there)
 
   -- a node's list is its base part
-  list-base : (d : TraversalDirection) (x : ℕ) → x < n → list-of d (lists w) x ≡ base-of (axis-words d w) (length (w .edges)) (length (w .nodes)) n x
+  list-base : (d : TraversalDirection) (x : ℕ) → x < n → list-of d (lists w) x ≡ base-of (axis-words d w) ce cn n x
   list-base d x l =
       let a = adjacency-of d (shape-of w) x in
       let at = shape-adjacency w d x l in
       let there : x < length (axis-in d (shape-of w) .nodes) =
-      rw (axis-is w d, axis-nodes (axis-words d w) (length (w .edges)) (length (w .nodes)) (w .counts)) l in
-      let base : part a ≡ base-of (axis-words d w) (length (w .edges)) (length (w .nodes)) n x =
+      rw (axis-is w d, axis-nodes (axis-words d w) ce cn (w .counts)) l in
+      let base : part a ≡ base-of (axis-words d w) ce cn n x =
       part-base a (passes-at (λ a. not (has-run a)) (axis-in d (shape-of w) .nodes) (parts .no-runs d) x no-adjacency there)
-      ∙ ap (λ (b : Adjacency). b .base) at ∙ ap (λ (b : ℕ). base-of (axis-words d w) (length (w .edges)) (length (w .nodes)) b x) based-nodes in
-      let empty : a .ring ≡ [] = ap (λ (b : Adjacency). b .ring) at ∙ no-ring (axis-words d w) (length (w .edges)) (w .counts .edges .base) m x based-edges in
+      ∙ ap (λ (b : Adjacency). b .base) at ∙ ap (λ (b : ℕ). base-of (axis-words d w) ce cn b x) based-nodes in
+      let empty : a .ring ≡ [] = ap (λ (b : Adjacency). b .ring) at ∙ no-ring (axis-words d w) ce (w .counts .edges .base) m x based-edges in
       list-is-walk (shape-of w) d x ∙ ap (λ (b : Bool). walk-of (edge-flags-of (shape-of w)) b a) (node-on x l)
       ∙ keep-passing (live-in (edge-flags-of (shape-of w))) (raw a) (entry-live d x)
-      ∙ ap₂ (λ (y z : List ℕ). y ++ z) base empty ∙ append-nil (base-of (axis-words d w) (length (w .edges)) (length (w .nodes)) n x)
+      ∙ ap₂ (λ (y z : List ℕ). y ++ z) base empty ∙ append-nil (base-of (axis-words d w) ce cn n x)
 
   -- the adjacency column is there
-  column-there : (d : TraversalDirection) → length (w .edges) + m ≤ length (axis-words d w)
+  column-there : (d : TraversalDirection) → ce + m ≤ length (axis-words d w)
   column-there d = omega (arith, k .axis d .sized .room, k .edges .bound-within)
 
   -- the lists of a direction joined are the first words of its adjacency column
-  lists-joined : (d : TraversalDirection) → joined (incidence d (lists w) .lists) ≡ take m (drop (length (w .edges)) (axis-words d w))
+  lists-joined : (d : TraversalDirection) → joined (incidence d (lists w) .lists) ≡ take m (drop ce (axis-words d w))
   lists-joined d =
       let ls = incidence d (lists w) .lists in
       let many : length ls ≡ n = incident (k .walks) d .lists-length ∙ plain-bound in
       ap joined
       (sym (map-getD ls []) ∙ ap (λ (l : ℕ). map (list-of d (lists w)) (from 0 l)) many
-      ∙ map-same (list-of d (lists w)) (base-of (axis-words d w) (length (w .edges)) (length (w .nodes)) n) (from 0 n)
+      ∙ map-same (list-of d (lists w)) (base-of (axis-words d w) ce cn n) (from 0 n)
       (λ x h. list-base d x (ltb-true x n (sym (member-below x n) ∙ h))))
-      ∙ sym (index-joined (index d)) ∙ column-front (axis-words d w) (length (w .edges)) m (column-there d)
+      ∙ sym (index-joined (index d)) ∙ column-front (axis-words d w) ce m (column-there d)
 
   -- the slots are all there are
   node-slots : live-slots (node-flags (lists w)) ≡ from 0 n
@@ -244,6 +252,7 @@ module _ {w : Words} (k : Checked w) (compact : is-compact (shape-of w) ≡ true
   edge-payload e l =
       ap (λ (s : EdgeSlot). s .payload) (made-at (λ e. record { payload = getD (w .edges) e 0; live = getD (edge-live w) e false }) m e no-edge l)
 
+  -- so the survivors are the words
   nodes-are : survivors (lists w) .nodes ≡ take n (w .nodes)
   unfolding survivors
   nodes-are =
@@ -278,11 +287,11 @@ module _ {w : Words} (k : Checked w) (compact : is-compact (shape-of w) ≡ true
   same-lists =
       compacted-same (capacities w) (lists w) (k .walks) every-live (k .axis Outgoing .sized .nodes-within) (k .axis Outgoing .sized .edges-within)
 
-  outs-are : joined (survivors (lists w) .outs) ≡ take m (drop (length (w .edges)) (w .outgoing))
+  outs-are : joined (survivors (lists w) .outs) ≡ take m (drop ce (w .outgoing))
   unfolding of-survivors
   outs-are = ap (λ (p : Plain). joined (p .outgoing .lists)) same-lists ∙ lists-joined Outgoing
 
-  ins-are : joined (survivors (lists w) .ins) ≡ take m (drop (length (w .edges)) (w .incoming))
+  ins-are : joined (survivors (lists w) .ins) ≡ take m (drop ce (w .incoming))
   unfolding of-survivors
   ins-are = ap (λ (p : Plain). joined (p .incoming .lists)) same-lists ∙ lists-joined Incoming
 
@@ -290,17 +299,19 @@ module _ {w : Words} (k : Checked w) (compact : is-compact (shape-of w) ≡ true
   pub image-stored : image (survivors (lists w)) ≡ pack (column-bits (columns-of n m (w .nodes) (w .edges) (w .outgoing) (w .incoming)))
   image-stored = image-columns (columns-of n m (w .nodes) (w .edges) (w .outgoing) (w .incoming)) (survivors (lists w)) nodes-are edges-are outs-are ins-are
 
+  -- ends are nodes, and entries are edges
   ends-low : (d : TraversalDirection) → Below n (take m (axis-words d w))
   ends-low d =
       rw (front-range (axis-words d w) m (omega (arith, column-there d))) (ends-below-all (axis-words d w) n m (k .axis d .ends-below))
 
-  entries-low : (d : TraversalDirection) → Below m (take m (drop (length (w .edges)) (axis-words d w)))
+  entries-low : (d : TraversalDirection) → Below m (take m (drop ce (axis-words d w)))
   entries-low d =
-      rw (← column-front (axis-words d w) (length (w .edges)) m (column-there d))
-      (below-of (map (cell (axis-words d w) (length (w .edges))) (from 0 m))
+      rw (← column-front (axis-words d w) ce m (column-there d))
+      (below-of (map (cell (axis-words d w) ce) (from 0 m))
       (λ i h. let l : i < m = rw made-length at h in
-      rw (made-at (cell (axis-words d w) (length (w .edges))) m i 0 l) (⊎-elim (λ e. absurd (omega (arith, e .1))) (λ j. j .entries i l) (index d))))
+      rw (made-at (cell (axis-words d w) ce) m i 0 l) (⊎-elim (λ e. absurd (omega (arith, e .1))) (λ j. j .entries i l) (index d))))
 
+  -- what the writer asks of the words
   pub compact-stored : Stored n m (w .nodes) (w .edges) (w .outgoing) (w .incoming)
   compact-stored =
       let sized = k .axis Outgoing .sized in

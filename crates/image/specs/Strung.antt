@@ -26,6 +26,7 @@ pub record WroteTo (s : List ℕ) (p : ℕ) (f t : List ℕ) (q : ℕ) : Type 0 
   pub wrote : Wrote s p f t
   pub next : q ≡ p + length f
 
+-- f was written, and then g
 pub wrote-on : {s t u f g : List ℕ} {p q r : ℕ} → WroteTo s p f t q → WroteTo t q g u r → WroteTo s p (f ++ g) u r
 wrote-on {f = f} {g} {p} {q} {r} a b =
     record { wrote = wrote-then (a .wrote) (b .wrote) (a .next); next = rw (length-append f g) (omega (arith, a .next, b .next)) }
@@ -46,6 +47,7 @@ pub strung-none : (s : List ℕ) (p step n : ℕ) (f : ℕ → List ℕ) → Pie
 unfolding strung
 strung-none s p step n f h = record { place = omega arith; long = refl; wrote = wrote-none s p (omega (arith, h .within)) }
 
+-- as many bits as the pieces have
 length-strung : (step : ℕ) (f : ℕ → List ℕ) → ((i : ℕ) → length (f i) ≡ step) → (n : ℕ) → length (strung f n) ≡ step * n
 unfolding strung
 length-strung step f l zero = omega arith
@@ -78,6 +80,7 @@ module _ {s t : List ℕ} {p step : ℕ} {f : ℕ → List ℕ} {i q : ℕ} (lon
 abbrev pub word-bits : ℕ → List ℕ → ℕ → List ℕ
 word-bits w words i = bits-of w (getD words i 0)
 
+-- the first n words
 row-front : (w : ℕ) (words : List ℕ) (n : ℕ) → n ≤ length words → strung (word-bits w words) n ≡ row w (take n words)
 unfolding strung row
 row-front w words zero h = refl
@@ -86,6 +89,7 @@ row-front w words (suc n) h =
     (ap (row w) (take-suc words n 0 h) ∙ row-append w (take n words) (getD words n 0 ∷ [])
     ∙ ap₂ (λ (k l : List ℕ). k ++ l) (sym (row-front w words n (omega arith))) (append-nil (word-bits w words n)))
 
+-- all of them are the row
 pub row-strung : (w : ℕ) (words : List ℕ) → strung (word-bits w words) (length words) ≡ row w words
 row-strung w words = row-front w words (length words) (omega arith) ∙ ap (row w) (take-length words)
 
@@ -95,11 +99,13 @@ row-strung w words = row-front w words (length words) (omega arith) ∙ ap (row 
 abbrev pub record-bits : ℕ → EdgeRecord → List ℕ
 record-bits w r = edge-bits w (r ∷ [])
 
+-- the records of one row of edges and the next
 edge-bits-append : (w : ℕ) (es ds : List EdgeRecord) → edge-bits w (es ++ ds) ≡ edge-bits w es ++ edge-bits w ds
 unfolding edge-bits
 edge-bits-append w [] ds = refl
 edge-bits-append w (e ∷ es) ds = rw (edge-bits-append w es ds) (simp append-assoc)
 
+-- the records of the first n edges
 pub records-strung : (w : ℕ) (r : ℕ → EdgeRecord) (n : ℕ) → strung (λ e. record-bits w (r e)) n ≡ edge-bits w (map r (from 0 n))
 unfolding strung from edge-bits
 records-strung w r zero = refl

@@ -1,7 +1,8 @@
--- What an image is written from, as columns of words, and what the writers of its parts take. The columns of a store are another matter: `Stored`.
+-- The image of columns of words: what each writer takes, that the parts follow each other, and that the whole is the image's bits packed. Which columns a store
+-- has is in `Stored`.
 use Prim.Native.Nat.{ℕ, _+_, _*_, _^_, _≤_, _<_}
 use mathlib.Core.Path.{_≡_, sym, ap, _∙_}
-use mathlib.Core.List.{List, [], _∷_, _++_, map, append-assoc, append-nil}
+use mathlib.Core.List.{List, [], _∷_, _++_, map, append-nil}
 use native.Mathlib.Omega.{arith}
 use native.Mathlib.Nat.{mul-one, mul-le-mul, zero-add}
 use lib.ListN.{length, getD, length-append, length-map}
@@ -9,18 +10,18 @@ use Rattle.plain.specs.Numbers.{LIMIT}
 use Rattle.plain.specs.Lists.{from, written}
 use Rattle.plain.specs.Compaction.{EdgeRecord}
 use Rattle.plain.specs.Bits.{bits-of, row, pack, bytes-for, least-width}
-use Rattle.plain.specs.Image.{edge-bits, record-width, edges-start, image-size}
+use Rattle.plain.specs.Image.{payload-bits, edge-bits, record-width, edges-start, image-size}
 use Rattle.plain.specs.Laws.Below.{Below, below-mono, below-append, below-within}
 use Rattle.plain.specs.Laws.Bits.{length-bits-of, below-bits-of, length-row, below-row}
 use Rattle.plain.specs.Laws.ListLaws.{length-from}
 use Rattle.plain.specs.Laws.Packing.{padding}
 use Rattle.plain.specs.Laws.ImageBits.{length-edge-bits, below-edge-bits}
-use Rattle.plain.specs.Laws.Width.{width-holds, width-least, width-most}
+use Rattle.plain.specs.Laws.Width.{width-holds, width-most}
 use Rattle.image.specs.Fields.{Room}
 use Rattle.image.specs.Wrote.{Wrote, wrote-then, wrote-pack}
 use Rattle.image.specs.Strung.{WroteTo, PiecesFit, Strung, strung-room, wrote-on, word-bits, record-bits}
 
--- Columns that an image is written from: the nodes' payloads, the edges' ends and payloads, and the lists of all nodes joined, of each direction.
+-- What an image is written from: the nodes' payloads, the edges' ends and payloads, and the lists of all nodes joined, of each direction.
 pub record Columns : Type 0 where
   pub nodes : List ℕ
   pub sources : List ℕ
@@ -75,7 +76,7 @@ row-room {s} {p} {w} {words} {t} {i} {q} h a l =
 
 -- an edge's ends and its payload are its record
 pub wrote-record : {s t u v : List ℕ} {p q r : ℕ} (w : ℕ) (e : EdgeRecord) → Wrote s p (bits-of w (e .source)) t → Wrote t q (bits-of w (e .target)) u
-    → Wrote u r (bits-of 32 (e .payload)) v → q ≡ p + w → r ≡ q + w → Wrote s p (record-bits w e) v
+    → Wrote u r (payload-bits (e .payload)) v → q ≡ p + w → r ≡ q + w → Wrote s p (record-bits w e) v
 unfolding edge-bits
 wrote-record w e a b c h k =
     rw append-nil (wrote-then a (wrote-then b c (rw length-bits-of k)) (rw length-bits-of h))
@@ -109,9 +110,11 @@ pub record SlotsFit (s : List ℕ) (w : ℕ) (nodes sources targets payloads : L
   pub small-targets : Below (2 ^ w) targets
   pub room : edges-start (length nodes) + record-width w * length payloads ≤ 8 * length s
 
+-- "node count n and edge count m (16 bits each)"
 abbrev pub count-bits : ℕ → ℕ → List ℕ
 count-bits n m = bits-of 16 n ++ bits-of 16 m
 
+-- "n payloads (32); per edge source, target (w bits each), payload (32)"
 abbrev pub slot-bits : ℕ → List ℕ → List EdgeRecord → List ℕ
 slot-bits w nodes edges = count-bits (length nodes) (length edges) ++ (row 32 nodes ++ edge-bits w edges)
 
@@ -124,6 +127,7 @@ few-records : (w m : ℕ) → w ≤ 32 → m ≤ LIMIT → record-width w * m �
 few-records w m narrow h = let most : record-width w ≤ 96 = omega arith in mul-le-mul most h
 
 module _ {s : List ℕ} {w : ℕ} {nodes sources targets payloads : List ℕ} (h : SlotsFit s w nodes sources targets payloads) where
+  -- after the nodes the edges have room
   pub edges-fit : {t u : List ℕ} {q : ℕ} → length t ≡ length s → WroteTo t 32 (row 32 nodes) u q → EdgesFit u q w sources targets payloads
   edges-fit long a =
       let place = a .next ∙ ap (λ (n : ℕ). 32 + n) (length-row 32 nodes) in
@@ -151,10 +155,12 @@ pub record ListsFit (s : List ℕ) (p v : ℕ) (outs ins : List ℕ) : Type 0 wh
   pub small-ins : Below (2 ^ v) ins
   pub room : PiecesFit s p v (length outs + length ins)
 
+-- "the out-lists of nodes 0 up to n−1 joined, then the in-lists (v bits an entry)"
 abbrev pub list-bits : ℕ → List ℕ → List ℕ → List ℕ
 list-bits v outs ins = row v outs ++ row v ins
 
 module _ {s : List ℕ} {p v : ℕ} {outs ins : List ℕ} (h : ListsFit s p v outs ins) where
+  -- after the out-lists the in-lists have room
   pub ins-fit : {t : List ℕ} {q : ℕ} → WroteTo s p (row v outs) t q → RowFits t q v ins
   ins-fit a =
       let place = a .next ∙ ap (λ (n : ℕ). p + n) (length-row v outs) in
@@ -188,7 +194,7 @@ pub record ImageFits (s : List ℕ) (c : Columns) : Type 0 where
 abbrev pub records-of : Columns → List EdgeRecord
 records-of c = records-in (c .sources) (c .targets) (c .payloads)
 
--- the bits of an image of columns, before the padding
+-- all of them, at the least widths: the image's bits before the padding
 unfoldable pub column-bits : Columns → List ℕ
 column-bits c =
     slot-bits (least-width (length (c .nodes))) (c .nodes) (records-of c)
@@ -201,7 +207,7 @@ size-few n m hn hm =
     let b : least-width m * m ≤ 32 * LIMIT = mul-le-mul (width-most m) hm in
     omega arith
 
--- the size as it is computed from the widths, with no number above 64 bits on the way
+-- The size as it is computed from the widths: every number on the way is small.
 pub record SizeComputed (n m w v : ℕ) : Type 0 where
   pub slots : (2 * w + 32) * m < 2 ^ 32
   pub lists : 2 * v * m < 2 ^ 32
@@ -224,11 +230,12 @@ below-column-bits c =
     (below-append (below-row 32 (c .nodes)) (below-edge-bits w (records-of c))))
     (below-append (below-row v (c .outs)) (below-row v (c .ins)))
 
+-- how many come before the lists
 length-slot-bits : (w : ℕ) (c : Columns) → length (slot-bits w (c .nodes) (records-of c)) ≡ edges-start (length (c .nodes)) + record-width w * length (c .payloads)
 length-slot-bits w c =
     simp (length-append, length-bits-of, length-row, length-edge-bits, length-records (c .sources) (c .targets) (c .payloads)) (omega arith)
 
--- how many there are
+-- and how many there are
 pub length-column-bits : {c : Columns} → Proper c → length (column-bits c) ≡ image-size (length (c .nodes)) (length (c .payloads))
 unfolding column-bits
 length-column-bits {c} p =
@@ -248,6 +255,7 @@ module _ {s : List ℕ} {c : Columns} (h : ImageFits s c) {w v : ℕ} (node-widt
   abbrev size : ℕ
   size = image-size (length (c .nodes)) (length (c .payloads))
 
+  -- counts, payloads and records have room, and the width holds every end
   pub slots-fit : SlotsFit s w (c .nodes) (c .sources) (c .targets) (c .payloads)
   slots-fit =
       let p = h .proper in
@@ -265,6 +273,7 @@ module _ {s : List ℕ} {c : Columns} (h : ImageFits s c) {w v : ℕ} (node-widt
         room = omega (arith, h .room);
       })
 
+  -- after them the lists have room, and the width holds every entry
   pub lists-fit : {t : List ℕ} {q : ℕ} → WroteTo s 0 (slot-bits w (c .nodes) (records-of c)) t q → ListsFit t q v (c .outs) (c .ins)
   lists-fit {t} {q} a =
       let p = h .proper in

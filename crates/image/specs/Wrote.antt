@@ -2,16 +2,16 @@
 -- each other are one write, and a write of whole bytes that repeats what stood around a field is a write of the field.
 use Prim.Native.Nat.{ℕ, suc, _+_, _-_, _*_, _/_, _%_, _^_, _≤_, _<_}
 use mathlib.Core.Path.{_≡_, refl, sym, ap, ap₂, _∙_}
-use mathlib.Core.List.{List, [], _∷_, _++_, append-assoc, append-nil}
+use mathlib.Core.List.{List, [], _∷_, _++_, append-assoc}
 use native.Mathlib.Omega.{arith}
 use native.Mathlib.Nat.{add-zero, sub-self, sub-zero, div-one, mod-lt, mod-eq-of-lt}
 use lib.ListN.{length, take, drop, set, length-append, length-take, length-set, take-append-drop}
 use lib.Seq.{take-at, drop-at, take-add, drop-drop, set-split}
 use lib.Pow.{shr-shr, pow-pos}
 use Rattle.plain.specs.Lists.{written}
-use Rattle.plain.specs.Bits.{bits-of, bits, row, bytes-for, pack}
+use Rattle.plain.specs.Bits.{bits-of, bits, bytes-for, pack}
 use Rattle.plain.specs.Laws.Below.{Below, below-append, below-drop}
-use Rattle.plain.specs.Laws.Bits.{length-bits-of, bits-of-split, bits-of-ext, length-bits, bits-append, bits-injective, length-row, row-append}
+use Rattle.plain.specs.Laws.Bits.{length-bits-of, bits-of-split, bits-of-ext, length-bits, bits-append, bits-injective}
 use Rattle.plain.specs.Laws.Packing.{Stands, length-pack, below-pack, bits-pack, padding}
 
 pub record Wrote (s : List ℕ) (p : ℕ) (f t : List ℕ) : Type 0 where
@@ -57,12 +57,6 @@ wrote-then {s} {t} {u} {f} {g} {p} {q} a b e =
       within = rw length-append (omega (arith, c .within, a .long));
       whole = c .whole ∙ ap₂ (λ (x y : List ℕ). x ++ (g ++ y)) (front a) d ∙ simp append-assoc;
     }
-
--- the values of a row were written, and then one more
-pub wrote-row : {s t u : List ℕ} {p q : ℕ} (w : ℕ) (vs : List ℕ) (v : ℕ) → Wrote s p (row w vs) t → Wrote t q (bits-of w v) u → q ≡ p + w * length vs
-    → Wrote s p (row w (vs ++ v ∷ [])) u
-unfolding row
-wrote-row w vs v a b e = rw (row-append w vs (v ∷ []), append-nil) (wrote-then a b (rw length-row e))
 
 -- ---- a field in parts
 

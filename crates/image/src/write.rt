@@ -12,7 +12,7 @@ use validate::judging::judge;
 use validate::judging::no_store;
 use view::compactness::is_compact_checked;
 ghost use mathlib.Core.Path.{_≡_};
-ghost use Prim.Native.Nat.{_*_, _≤_, _<_};
+ghost use Prim.Native.Nat.{_≤_};
 ghost use lib.ListN.{length};
 ghost use Rattle.plain.specs.Numbers.{LIMIT};
 ghost use Rattle.plain.specs.Lists.{written};

@@ -56,7 +56,8 @@ module _ {w : Words} {rule : ℕ} (j : Judged w rule) where
   record-done {read} h is = record { answers = is ∙ record-counts j h (read w) }
 
   module _ (h : rule ≡ 0) {read : Words → ℕ → Reply} {entry : List ℕ} where
-    replies : {exit : List ℕ} (reply : Reply) → read w (length entry) ≡ reply → exit ≡ written (reply .words) entry
+    -- what the read comes to is answered, and its words are written
+    pub replies : {exit : List ℕ} (reply : Reply) → read w (length entry) ≡ reply → exit ≡ written (reply .words) entry
         → Replied w read entry (record { number = reply .number; value = reply .value }) exit
     replies reply is writes =
         let same = sym is ∙ reply-counts j h (read w (length entry)) in

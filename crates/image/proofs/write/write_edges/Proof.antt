@@ -1,6 +1,5 @@
 -- `image::write::write_edges` meets its contract: after each turn one record more was written.
 use Prim.Native.Nat.{ℕ, _-_, _≤_}
-use mathlib.Core.Path.{_≡_}
 use mathlib.Core.List.{List}
 use native.Mathlib.Omega.{arith}
 use lib.ListN.{length}

@@ -1,5 +1,4 @@
 -- `image::write::write_image` meets its contract: a law for each way out.
-use mathlib.Core.Path.{refl}
 use borrow.Author.Needs.{needs}
 use Rattle.validate.specs.Passing.{refused, accepted}
 use Rattle.view.specs.Calls.{reply-refuses}
@@ -12,7 +11,7 @@ returns-2 : tie.Need-returns-2
 returns-2 c =
     let tested = c .before in
     let judged = tested .before in
-    image-refused (judged .before .judge .ensures) (judged .if1 .left) (refused (tested .is-compact-checked .ensures) (c .if2 .taken)) refl refl
+    image-refused (judged .before .judge .ensures) (judged .if1 .left) (refused (tested .is-compact-checked .ensures) (c .if2 .taken))
 
 write-store-requires : tie.Need-write-store-requires
 write-store-requires c κs =

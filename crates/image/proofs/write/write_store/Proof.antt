@@ -1,5 +1,5 @@
 -- `image::write::write_store` meets its contract: too short a slice is refused, and the columns are parts of the store's slices.
-use Prim.Native.Nat.{ℕ, _+_, _-_, _^_}
+use Prim.Native.Nat.{_+_, _-_, _^_}
 use mathlib.Core.Path.{_≡_, _∙_}
 use native.Mathlib.Omega.{arith}
 use lib.ListN.{length, length-take}
