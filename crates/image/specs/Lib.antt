@@ -2,4 +2,6 @@ pub mod Fields
 pub mod Widths
 pub mod Wrote
 pub mod Replaced
+pub mod Places
+pub mod Spread
 pub mod Calls
