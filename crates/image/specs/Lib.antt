@@ -4,4 +4,5 @@ pub mod Wrote
 pub mod Replaced
 pub mod Places
 pub mod Spread
+pub mod Directions
 pub mod Calls
