@@ -4,7 +4,7 @@ use mathlib.Core.Path.{_≡_, sym, ap, subst, _∙_}
 use mathlib.Core.List.{List, map}
 use native.Mathlib.Omega.{arith}
 use native.Mathlib.Nat.{zero-add}
-use lib.ListN.{length, getD}
+use lib.ListN.{getD}
 use lib.Seq.{take-all}
 use Rattle.plain.specs.declared.Counts.{Counts}
 use Rattle.plain.specs.Numbers.{NONE}

@@ -5,4 +5,5 @@ pub mod Replaced
 pub mod Places
 pub mod Spread
 pub mod Directions
+pub mod Reading
 pub mod Calls

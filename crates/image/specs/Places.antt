@@ -1,5 +1,5 @@
 -- The places of an image's parts are small numbers: what computing them asks.
-use Prim.Native.Nat.{ℕ, _+_, _*_, _≤_}
+use Prim.Native.Nat.{ℕ, _*_, _≤_}
 use native.Mathlib.Omega.{arith}
 use native.Mathlib.Nat.{mul-le-mul-right}
 use Rattle.plain.specs.Bits.{least-width}
