@@ -1,6 +1,6 @@
 -- Reading one direction of an image: what it asks and promises, and that the axis then holds a new base of the ends and lists that were read.
 use Prim.Native.Nat.{ℕ, _+_, _*_, _≤_, _<_}
-use mathlib.Core.Path.{_≡_, sym, ap, subst, _∙_}
+use mathlib.Core.Path.{_≡_, sym, ap, subst, subst₂, _∙_}
 use mathlib.Core.List.{List, map}
 use native.Mathlib.Omega.{arith}
 use native.Mathlib.Nat.{zero-add}
@@ -94,3 +94,13 @@ module _ {ws : List ℕ} {ce cn n m : ℕ} {bytes : List ℕ} {ends lists : ℕ}
       subst (λ (l : List ℕ). NewBase ws' ce cn counts l all-lists) same
       (rebuilt-base rebuildable (r .rebuilds) counts all-lists a b c d (take-all m (fields-at bytes lists (least-width m) m) (omega arith) ∙ lined)
       (subst (λ (l : List ℕ). Fitted n l all-lists) (sym same) fitted))
+
+-- ---- places that were computed
+
+pub readable-at : {ws : List ℕ} {ce cn n m : ℕ} {bytes : List ℕ} {ends lists ends' lists' : ℕ} → ends' ≡ ends → lists' ≡ lists
+    → AxisReadable ws ce cn n m bytes ends lists → AxisReadable ws ce cn n m bytes ends' lists'
+readable-at {ws} {ce} {cn} {n} {m} {bytes} a b r = subst₂ (λ (ends lists : ℕ). AxisReadable ws ce cn n m bytes ends lists) (sym a) (sym b) r
+
+pub read-at : {ws : List ℕ} {ce cn n m : ℕ} {bytes : List ℕ} {ends lists ends' lists' : ℕ} {ws' : List ℕ} → ends ≡ ends' → lists ≡ lists'
+    → AxisRead ws ce cn n m bytes ends lists ws' → AxisRead ws ce cn n m bytes ends' lists' ws'
+read-at {ws} {ce} {cn} {n} {m} {bytes} {ws' = ws'} a b r = subst₂ (λ (ends lists : ℕ). AxisRead ws ce cn n m bytes ends lists ws') a b r

@@ -6,4 +6,5 @@ pub mod Places
 pub mod Spread
 pub mod Directions
 pub mod Reading
+pub mod Answering
 pub mod Calls

@@ -30,6 +30,7 @@ use Rattle.shape.specs.Laws.Indexing.{Rewritten}
 use Rattle.shape.specs.Laws.NewBase.{NewBase}
 use Rattle.store.specs.Operations.{SameLengths}
 use Rattle.compact.specs.Holding.{based, front, Holding, reset-same, sized-as}
+use Rattle.image.specs.Fields.{Room}
 use Rattle.image.specs.Places.{records-small, entries-small}
 use Rattle.image.specs.Spread.{spread, Spread, spread-in, rewritten-range, fields-spread, records-spread}
 use Rattle.image.specs.Directions.{AxisReadable, AxisRead, read-base}
@@ -84,6 +85,19 @@ pub record AxesRead (outgoing incoming : List ℕ) (ce cn : ℕ) (bytes : List �
   pub sources : AxisRead outgoing ce cn n m bytes (edges-start n) (outs-start n m) outgoing'
   pub targets : AxisRead incoming ce cn n m bytes (edges-start n + least-width n) (ins-start n m) incoming'
 
+-- counts that were read
+pub payloads-of : {nodes edges bytes : List ℕ} {n m n' m' : ℕ} {nodes' edges' : List ℕ} → n ≡ n' → m ≡ m' → PayloadsRead nodes edges bytes n m nodes' edges'
+    → PayloadsRead nodes edges bytes n' m' nodes' edges'
+payloads-of {nodes} {edges} {bytes} {nodes' = nodes'} {edges'} a b r = subst₂ (λ (n m : ℕ). PayloadsRead nodes edges bytes n m nodes' edges') a b r
+
+pub axes-of : {outgoing incoming : List ℕ} {ce cn : ℕ} {bytes : List ℕ} {n m n' m' : ℕ} {outgoing' incoming' : List ℕ} → n ≡ n' → m ≡ m'
+    → AxesRead outgoing incoming ce cn bytes n m outgoing' incoming' → AxesRead outgoing incoming ce cn bytes n' m' outgoing' incoming'
+axes-of {outgoing} {incoming} {ce} {cn} {bytes} {outgoing' = outgoing'} {incoming'} a b r =
+    subst₂ (λ (n m : ℕ). AxesRead outgoing incoming ce cn bytes n m outgoing' incoming') a b r
+
+pub reset-of : {entry exit : List ℕ} {n n' : ℕ} → n ≡ n' → Reset entry n exit → Reset entry n' exit
+reset-of {entry} {exit} a r = subst (λ (n : ℕ). Reset entry n exit) a r
+
 -- What the bytes hold is in place.
 pub record Placed (w : Words) (bytes : List ℕ) (v : Words) : Type 0 where
   pub lengths : SameLengths w v
@@ -124,9 +138,12 @@ module _ {l : Lengths} {bytes : List ℕ} (a : Accepted l bytes) where
   rules : Readable bytes
   rules = readable bytes (a .image)
 
+  counted : Counted bytes
+  counted = rules .ended .padded .sized .counted
+
   -- the counts are there to be read
-  pub counts-there : Counted bytes
-  counts-there = rules .ended .padded .sized .counted
+  pub count-room : (position : ℕ) → position ≤ 16 → Room bytes position 16
+  count-room position h = let four = counted .four in record { narrow = omega arith; within = omega arith; counted = omega arith }
 
   -- the image is within the bytes
   whole : image-size n m ≤ 8 * length bytes
@@ -134,7 +151,7 @@ module _ {l : Lengths} {bytes : List ℕ} (a : Accepted l bytes) where
 
   -- and small
   small : image-size n m + 96 < 2 ^ 64
-  small = omega (arith, counts-there .nodes-within, counts-there .edges-within, records-small n m, entries-small m)
+  small = omega (arith, counted .nodes-within, counted .edges-within, records-small n m, entries-small m)
 
   pub payloads-readable : (nodes edges : List ℕ) → n ≤ length nodes → m ≤ length edges → PayloadsReadable nodes edges bytes n m
   payloads-readable nodes edges nodes-room edges-room = record {
