@@ -2,6 +2,7 @@ pub mod Fields
 pub mod Widths
 pub mod Wrote
 pub mod Replaced
+pub mod Checks
 pub mod Places
 pub mod Spread
 pub mod Directions

@@ -6,33 +6,11 @@ use mathlib.Core.List.{List, [], _∷_}
 use lib.ListN.{length}
 use lib.Dec.{eqb}
 use borrow.Author.Tests.{not-true, not-false}
-use Rattle.plain.specs.Lists.{member, distinct, all, keep}
-use Rattle.plain.specs.Laws.Booleans.{by-test, and-false, or-false}
+use Rattle.plain.specs.Lists.{member, keep}
+use Rattle.plain.specs.Laws.Booleans.{by-test, or-false}
 use Rattle.validate.specs.Passing.{passed}
-use Rattle.validate.specs.Marks.{marked, Marked, Entered, fresh, passes, Followed}
-use Rattle.validate.proofs.Fresh.{or-swap, fresh-more, fresh-marked}
-
-module _ (test marks : ℕ → Bool) where
-  -- nothing is left
-  passes-none : passes test marks [] ≡ true
-  unfolding passes all fresh distinct
-  passes-none = refl
-
-  module _ (e : ℕ) (l : List ℕ) where
-    -- an entry fails
-    passes-fails : test e ≡ false → passes test marks (e ∷ l) ≡ false
-    unfolding passes all
-    passes-fails h = rw h
-
-    -- an entry is marked
-    passes-marked : marks e ≡ true → passes test marks (e ∷ l) ≡ false
-    unfolding passes
-    passes-marked h = rw (fresh-marked marks e l h, and-false (all test (e ∷ l)))
-
-    -- an entry passes
-    passes-more : (more : ℕ → Bool) → ((i : ℕ) → more i ≡ (eqb i e || marks i)) → test e ≡ true → marks e ≡ false → passes test marks (e ∷ l) ≡ passes test more l
-    unfolding passes all
-    passes-more more step h new = rw (h, fresh-more marks more e l step new)
+use Rattle.validate.specs.Marks.{marked, Marked, Entered, passes, Followed}
+use Rattle.validate.specs.Fresh.{or-swap, passes-none, passes-fails, passes-marked, passes-more}
 
 -- Of a list of entries the rest is still to be followed; those before are marked.
 pub record Following (test : ℕ → Bool) (l seen₀ seen rest : List ℕ) : Type 0 where

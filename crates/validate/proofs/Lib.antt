@@ -2,7 +2,6 @@ pub mod Counting
 pub mod Indexing
 pub mod Ringing
 pub mod Marking
-pub mod Fresh
 pub mod Following
 pub mod Stepping
 pub mod Running

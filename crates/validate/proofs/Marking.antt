@@ -1,26 +1,16 @@
--- A clear map, and marking an edge: the two ways through `mark`.
+-- Marking an edge: the two ways through `mark`.
 use Prim.Native.Nat.{ℕ, _+_, _/_, _%_, _^_, _<_}
 use mathlib.Core.Path.{_≡_, refl, sym, ap, _∙_}
 use mathlib.Core.Bool.{true, false, _||_, not}
-use mathlib.Core.Logic.{⊎-elim}
 use mathlib.Core.List.{List}
-use lib.ListN.{length, getD, set, replicate, getD-replicate, length-replicate, List·getD-eq-default}
-use lib.Pow.{pow-pos}
+use lib.ListN.{length, getD, set}
 use lib.Dec.{eqb}
 use borrow.Author.Tests.{eq-eqb, eqb-true, eqb-false}
-use Rattle.plain.specs.Laws.Booleans.{by-test, below-or-not}
-use Rattle.liveness.specs.Flags.{bit, live-bit}
-use Rattle.liveness.specs.Bits.{bit-past, mark-here, mark-other}
+use Rattle.plain.specs.Laws.Booleans.{by-test}
+use Rattle.liveness.specs.Flags.{bit}
+use Rattle.liveness.specs.Bits.{mark-here, mark-other}
 use Rattle.liveness.specs.FlagLaws.{bit-in, bit-of, bit-other}
 use Rattle.validate.specs.Marks.{marked, Marked}
-
--- nothing is marked in a clear map
-pub clear-map : (n e : ℕ) → marked (replicate n 0) e ≡ false
-unfolding live-bit
-clear-map n e =
-    let word : _≡_ {A = ℕ} (getD (replicate n 0) (e / 64) 0) 0 =
-    ⊎-elim (λ l. getD-replicate n (e / 64) 0 0 l) (λ l. List·getD-eq-default (replicate n 0) 0 (rw (length-replicate {A = ℕ} n 0) l)) (below-or-not (e / 64) n) in
-    rw (word, bit-past 0 (e % 64) (pow-pos (e % 64)))
 
 module _ (words : List ℕ) (edge : ℕ) where
   -- what is marked: an edge that is marked in the end, where the others are as they were

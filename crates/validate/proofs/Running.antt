@@ -17,7 +17,7 @@ use Rattle.validate.specs.Passing.{slots-from, slots-more, slots-none}
 use Rattle.validate.specs.Marks.{marked, fresh, passes, Followed}
 use Rattle.validate.specs.Runs.{entry-test, ends-in}
 use Rattle.validate.proofs.Following.{follow-start, follow-done}
-use Rattle.validate.proofs.Fresh.{fresh-clear, fresh-append}
+use Rattle.validate.specs.Fresh.{fresh-clear, fresh-append}
 
 -- the run of a node with a mark is its chain
 pub run-chain : (ws : List ℕ) (ce cn x : ℕ) → (mark-at ws ce cn x ≡ 0 → ⊥) → chain (cell ws (3 * ce)) (count-at ws ce cn x) (first-at ws ce cn x) ≡ run-list ws ce cn x

@@ -2,6 +2,7 @@ pub mod Sizes
 pub mod Passing
 pub mod Rings
 pub mod Marks
+pub mod Fresh
 pub mod Runs
 pub mod Walks
 pub mod Broken

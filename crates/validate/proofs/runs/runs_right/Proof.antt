@@ -10,7 +10,7 @@ use Rattle.plain.specs.Lists.{distinct, from}
 use Rattle.liveness.specs.Flags.{live-flags}
 use Rattle.shape.specs.Rules.{runs-right}
 use Rattle.validate.specs.Marks.{marked}
-use Rattle.validate.proofs.Marking.{clear-map}
+use Rattle.validate.specs.Fresh.{clear-map}
 use Rattle.validate.proofs.Running.{tests-of, entries-of, runs-from, runs-first, runs-more, runs-fail, runs-none}
 use Rattle.validate.proofs.runs.runs_right.Statement.{statement}
 use Rattle.validate.proofs.runs.runs_right.Tie as tie

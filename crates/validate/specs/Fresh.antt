@@ -1,14 +1,27 @@
--- Lists of which no entry is marked and none comes twice: entry by entry, and list by list, where what is passed is marked.
-use Prim.Native.Nat.{ℕ}
+-- A clear map, and lists of which no entry is marked and none comes twice: entry by entry, and list by list, where what is passed is marked.
+use Prim.Native.Nat.{ℕ, _/_, _%_}
 use mathlib.Core.Path.{_≡_, refl, sym, ap, _∙_}
 use mathlib.Core.Bool.{Bool, true, false, _&&_, _||_, not}
+use mathlib.Core.Logic.{⊎-elim}
 use mathlib.Core.List.{List, [], _∷_, _++_}
+use lib.ListN.{getD, replicate, getD-replicate, length-replicate, List·getD-eq-default}
+use lib.Pow.{pow-pos}
 use lib.Dec.{eqb}
 use borrow.Author.Tests.{eq-eqb, ne-eqb, not-true}
 use Rattle.plain.specs.Lists.{member, distinct, all}
-use Rattle.plain.specs.Laws.Booleans.{by-test, same-truth, true-false, refuted, and-left, and-right, both-true, and-false, and-true, or-true, or-false}
+use Rattle.plain.specs.Laws.Booleans.{by-test, below-or-not, same-truth, true-false, refuted, and-left, and-right, both-true, and-false, and-true, or-true, or-false}
 use Rattle.plain.specs.Laws.ListLaws.{all-of, all-member}
-use Rattle.validate.specs.Marks.{fresh}
+use Rattle.liveness.specs.Flags.{live-bit}
+use Rattle.liveness.specs.Bits.{bit-past}
+use Rattle.validate.specs.Marks.{marked, fresh, passes}
+
+-- nothing is marked in a clear map
+pub clear-map : (n e : ℕ) → marked (replicate n 0) e ≡ false
+unfolding live-bit
+clear-map n e =
+    let word : _≡_ {A = ℕ} (getD (replicate n 0) (e / 64) 0) 0 =
+    ⊎-elim (λ l. getD-replicate n (e / 64) 0 0 l) (λ l. List·getD-eq-default (replicate n 0) 0 (rw (length-replicate {A = ℕ} n 0) l)) (below-or-not (e / 64) n) in
+    rw (word, bit-past 0 (e % 64) (pow-pos (e % 64)))
 
 -- the order of three alternatives does not matter
 pub or-swap : (a b c : Bool) → (b || (a || c)) ≡ ((a || b) || c)
@@ -77,3 +90,27 @@ fresh-append marks more (e ∷ xs) ys h =
   where
     here : ℕ → Bool
     here i = eqb i e || marks i
+
+-- ---- entries that pass a test besides
+
+module _ (test marks : ℕ → Bool) where
+  -- nothing is left
+  pub passes-none : passes test marks [] ≡ true
+  unfolding passes all fresh distinct
+  passes-none = refl
+
+  module _ (e : ℕ) (l : List ℕ) where
+    -- an entry fails
+    pub passes-fails : test e ≡ false → passes test marks (e ∷ l) ≡ false
+    unfolding passes all
+    passes-fails h = rw h
+
+    -- an entry is marked
+    pub passes-marked : marks e ≡ true → passes test marks (e ∷ l) ≡ false
+    unfolding passes
+    passes-marked h = rw (fresh-marked marks e l h, and-false (all test (e ∷ l)))
+
+    -- an entry passes
+    pub passes-more : (more : ℕ → Bool) → ((i : ℕ) → more i ≡ (eqb i e || marks i)) → test e ≡ true → marks e ≡ false → passes test marks (e ∷ l) ≡ passes test more l
+    unfolding passes all
+    passes-more more step h new = rw (h, fresh-more marks more e l step new)

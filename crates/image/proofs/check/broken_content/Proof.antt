@@ -1,0 +1,93 @@
+-- `image::check::broken_content` meets its contract: each part stands where it is read, and the tests are those of rules 4 to 6.
+use native.Mathlib.Omega.{arith}
+use borrow.Author.Needs.{needs}
+use Rattle.validate.specs.Passing.{refused, accepted}
+use Rattle.image.proofs.Checking.{Standing, standing, padding-set, source-astray, target-astray, outs-wrong, ins-wrong, all-right}
+use Rattle.image.proofs.check.broken_content.Statement.{statement}
+use Rattle.image.proofs.check.broken_content.Tie as tie
+
+abbrev start : tie.After-outs-start → tie.Start
+start c = c .before .before .before .before .before
+
+-- what is read stands in the bytes
+stands : (c : tie.After-outs-start)
+    → let a = start c .args in
+    Standing (a .bytes .now) (a .n) (a .m) (c .before .before .before .least-width .result) (c .before .before .least-width2 .result) (c .outs-start .result)
+    (c .before .lists-size .result)
+stands c =
+    standing (start c .pre) (c .before .before .before .least-width .ensures) (c .before .before .least-width2 .ensures) (c .before .lists-size .ensures)
+    (c .outs-start .ensures)
+
+returns : tie.Need-returns
+returns c = let p = c .before in padding-set (stands (p .before) .decides) (refused (p .padding-clear .ensures) (c .if1 .taken))
+
+returns-2 : tie.Need-returns-2
+returns-2 c =
+    let s = c .before in
+    let p = s .before .before in
+    source-astray (stands (p .before) .decides) (accepted (p .padding-clear .ensures) (s .before .if1 .left)) (refused (s .ends-below .ensures) (c .if2 .taken))
+
+returns-3 : tie.Need-returns-3
+returns-3 c =
+    let t = c .before in
+    let s = t .before .before in
+    let p = s .before .before in
+    target-astray (stands (p .before) .decides) (accepted (p .padding-clear .ensures) (s .before .if1 .left)) (accepted (s .ends-below .ensures) (t .before .if2 .left))
+    (refused (t .ends-below2 .ensures) (c .if3 .taken))
+
+returns-4 : tie.Need-returns-4
+returns-4 c =
+    let o = c .before in
+    let t = o .before .before in
+    let s = t .before .before in
+    let p = s .before .before in
+    outs-wrong (stands (p .before) .decides) (accepted (p .padding-clear .ensures) (s .before .if1 .left)) (accepted (s .ends-below .ensures) (t .before .if2 .left))
+    (accepted (t .ends-below2 .ensures) (o .before .if3 .left)) (refused (o .lists-right .ensures) (c .if4 .taken))
+
+returns-5 : tie.Need-returns-5
+returns-5 c =
+    let i = c .before in
+    let o = i .before .before in
+    let t = o .before .before in
+    let s = t .before .before in
+    let p = s .before .before in
+    ins-wrong (stands (p .before) .decides) (accepted (p .padding-clear .ensures) (s .before .if1 .left)) (accepted (s .ends-below .ensures) (t .before .if2 .left))
+    (accepted (t .ends-below2 .ensures) (o .before .if3 .left)) (accepted (o .lists-right .ensures) (i .before .if4 .left))
+    (refused (i .lists-right2 .ensures) (c .if5 .taken))
+
+returns-6 : tie.Need-returns-6
+returns-6 c =
+    let i = c .before in
+    let o = i .before .before in
+    let t = o .before .before in
+    let s = t .before .before in
+    let p = s .before .before in
+    all-right (stands (p .before) .decides) (accepted (p .padding-clear .ensures) (s .before .if1 .left)) (accepted (s .ends-below .ensures) (t .before .if2 .left))
+    (accepted (t .ends-below2 .ensures) (o .before .if3 .left)) (accepted (o .lists-right .ensures) (i .before .if4 .left))
+    (accepted (i .lists-right2 .ensures) (c .if5 .left))
+
+pub broken-content-spec : {M : Type 1} → statement M
+broken-content-spec =
+    tie.close
+    (tie.spec
+    (λ c κs. search needs)
+    (λ c κs. search needs)
+    (λ c. search needs)
+    (λ c. search needs)
+    (λ c. search needs)
+    (λ c. search needs)
+    (λ c κs. search needs)
+    (λ c κs. search needs)
+    (λ c. omega (arith, stands c .filled))
+    (λ c. omega (arith, stands c .filled))
+    (λ c κs. stands c .filled)
+    returns
+    (λ c κs. stands (c .before .before) .out-entries .ends)
+    returns-2
+    (λ c κs. stands (c .before .before .before .before) .in-entries .ends)
+    returns-3
+    (λ c κs. stands (c .before .before .before .before .before .before) .out-entries)
+    returns-4
+    (λ c κs. stands (c .before .before .before .before .before .before .before .before) .in-entries)
+    returns-5
+    returns-6)

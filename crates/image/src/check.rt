@@ -1,0 +1,150 @@
+// The check of an image's bytes, before anything is written: the first broken rule of document 01's number 12. Rule 6 is checked by one pass over the joined
+// entries of a direction: they are right exactly when they are below m, none comes twice, and their ends do not descend. As in document 01, w is the width of a
+// node's number and v that of an edge's.
+
+use crate::bits::least_width;
+use crate::bits::read_field;
+use plain::LIMIT;
+use validate::marks::mark;
+ghost use mathlib.Core.Path.{_≡_};
+ghost use Prim.Native.Nat.{_+_, _-_, _*_};
+ghost use lib.ListN.{length};
+ghost use lib.Dec.{eqb};
+ghost use Rattle.plain.specs.Bits.{field-at, fields-at, least-width};
+ghost use Rattle.plain.specs.Image.{outs-start, image-size, broken-image};
+ghost use Rattle.image.specs.Checks.{Few, Filled, Ends, Entries, Whole, end-in, ends-within, ordered};
+
+// The bit at which the joined out-lists of an image of n nodes and m edges start.
+fn outs_start(n: u32, m: u32) -> usize
+    requires { ⌜ Few n m ⌝ }
+    ensures { λ r. ⌜ r ≡ outs-start n m ⌝ }
+{
+    let w = least_width(n) as usize;
+    32 + 32 * n as usize + (2 * w + 32) * m as usize
+}
+
+// The bits of the joined lists of one direction.
+fn lists_size(m: u32) -> usize
+    requires { ⌜ Few 0 m ⌝ }
+    ensures { λ r. ⌜ r ≡ least-width m * m ⌝ }
+{
+    least_width(m) as usize * m as usize
+}
+
+// The bits of an image before its padding.
+fn image_size(n: u32, m: u32) -> usize
+    requires { ⌜ Few n m ⌝ }
+    ensures { λ r. ⌜ r ≡ image-size n m ⌝ }
+{
+    outs_start(n, m) + 2 * lists_size(m)
+}
+
+// Rule 4: the bits after the last field are 0.
+fn padding_clear(bytes: &[u8], size: usize) -> bool
+    requires { ⌜ Filled (now bytes) size ⌝ }
+    ensures { λ r. ⌜ r ≡ eqb (field-at (now (bytes .entry)) size (8 * length (now (bytes .entry)) - size)) 0 ⌝ }
+{
+    read_field(bytes, size, (8 * bytes.len() - size) as u32) == 0
+}
+
+// The end of an edge, of the direction whose first end stands at bit `at`.
+fn end_of(bytes: &[u8], at: usize, w: u32, edge: u32) -> u32
+    requires { ⌜ Ends (now bytes) at w (edge + 1) ⌝ }
+    ensures { λ r. ⌜ r ≡ end-in (now (bytes .entry)) at w edge ⌝ }
+{
+    read_field(bytes, at + (2 * w as usize + 32) * edge as usize, w)
+}
+
+// Rule 5 of one direction: the ends of the m edges are below n.
+fn ends_below(bytes: &[u8], at: usize, w: u32, n: u32, m: u32) -> bool
+    requires { ⌜ Ends (now bytes) at w m ⌝ }
+    ensures { λ r. ⌜ r ≡ ends-within (now (bytes .entry)) at w n m ⌝ }
+{
+    let mut edge: u32 = 0;
+    while edge < m {
+        if end_of(bytes, at, w, edge) >= n {
+            return false;
+        }
+        edge += 1;
+    }
+    true
+}
+
+// Rule 6 of one direction: the m entries from bit `list` on are below m, none comes twice, and their ends, the first of which stands at bit `ends`, do not descend.
+fn lists_right(bytes: &[u8], ends: usize, w: u32, list: usize, v: u32, m: u32) -> bool
+    requires { ⌜ Entries (now bytes) ends w list v m ⌝ }
+    ensures { λ r. ⌜ r ≡ ordered (end-in (now (bytes .entry)) ends w) m (fields-at (now (bytes .entry)) list v m) ⌝ }
+{
+    let mut seen = [0u64; 512];
+    let mut last: u32 = 0;
+    let mut at = list;
+    let mut i: u32 = 0;
+    while i < m {
+        let edge = read_field(bytes, at, v);
+        if edge >= m {
+            return false;
+        }
+        let end = end_of(bytes, ends, w, edge);
+        if end < last {
+            return false;
+        }
+        if !mark(&mut seen, edge as usize) {
+            return false;
+        }
+        last = end;
+        at += v as usize;
+        i += 1;
+    }
+    true
+}
+
+// Rules 4 to 6, of bytes whose counts and length are right: the first broken one, or 0.
+fn broken_content(bytes: &[u8], n: u32, m: u32) -> u32
+    requires { ⌜ Whole (now bytes) n m ⌝ }
+    ensures { λ r. ⌜ r ≡ broken-image (now (bytes .entry)) ⌝ }
+{
+    let w = least_width(n);
+    let v = least_width(m);
+    let sources = 32 + 32 * n as usize;
+    let targets = sources + w as usize;
+    let size = lists_size(m);
+    let outs = outs_start(n, m);
+    let ins = outs + size;
+    if !padding_clear(bytes, ins + size) {
+        return 4;
+    }
+    if !ends_below(bytes, sources, w, n, m) {
+        return 5;
+    }
+    if !ends_below(bytes, targets, w, n, m) {
+        return 5;
+    }
+    if !lists_right(bytes, sources, w, outs, v, m) {
+        return 6;
+    }
+    if !lists_right(bytes, targets, w, ins, v, m) {
+        return 6;
+    }
+    0
+}
+
+// The first broken rule of an image's bytes, 1 to 6, or 0 where they are an image. Any bytes may be handed in.
+pub fn first_broken(bytes: &[u8]) -> u32
+    ensures { λ r. ⌜ r ≡ broken-image (now (bytes .entry)) ⌝ }
+{
+    if bytes.len() < 4 {
+        return 1;
+    }
+    let n = read_field(bytes, 0, 16);
+    let m = read_field(bytes, 16, 16);
+    if n > LIMIT {
+        return 2;
+    }
+    if m > LIMIT {
+        return 2;
+    }
+    if bytes.len() != (image_size(n, m) + 7) / 8 {
+        return 3;
+    }
+    broken_content(bytes, n, m)
+}
