@@ -1,7 +1,7 @@
 -- The answer of a reading, by the lengths of the memory and the bytes. "Reading: 13, 12, 2 (13 and 2 nodes before edges, a payload slice shorter than its count
 -- being too short, then the other slices)."
 use Prim.Native.Nat.{ℕ, zero, suc, _≤_, _<_}
-use mathlib.Core.Path.{_≡_, refl, sym, ap, _∙_}
+use mathlib.Core.Path.{_≡_, refl, sym, ap, ap₂, _∙_}
 use mathlib.Core.Bool.{cond}
 use mathlib.Core.Logic.{_⊎_, inl, inr, ⊎-elim}
 use mathlib.Core.List.{List, [], _∷_}
@@ -35,34 +35,30 @@ lacking needs has rest = cond (leb needs has) rest (record { number = too-short;
 abbrev pub in-order : Answer
 in-order = record { number = done; value = 0 }
 
--- the first slice is judged, then the others
-first-lacking : (needs has : ℕ) (slices : List Slice)
-    → lacking needs has (short-answer (first-short slices)) ≡ short-answer (first-short (record { needs = needs; has = has } ∷ slices))
+-- the first slice is judged after the others
+then-lacking : (needs has : ℕ) (slices : List Slice) {rest answer : Answer} → rest ≡ short-answer (first-short slices) → answer ≡ lacking needs has rest
+    → answer ≡ short-answer (first-short (record { needs = needs; has = has } ∷ slices))
 unfolding lacking first-short
-first-lacking needs has slices = by-test (leb needs has) (λ q. rw q) (λ q. rw q)
+then-lacking needs has slices is judged = judged ∙ by-test (leb needs has) (λ q. rw (q, is)) (λ q. rw q)
 
 -- the memory of a store and an image of n nodes and m edges
-pub all-lacking : (n m : ℕ) (l : Lengths)
-    → lacking n (l .capacities .nodes) (lacking m (l .capacities .edges) (lacking (live-words (l .capacities .nodes)) (l .live-nodes)
-    (lacking (live-words (l .capacities .edges)) (l .live-edges) (lacking (axis-words (l .capacities)) (l .outgoing)
-    (lacking (axis-words (l .capacities)) (l .incoming) in-order)))))
-    ≡ short-answer (first-short (reading-slices n m l))
+pub all-lacking : (n m : ℕ) (l : Lengths) {incoming outgoing live-edges live-nodes edges nodes : Answer} → incoming ≡ lacking (axis-words (l .capacities)) (l .incoming) in-order
+    → outgoing ≡ lacking (axis-words (l .capacities)) (l .outgoing) incoming → live-edges ≡ lacking (live-words (l .capacities .edges)) (l .live-edges) outgoing
+    → live-nodes ≡ lacking (live-words (l .capacities .nodes)) (l .live-nodes) live-edges → edges ≡ lacking m (l .capacities .edges) live-nodes
+    → nodes ≡ lacking n (l .capacities .nodes) edges → nodes ≡ short-answer (first-short (reading-slices n m l))
 unfolding first-short
-all-lacking n m l =
+all-lacking n m l a b c d e f =
     let caps = l .capacities in
     let ins : List Slice = record { needs = axis-words caps; has = l .incoming } ∷ [] in
     let outs : List Slice = record { needs = axis-words caps; has = l .outgoing } ∷ ins in
     let live-edges : List Slice = record { needs = live-words (caps .edges); has = l .live-edges } ∷ outs in
     let live-nodes : List Slice = record { needs = live-words (caps .nodes); has = l .live-nodes } ∷ live-edges in
     let edges : List Slice = record { needs = m; has = caps .edges } ∷ live-nodes in
-    rw (
-      first-lacking (axis-words caps) (l .incoming) [],
-      first-lacking (axis-words caps) (l .outgoing) ins,
-      first-lacking (live-words (caps .edges)) (l .live-edges) outs,
-      first-lacking (live-words (caps .nodes)) (l .live-nodes) live-edges,
-      first-lacking m (caps .edges) live-nodes,
-      first-lacking n (caps .nodes) edges,
-    )
+    then-lacking n (caps .nodes) edges
+    (then-lacking m (caps .edges) live-nodes
+    (then-lacking (live-words (caps .nodes)) (l .live-nodes) live-edges
+    (then-lacking (live-words (caps .edges)) (l .live-edges) outs
+    (then-lacking (axis-words caps) (l .outgoing) ins (then-lacking (axis-words caps) (l .incoming) [] refl a) b) c) d) e) f
 
 -- ---- the cases
 
@@ -82,9 +78,12 @@ module _ (l : Lengths) (bytes : List ℕ) where
       bytes-refused zero is broke = absurd (broke refl)
       bytes-refused (suc rule) is broke = read-broken limits above-limit l few-nodes few-edges bytes rule (sym is)
 
-      pub bytes-accepted : broken-image bytes ≡ 0 → read-image l bytes ≡ short-answer (first-short (reading-slices (nodes-in bytes) (edges-in bytes) l))
+      pub bytes-accepted : {rule : ℕ} (n m : ℕ) {answer : Answer} → rule ≡ broken-image bytes → rule ≡ 0 → n ≡ nodes-in bytes → m ≡ edges-in bytes
+          → answer ≡ short-answer (first-short (reading-slices n m l)) → answer ≡ read-image l bytes
       unfolding read-image read-within
-      bytes-accepted q = within-limits limits above-limit (l .capacities) _ few-nodes few-edges ∙ rw q
+      bytes-accepted n m is none nodes edges answered =
+          answered ∙ ap₂ (λ (n m : ℕ). short-answer (first-short (reading-slices n m l))) nodes edges
+          ∙ sym (within-limits limits above-limit (l .capacities) _ few-nodes few-edges ∙ rw (sym is ∙ none))
 
 -- ---- where the number is 0
 

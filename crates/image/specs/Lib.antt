@@ -9,3 +9,4 @@ pub mod Directions
 pub mod Reading
 pub mod Answering
 pub mod Calls
+pub mod ReadCases

@@ -128,6 +128,12 @@ end-below f n m are below e h =
 
 -- ---- what the calls ask
 
+-- the counts are there to be read
+pub count-room : (bytes : List ℕ) → broken-image bytes ≡ 0 → (position : ℕ) → position ≤ 16 → Room bytes position 16
+count-room bytes image position h =
+    let four = readable bytes image .ended .padded .sized .counted .four in
+    record { narrow = omega arith; within = omega arith; counted = omega arith }
+
 module _ {l : Lengths} {bytes : List ℕ} (a : Accepted l bytes) where
   abbrev n : ℕ
   n = nodes-in bytes
@@ -140,10 +146,6 @@ module _ {l : Lengths} {bytes : List ℕ} (a : Accepted l bytes) where
 
   counted : Counted bytes
   counted = rules .ended .padded .sized .counted
-
-  -- the counts are there to be read
-  pub count-room : (position : ℕ) → position ≤ 16 → Room bytes position 16
-  count-room position h = let four = counted .four in record { narrow = omega arith; within = omega arith; counted = omega arith }
 
   -- the image is within the bytes
   whole : image-size n m ≤ 8 * length bytes

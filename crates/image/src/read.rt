@@ -16,6 +16,7 @@ use plain::numbers;
 ghost use mathlib.Core.Path.{_≡_};
 ghost use Prim.Native.Nat.{_≤_};
 ghost use Rattle.plain.specs.Bits.{fields-at};
+ghost use Rattle.plain.specs.Numbers.{LIMIT};
 ghost use Rattle.plain.specs.Memory.{first-short};
 ghost use Rattle.plain.specs.Calls.{short-answer, reading-slices, read-image};
 ghost use Rattle.shape.specs.Shape.{store};
@@ -118,15 +119,7 @@ fn read_payloads(
     let stride = places::record_width(count_nodes);
     let payloads = places::edges_start(count_nodes) + (width + width);
     read_fields(bytes, 32, 32, 32, nodes, 0, count_nodes as usize);
-    read_fields(
-        bytes,
-        payloads,
-        stride,
-        32,
-        edges,
-        0,
-        count_edges as usize,
-    );
+    read_fields(bytes, payloads, stride, 32, edges, 0, count_edges as usize);
 }
 
 // Reads both directions. `edges` and `nodes` are the capacities.
@@ -322,7 +315,13 @@ pub fn read_image(
         };
     }
     let after = place(
-        nodes, edges, live_nodes, live_edges, outgoing, incoming, bytes,
+        nodes,
+        edges,
+        live_nodes,
+        live_edges,
+        outgoing,
+        incoming,
+        bytes,
     );
     Changed {
         number,

@@ -26,10 +26,10 @@ abbrev live : tie.After-reset-all-live2 → tie.After-reset-all-live
 live c = c .before .before .before .before
 
 read-field-requires : tie.Need-read-field-requires
-read-field-requires c κs = count-room (c .before .before .before .before .before .before .before .pre) 0 (omega arith)
+read-field-requires c κs = count-room _ (c .before .before .before .before .before .before .before .pre .image) 0 (omega arith)
 
 read-field-requires-2 : tie.Need-read-field-requires-2
-read-field-requires-2 c κs = count-room (entry c .pre) 16 (omega arith)
+read-field-requires-2 c κs = count-room _ (entry c .pre .image) 16 (omega arith)
 
 read-axes-requires : tie.Need-read-axes-requires
 read-axes-requires c κs =

@@ -35,8 +35,7 @@ add-from c =
 loop-again : tie.Need-loop-again Inv-loop μ-loop
 loop-again c =
     let l = c .before .before .loop in
-    let a = c .before .before .before .before .before .args in
-    (
+    let a = c .before .before .before .before .before .args in (
       omega arith,
       (
         omega (arith, l .inv .1 .0, further (a .position) (a .stride) (l .i)),
