@@ -3,7 +3,7 @@
 use Prim.Native.Nat.{ℕ, zero, suc, _≤_, _<_}
 use mathlib.Core.Path.{_≡_, refl, sym, ap, ap₂, _∙_}
 use mathlib.Core.Bool.{cond}
-use mathlib.Core.Logic.{_⊎_, inl, inr, ⊎-elim}
+use mathlib.Core.Logic.{⊎-elim}
 use mathlib.Core.List.{List, [], _∷_}
 use native.Mathlib.Omega.{arith}
 use lib.Dec.{leb}
@@ -11,20 +11,10 @@ use Rattle.plain.specs.declared.Answer.{Answer}
 use Rattle.plain.specs.Numbers.{LIMIT, done, too-short, above-limit}
 use Rattle.plain.specs.Image.{broken-image, nodes-in, edges-in}
 use Rattle.plain.specs.Memory.{Slice, first-short, Lengths, live-words, axis-words}
-use Rattle.plain.specs.Calls.{short-answer, limits, readable, reading-slices, read-within, read-image}
+use Rattle.plain.specs.Calls.{short-answer, limits, reading-slices, read-within, read-image}
 use Rattle.plain.specs.Laws.Booleans.{by-test, below-or-not}
 use Rattle.plain.specs.Laws.CallCases.{LongEnough, slice-fits, no-slice, FirstShort, long-or-short, nodes-above, edges-above, within-limits, read-broken, read-short}
 use Rattle.image.specs.Reading.{Accepted}
-
--- the lengths of a store's slices, in parameter order
-abbrev pub lengths : ℕ → ℕ → ℕ → ℕ → ℕ → ℕ → Lengths
-lengths nodes edges live-nodes live-edges outgoing incoming = record {
-  capacities = record { nodes = nodes; edges = edges };
-  live-nodes = live-nodes;
-  live-edges = live-edges;
-  outgoing = outgoing;
-  incoming = incoming;
-}
 
 -- ---- too short a slice
 

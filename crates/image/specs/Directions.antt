@@ -18,7 +18,7 @@ use Rattle.shape.specs.Laws.Indexing.{Rewritten, rewritten-as, before, ends-of}
 use Rattle.shape.specs.Laws.NewBase.{NewBase}
 use Rattle.adjacency.specs.Index.{Compressible}
 use Rattle.compact.specs.Bases.{Rebuildable, Rebuilt, rebuilt-base}
-use Rattle.image.specs.Spread.{spread, Spread, spread-as, rewritten-range, field-spread}
+use Rattle.image.specs.Spread.{spread, Spread, spread-as, rewritten-range, fields-spread, spread-at}
 
 -- ---- the base, once the ends are there
 
@@ -39,7 +39,8 @@ module _ {ws : List ℕ} {ce cn n m : ℕ} {bytes : List ℕ} {position width : 
     copied = b;
     emptied = c;
     offsets = offsets;
-    lists = rewritten-as (λ i. getD (fields-at bytes position width m) i 0) lists (λ i h. sym (field-spread bytes position width m i h));
+    lists = rewritten-as (λ i. getD (fields-at bytes position width m) i 0) lists
+        (λ i h. sym (spread-at (spread bytes position width width) m (fields-spread bytes position width m) i h));
     rings = rings;
     marks = marks;
   }

@@ -3,24 +3,22 @@ use Prim.Native.Nat.{ℕ, _+_, _*_, _^_, _≤_, _<_}
 use mathlib.Core.Path.{_≡_, refl, sym, ap, ap₂, subst, subst₂, _∙_}
 use mathlib.Core.List.{List, map}
 use native.Mathlib.Omega.{arith}
-use native.Mathlib.Nat.{zero-add, add-zero}
+use native.Mathlib.Nat.{add-zero}
 use lib.ListN.{length, getD}
 use Rattle.plain.specs.declared.TraversalDirection.{TraversalDirection}
 use Rattle.plain.specs.declared.TraversalDirection.the-variants.{Outgoing, Incoming}
 use Rattle.plain.specs.declared.Counts.{Counts}
 use Rattle.plain.specs.Numbers.{LIMIT}
 use Rattle.plain.specs.Lists.{from}
-use Rattle.plain.specs.Bits.{field-at, fields-at, least-width}
+use Rattle.plain.specs.Bits.{fields-at, least-width}
 use Rattle.plain.specs.Compaction.{EdgeRecord, source-of, target-of}
-use Rattle.plain.specs.Image.{record-width, nodes-in, edges-in, edges-start, outs-start, ins-start, image-size, records-at, cut, list-lengths, parsed, broken-image}
+use Rattle.plain.specs.Image.{record-width, nodes-in, edges-in, edges-start, outs-start, ins-start, image-size, cut, list-lengths, parsed, broken-image}
 use Rattle.plain.specs.Memory.{Lengths, live-words, axis-words}
-use Rattle.plain.specs.Laws.ListLaws.{length-from, getD-from, getD-map}
 use Rattle.plain.specs.Laws.Bits.{length-fields-at}
 use Rattle.plain.specs.Laws.Below.{below-of}
 use Rattle.plain.specs.Laws.Cutting.{joined-cut, sum-list-lengths}
 use Rattle.plain.specs.Laws.Width.{width-most}
 use Rattle.plain.specs.Laws.WellFormed.{Fitted, Sound}
-use Rattle.plain.specs.Laws.ImageBits.{payload-of}
 use Rattle.plain.specs.Laws.Refusals.{Counted, Readable, readable, length-edges-in}
 use Rattle.plain.specs.Laws.ImageLaws.{nodes-length, edges-length, parsed-sound}
 use Rattle.liveness.specs.Calls.{Reset}
@@ -32,19 +30,19 @@ use Rattle.store.specs.Operations.{SameLengths}
 use Rattle.compact.specs.Holding.{based, front, Holding, reset-same, sized-as}
 use Rattle.image.specs.Fields.{Room}
 use Rattle.image.specs.Places.{records-small, entries-small}
-use Rattle.image.specs.Spread.{spread, Spread, spread-in, rewritten-range, fields-spread, records-spread}
+use Rattle.image.specs.Spread.{spread, Spread, spread-in, rewritten-range, fields-spread, spread-at, sources-spread, targets-spread, payloads-spread}
 use Rattle.image.specs.Directions.{AxisReadable, AxisRead, read-base}
 
 -- ---- what is asked
 
--- the lengths of six slices, in parameter order
-abbrev pub memory : List ℕ → List ℕ → List ℕ → List ℕ → List ℕ → List ℕ → Lengths
-memory nodes edges live-nodes live-edges outgoing incoming = record {
-  capacities = record { nodes = length nodes; edges = length edges };
-  live-nodes = length live-nodes;
-  live-edges = length live-edges;
-  outgoing = length outgoing;
-  incoming = length incoming;
+-- the lengths of a store's slices, in parameter order
+abbrev pub lengths : ℕ → ℕ → ℕ → ℕ → ℕ → ℕ → Lengths
+lengths nodes edges live-nodes live-edges outgoing incoming = record {
+  capacities = record { nodes = nodes; edges = edges };
+  live-nodes = live-nodes;
+  live-edges = live-edges;
+  outgoing = outgoing;
+  incoming = incoming;
 }
 
 -- None of the refusals of a reading holds: 13, 12, 2.
@@ -107,25 +105,6 @@ pub record Placed (w : Words) (bytes : List ℕ) (v : Words) : Type 0 where
   pub live-nodes : Reset (w .live-nodes) (nodes-in bytes) (v .live-nodes)
   pub live-edges : Reset (w .live-edges) (edges-in bytes) (v .live-edges)
 
--- ---- the ends of the records
-
-sources-spread : (bytes : List ℕ) (w p m : ℕ) → map (spread bytes p (record-width w) w) (from 0 m) ≡ map source-of (records-at bytes p w m)
-sources-spread bytes w p m =
-    ap (λ (z : ℕ). map (spread bytes z (record-width w) w) (from 0 m)) (sym (add-zero p))
-    ∙ records-spread source-of 0 w bytes w (λ p. ap (λ (z : ℕ). field-at bytes z w) (sym (add-zero p))) p m
-
-targets-spread : (bytes : List ℕ) (w p m : ℕ) → map (spread bytes (p + w) (record-width w) w) (from 0 m) ≡ map target-of (records-at bytes p w m)
-targets-spread bytes w p m = records-spread target-of w w bytes w (λ p. refl) p m
-
-payloads-spread : (bytes : List ℕ) (w p m : ℕ) → map (spread bytes (p + (w + w)) (record-width w) 32) (from 0 m) ≡ map payload-of (records-at bytes p w m)
-payloads-spread bytes w p m = records-spread payload-of (w + w) 32 bytes w (λ p. refl) p m
-
--- each of them is below n where they all are
-end-below : (f : ℕ → ℕ) (n m : ℕ) {ends : List ℕ} → map f (from 0 m) ≡ ends → ((e : ℕ) → e < m → getD ends e 0 < n) → (e : ℕ) → e < m → f e < n
-end-below f n m are below e h =
-    subst (λ (z : ℕ). z < n)
-    (ap (λ (l : List ℕ). getD l e 0) (sym are) ∙ getD-map f (from 0 m) e 0 0 (rw (length-from 0 m) h) ∙ ap f (getD-from 0 m e 0 h ∙ zero-add e)) (below e h)
-
 -- ---- what the calls ask
 
 -- the counts are there to be read
@@ -162,6 +141,10 @@ module _ {l : Lengths} {bytes : List ℕ} (a : Accepted l bytes) where
         (omega arith) (omega arith) (omega (arith, whole)) (omega (arith, small, width-most n)) (omega arith);
   }
 
+  -- each end is below n where they all are
+  end-below : (f : ℕ → ℕ) {ends : List ℕ} → map f (from 0 m) ≡ ends → ((e : ℕ) → e < m → getD ends e 0 < n) → (e : ℕ) → e < m → f e < n
+  end-below f are below e h = subst (λ (z : ℕ). z < n) (spread-at f m are e h) (below e h)
+
   -- one direction: of each record the field of a node's number at bit k, and the entries from bit `lists` on
   axis-readable : (ws : List ℕ) (k ends lists : ℕ) → axis-words (l .capacities) ≤ length ws → ends ≡ edges-start n + k → k ≤ least-width n
       → lists + least-width m * m ≤ image-size n m → ((e : ℕ) → e < m → spread bytes ends (record-width (least-width n)) (least-width n) e < n)
@@ -182,10 +165,10 @@ module _ {l : Lengths} {bytes : List ℕ} (a : Accepted l bytes) where
   unfolding parsed
   axes-readable outgoing incoming out-room in-room = record {
     sources = axis-readable outgoing 0 (edges-start n) (outs-start n m) out-room (sym (add-zero (edges-start n))) (omega arith) (omega arith)
-        (end-below (spread bytes (edges-start n) (record-width (least-width n)) (least-width n)) n m (sources-spread bytes (least-width n) (edges-start n) m)
+        (end-below (spread bytes (edges-start n) (record-width (least-width n)) (least-width n)) (sources-spread bytes (least-width n) (edges-start n) m)
         (rules .ended .sources-below));
     targets = axis-readable incoming (least-width n) (edges-start n + least-width n) (ins-start n m) in-room refl (omega arith) (omega arith)
-        (end-below (spread bytes (edges-start n + least-width n) (record-width (least-width n)) (least-width n)) n m
+        (end-below (spread bytes (edges-start n + least-width n) (record-width (least-width n)) (least-width n))
         (targets-spread bytes (least-width n) (edges-start n) m) (rules .ended .targets-below));
   }
 

@@ -3,13 +3,14 @@ use Prim.Native.Nat.{ℕ, zero, suc, _+_, _*_, _^_, _≤_, _<_}
 use mathlib.Core.Path.{_≡_, refl, sym, ap, ap₂, _∙_}
 use mathlib.Core.List.{List, _∷_, map, map-map}
 use native.Mathlib.Omega.{arith}
-use native.Mathlib.Nat.{mul-le-mul-left, mul-zero, mul-suc, zero-add}
+use native.Mathlib.Nat.{mul-le-mul-left, mul-zero, mul-suc, add-zero, zero-add}
 use lib.ListN.{length, getD}
 use Rattle.plain.specs.Lists.{from}
 use Rattle.plain.specs.Bits.{field-at, fields-at}
-use Rattle.plain.specs.Compaction.{EdgeRecord}
+use Rattle.plain.specs.Compaction.{EdgeRecord, source-of, target-of}
 use Rattle.plain.specs.Image.{record-width, payload-at, records-at}
 use Rattle.plain.specs.Laws.ListLaws.{length-from, getD-from, getD-map, from-suc}
+use Rattle.plain.specs.Laws.ImageBits.{payload-of}
 use Rattle.shape.specs.Laws.Indexing.{Rewritten, map-from-same}
 use Rattle.compact.specs.Holding.{front}
 use Rattle.image.specs.Fields.{Room}
@@ -83,18 +84,17 @@ unfolding fields-at from
 fields-spread bytes p w zero = refl
 fields-spread bytes p w (suc n) = spread-first bytes p w w n ∙ ap (λ (l : List ℕ). field-at bytes p w ∷ l) (fields-spread bytes (p + w) w n)
 
--- field number i of them
-pub field-spread : (bytes : List ℕ) (p w n i : ℕ) → i < n → getD (fields-at bytes p w n) i 0 ≡ spread bytes p w w i
-field-spread bytes p w n i h =
-    ap (λ (l : List ℕ). getD l i 0) (sym (fields-spread bytes p w n))
-    ∙ getD-map (spread bytes p w w) (from 0 n) i 0 0 (rw (length-from 0 n) h) ∙ ap (spread bytes p w w) (getD-from 0 n i 0 h ∙ zero-add i)
+-- number e of a list that they make
+pub spread-at : (f : ℕ → ℕ) (m : ℕ) {column : List ℕ} → map f (from 0 m) ≡ column → (e : ℕ) → e < m → getD column e 0 ≡ f e
+spread-at f m is e h =
+    ap (λ (l : List ℕ). getD l e 0) (sym is) ∙ getD-map f (from 0 m) e 0 0 (rw (length-from 0 m) h) ∙ ap f (getD-from 0 m e 0 h ∙ zero-add e)
 
 -- the record at bit p, at width w for a node
-abbrev pub record-at : List ℕ → ℕ → ℕ → EdgeRecord
+abbrev record-at : List ℕ → ℕ → ℕ → EdgeRecord
 record-at bytes w p = record { source = field-at bytes p w; target = field-at bytes (p + w) w; payload = payload-at bytes (p + (w + w)) }
 
 -- a field of each record: that of `width` bits at bit k
-pub records-spread : (f : EdgeRecord → ℕ) (k width : ℕ) (bytes : List ℕ) (w : ℕ) → ((p : ℕ) → f (record-at bytes w p) ≡ field-at bytes (p + k) width) → (p m : ℕ)
+records-spread : (f : EdgeRecord → ℕ) (k width : ℕ) (bytes : List ℕ) (w : ℕ) → ((p : ℕ) → f (record-at bytes w p) ≡ field-at bytes (p + k) width) → (p m : ℕ)
     → map (spread bytes (p + k) (record-width w) width) (from 0 m) ≡ map f (records-at bytes p w m)
 unfolding records-at from
 records-spread f k width bytes w is p zero = refl
@@ -102,3 +102,15 @@ records-spread f k width bytes w is p (suc m) =
     spread-first bytes (p + k) (record-width w) width m
     ∙ ap₂ (λ (x : ℕ) (l : List ℕ). x ∷ l) (sym (is p))
     (ap (λ (z : ℕ). map (spread bytes z (record-width w) width) (from 0 m)) (omega arith) ∙ records-spread f k width bytes w is (p + record-width w) m)
+
+-- the columns of the records
+pub sources-spread : (bytes : List ℕ) (w p m : ℕ) → map (spread bytes p (record-width w) w) (from 0 m) ≡ map source-of (records-at bytes p w m)
+sources-spread bytes w p m =
+    ap (λ (z : ℕ). map (spread bytes z (record-width w) w) (from 0 m)) (sym (add-zero p))
+    ∙ records-spread source-of 0 w bytes w (λ p. ap (λ (z : ℕ). field-at bytes z w) (sym (add-zero p))) p m
+
+pub targets-spread : (bytes : List ℕ) (w p m : ℕ) → map (spread bytes (p + w) (record-width w) w) (from 0 m) ≡ map target-of (records-at bytes p w m)
+targets-spread bytes w p m = records-spread target-of w w bytes w (λ p. refl) p m
+
+pub payloads-spread : (bytes : List ℕ) (w p m : ℕ) → map (spread bytes (p + (w + w)) (record-width w) 32) (from 0 m) ≡ map payload-of (records-at bytes p w m)
+payloads-spread bytes w p m = records-spread payload-of (w + w) 32 bytes w (λ p. refl) p m

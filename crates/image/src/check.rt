@@ -4,32 +4,17 @@
 
 use crate::bits::least_width;
 use crate::bits::read_field;
+use crate::places::lists_size;
+use crate::places::outs_start;
 use plain::LIMIT;
 use validate::marks::mark;
 ghost use mathlib.Core.Path.{_≡_};
 ghost use Prim.Native.Nat.{_+_, _-_, _*_};
 ghost use lib.ListN.{length};
 ghost use lib.Dec.{eqb};
-ghost use Rattle.plain.specs.Bits.{field-at, fields-at, least-width};
-ghost use Rattle.plain.specs.Image.{outs-start, image-size, broken-image};
+ghost use Rattle.plain.specs.Bits.{field-at, fields-at};
+ghost use Rattle.plain.specs.Image.{image-size, broken-image};
 ghost use Rattle.image.specs.Checks.{Few, Filled, Ends, Entries, Whole, end-in, ends-within, ordered};
-
-// The bit at which the joined out-lists of an image of n nodes and m edges start.
-fn outs_start(n: u32, m: u32) -> usize
-    requires { ⌜ Few n m ⌝ }
-    ensures { λ r. ⌜ r ≡ outs-start n m ⌝ }
-{
-    let w = least_width(n) as usize;
-    32 + 32 * n as usize + (2 * w + 32) * m as usize
-}
-
-// The bits of the joined lists of one direction.
-fn lists_size(m: u32) -> usize
-    requires { ⌜ Few 0 m ⌝ }
-    ensures { λ r. ⌜ r ≡ least-width m * m ⌝ }
-{
-    least_width(m) as usize * m as usize
-}
 
 // The bits of an image before its padding.
 fn image_size(n: u32, m: u32) -> usize

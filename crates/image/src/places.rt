@@ -3,6 +3,7 @@
 
 use crate::bits;
 ghost use mathlib.Core.Path.{_≡_};
+ghost use Prim.Native.Nat.{_*_};
 ghost use Rattle.plain.specs.Bits.{least-width};
 ghost use Rattle.plain.specs.Image.{record-width, edges-start, outs-start, ins-start};
 
@@ -28,9 +29,16 @@ pub fn outs_start(nodes: u32, edges: u32) -> usize
     edges_start(nodes) + record_width(nodes) * edges as usize
 }
 
+// The bits of the joined lists of one direction.
+pub fn lists_size(edges: u32) -> usize
+    ensures { λ r. ⌜ r ≡ least-width edges * edges ⌝ }
+{
+    bits::least_width(edges) as usize * edges as usize
+}
+
 // Where the joined in-lists begin.
 pub fn ins_start(nodes: u32, edges: u32) -> usize
     ensures { λ r. ⌜ r ≡ ins-start nodes edges ⌝ }
 {
-    outs_start(nodes, edges) + bits::least_width(edges) as usize * edges as usize
+    outs_start(nodes, edges) + lists_size(edges)
 }

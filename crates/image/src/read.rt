@@ -15,6 +15,7 @@ use plain::NONE;
 use plain::numbers;
 ghost use mathlib.Core.Path.{_≡_};
 ghost use Prim.Native.Nat.{_≤_};
+ghost use lib.ListN.{length};
 ghost use Rattle.plain.specs.Bits.{fields-at};
 ghost use Rattle.plain.specs.Numbers.{LIMIT};
 ghost use Rattle.plain.specs.Memory.{first-short};
@@ -24,9 +25,9 @@ ghost use Rattle.shape.specs.Laws.Indexing.{Rewritten};
 ghost use Rattle.compact.specs.Bases.{Rebuilt};
 ghost use Rattle.image.specs.Spread.{spread, Spread};
 ghost use Rattle.image.specs.Directions.{BaseReadable, AxisReadable, AxisRead};
-ghost use Rattle.image.specs.Answering.{lengths, lacking as lacking-of};
+ghost use Rattle.image.specs.Answering.{lacking as lacking-of};
 ghost use Rattle.image.specs.Calls.{ReadOf};
-ghost use Rattle.image.specs.Reading.{memory, Accepted, PayloadsReadable, PayloadsRead, AxesReadable, AxesRead, Placed};
+ghost use Rattle.image.specs.Reading.{lengths, Accepted, PayloadsReadable, PayloadsRead, AxesReadable, AxesRead, Placed};
 
 // Bytes that are no image.
 pub const UNREADABLE: u32 = 12;
@@ -171,7 +172,7 @@ fn place(
     incoming: &mut [u32],
     bytes: &[u8],
 ) -> Counts
-    requires { ⌜ Accepted (memory (now nodes) (now edges) (now «live_nodes») (now «live_edges») (now outgoing) (now incoming)) (now bytes) ⌝ }
+    requires { ⌜ Accepted (lengths (length (now nodes)) (length (now edges)) (length (now «live_nodes»)) (length (now «live_edges»)) (length (now outgoing)) (length (now incoming))) (now bytes) ⌝ }
     ensures { λ r. ⌜ Placed
         (store r (now (nodes .entry)) (now (edges .entry)) (now («live_nodes» .entry)) (now («live_edges» .entry)) (now (outgoing .entry)) (now (incoming .entry)))
         (now (bytes .entry))

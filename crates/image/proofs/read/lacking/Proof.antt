@@ -1,5 +1,4 @@
 -- `read::lacking` meets its contract: one test.
-use borrow.Author.Needs.{needs}
 use borrow.Author.Tests.{le-leb, lt-leb}
 use Rattle.image.specs.Answering.{lacking}
 use Rattle.image.proofs.read.lacking.Statement.{statement}

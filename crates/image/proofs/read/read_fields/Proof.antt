@@ -1,7 +1,7 @@
 -- `read::read_fields` meets its contract. The loop's invariant: the fields passed are in their words, all other words are as they were, and the next field is
 -- where the distances say. The measure is the number of fields left.
 use Prim.Native.Nat.{ℕ, _+_, _-_, _*_, _≤_}
-use mathlib.Core.Path.{_≡_, sym, ap, _∙_}
+use mathlib.Core.Path.{_≡_, ap, _∙_}
 use native.Mathlib.Omega.{arith}
 use native.Mathlib.Nat.{mul-zero}
 use Rattle.plain.specs.Bits.{field-at}
