@@ -18,17 +18,18 @@ use Rattle.shape.specs.Laws.Indexing.{Rewritten, rewritten-as, before, ends-of}
 use Rattle.shape.specs.Laws.NewBase.{NewBase}
 use Rattle.adjacency.specs.Index.{Compressible}
 use Rattle.compact.specs.Bases.{Rebuildable, Rebuilt, rebuilt-base}
-use Rattle.image.specs.Spread.{spread, Spread, spread-as, rewritten-range, fields-spread, spread-at}
+use Rattle.compact.specs.Slots.{rewritten-range}
+use Rattle.image.specs.Spread.{spread, SpreadFits, spread-as, fields-spread, spread-at}
 
 -- ---- the base, once the ends are there
 
 -- The ends of the first m edges are in place, and the joined lists are in the bytes.
 pub record BaseReadable (ws : List ℕ) (ce cn n m : ℕ) (bytes : List ℕ) (position width : ℕ) : Type 0 where
   pub compressible : Compressible ws ce cn n m
-  pub entries : Spread bytes position width width ws ce m
+  pub entries : SpreadFits bytes position width width ws ce m
 
 module _ {ws : List ℕ} {ce cn n m : ℕ} {bytes : List ℕ} {position width : ℕ} (pre : BaseReadable ws ce cn n m bytes position width) where
-  pub entries-readable : {a : List ℕ} → Rewritten ws a (4 * ce + 5 * cn) (n + 1) (before (ends-of ws m)) → Spread bytes position width width a ce m
+  pub entries-readable : {a : List ℕ} → Rewritten ws a (4 * ce + 5 * cn) (n + 1) (before (ends-of ws m)) → SpreadFits bytes position width width a ce m
   entries-readable r = spread-as (r .long) (pre .entries)
 
   -- the joined lists that were read, as a list
@@ -52,9 +53,9 @@ pub record AxisReadable (ws : List ℕ) (ce cn n m : ℕ) (bytes : List ℕ) (en
   pub sized : Sized ws ce cn
   pub nodes-fit : n ≤ cn
   pub edges-fit : m ≤ ce
-  pub ends-there : Spread bytes ends (record-width (least-width n)) (least-width n) ws 0 m
+  pub ends-there : SpreadFits bytes ends (record-width (least-width n)) (least-width n) ws 0 m
   pub ends-below : (e : ℕ) → e < m → spread bytes ends (record-width (least-width n)) (least-width n) e < n
-  pub lists-there : Spread bytes lists (least-width m) (least-width m) ws ce m
+  pub lists-there : SpreadFits bytes lists (least-width m) (least-width m) ws ce m
 
 -- The ends are put in place, and the base is built on them.
 pub record AxisRead (ws : List ℕ) (ce cn n m : ℕ) (bytes : List ℕ) (ends lists : ℕ) (ws' : List ℕ) : Type 0 where

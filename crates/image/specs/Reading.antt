@@ -27,10 +27,11 @@ use Rattle.shape.specs.Shape.{Words, lengths-of, axis-words as words-of}
 use Rattle.shape.specs.Laws.Indexing.{Rewritten}
 use Rattle.shape.specs.Laws.NewBase.{NewBase}
 use Rattle.store.specs.Operations.{SameLengths}
+use Rattle.compact.specs.Slots.{rewritten-range}
 use Rattle.compact.specs.Holding.{based, front, Holding, reset-same, sized-as}
 use Rattle.image.specs.Fields.{Room}
 use Rattle.image.specs.Places.{records-small, entries-small}
-use Rattle.image.specs.Spread.{spread, Spread, spread-in, rewritten-range, fields-spread, spread-at, sources-spread, targets-spread, payloads-spread}
+use Rattle.image.specs.Spread.{spread, SpreadFits, spread-in, fields-spread, spread-at, sources-spread, targets-spread, payloads-spread}
 use Rattle.image.specs.Directions.{AxisReadable, AxisRead, read-base}
 
 -- ---- what is asked
@@ -67,8 +68,8 @@ abbrev pub edge-payload : List ℕ → ℕ → ℕ → ℕ
 edge-payload bytes n = spread bytes (edges-start n + (least-width n + least-width n)) (record-width (least-width n)) 32
 
 pub record PayloadsReadable (nodes edges bytes : List ℕ) (n m : ℕ) : Type 0 where
-  pub nodes-there : Spread bytes 32 32 32 nodes 0 n
-  pub edges-there : Spread bytes (edges-start n + (least-width n + least-width n)) (record-width (least-width n)) 32 edges 0 m
+  pub nodes-there : SpreadFits bytes 32 32 32 nodes 0 n
+  pub edges-there : SpreadFits bytes (edges-start n + (least-width n + least-width n)) (record-width (least-width n)) 32 edges 0 m
 
 pub record PayloadsRead (nodes edges bytes : List ℕ) (n m : ℕ) (nodes' edges' : List ℕ) : Type 0 where
   pub nodes-read : Rewritten nodes nodes' 0 n (node-payload bytes)

@@ -11,8 +11,7 @@ use Rattle.plain.specs.Compaction.{EdgeRecord, source-of, target-of}
 use Rattle.plain.specs.Image.{record-width, payload-at, records-at}
 use Rattle.plain.specs.Laws.ListLaws.{length-from, getD-from, getD-map, from-suc}
 use Rattle.plain.specs.Laws.ImageBits.{payload-of}
-use Rattle.shape.specs.Laws.Indexing.{Rewritten, map-from-same}
-use Rattle.compact.specs.Holding.{front}
+use Rattle.shape.specs.Laws.Indexing.{map-from-same}
 use Rattle.image.specs.Fields.{Room}
 
 -- field number i
@@ -20,7 +19,7 @@ abbrev pub spread : List ℕ → ℕ → ℕ → ℕ → ℕ → ℕ
 spread bytes position stride width i = field-at bytes (position + stride * i) width
 
 -- The fields are within the bytes, the words have room for them, and the places are numbers of 64 bits.
-pub record Spread (bytes : List ℕ) (position stride width : ℕ) (words : List ℕ) (at count : ℕ) : Type 0 where
+pub record SpreadFits (bytes : List ℕ) (position stride width : ℕ) (words : List ℕ) (at count : ℕ) : Type 0 where
   pub narrow : width ≤ 32
   pub there : (i : ℕ) → i < count → position + stride * i + width ≤ 8 * length bytes
   pub counted : position + stride * count + width < 2 ^ 64
@@ -32,7 +31,7 @@ pub record Spread (bytes : List ℕ) (position stride width : ℕ) (words : List
 pub further : (position stride i : ℕ) → position + stride * i + stride ≡ position + stride * (i + 1)
 further position stride i = let more : stride * (i + 1) ≡ stride * i + stride = ap (λ (z : ℕ). stride * z) (omega arith) ∙ mul-suc stride i in omega arith
 
-module _ {bytes : List ℕ} {position stride width : ℕ} {words : List ℕ} {at count : ℕ} (s : Spread bytes position stride width words at count) where
+module _ {bytes : List ℕ} {position stride width : ℕ} {words : List ℕ} {at count : ℕ} (s : SpreadFits bytes position stride width words at count) where
   pub spread-room : (i : ℕ) → i < count → Room bytes (position + stride * i) width
   spread-room i h =
       let low : stride * i ≤ stride * count = mul-le-mul-left stride (omega arith) in
@@ -46,13 +45,13 @@ module _ {bytes : List ℕ} {position stride width : ℕ} {words : List ℕ} {at
 
 -- words as long have the same room
 pub spread-as : {bytes : List ℕ} {position stride width : ℕ} {words words' : List ℕ} {at count : ℕ} → length words' ≡ length words
-    → Spread bytes position stride width words at count → Spread bytes position stride width words' at count
+    → SpreadFits bytes position stride width words at count → SpreadFits bytes position stride width words' at count
 spread-as same s = record { narrow = s .narrow; there = s .there; counted = s .counted; room = rw same (s .room) }
 
 -- fields of records one after the other: of a record of `stride` bits, the field of `width` bits at bit k
 pub spread-in : {bytes words : List ℕ} {at : ℕ} (start k position stride width count : ℕ) → position ≡ start + k → k + width ≤ stride → width ≤ 32
     → start + stride * count ≤ 8 * length bytes → start + stride * count + stride < 2 ^ 64 → at + count ≤ length words
-    → Spread bytes position stride width words at count
+    → SpreadFits bytes position stride width words at count
 spread-in start k position stride width count is inside narrow there small room = record {
   narrow = narrow;
   there = λ i h. let low : stride * (i + 1) ≤ stride * count = mul-le-mul-left stride (omega arith) in omega (arith, further start stride i);
@@ -61,11 +60,6 @@ spread-in start k position stride width count is inside narrow there small room 
 }
 
 -- ---- the lists that they make
-
--- words that were rewritten, from the front on
-pub rewritten-range : {entry exit : List ℕ} {n : ℕ} {f : ℕ → ℕ} → Rewritten entry exit 0 n f → front exit n ≡ map f (from 0 n)
-rewritten-range {exit = exit} {n} {f} r =
-    map-from-same (λ x. getD exit x 0) f 0 n (λ x _ h. ap (λ (z : ℕ). getD exit z 0) (sym (zero-add x)) ∙ r .within x (omega arith))
 
 -- the first field, and those after it
 spread-first : (bytes : List ℕ) (p stride width n : ℕ)

@@ -23,7 +23,7 @@ ghost use Rattle.plain.specs.Calls.{short-answer, reading-slices, read-image};
 ghost use Rattle.shape.specs.Shape.{store};
 ghost use Rattle.shape.specs.Laws.Indexing.{Rewritten};
 ghost use Rattle.compact.specs.Bases.{Rebuilt};
-ghost use Rattle.image.specs.Spread.{spread, Spread};
+ghost use Rattle.image.specs.Spread.{spread, SpreadFits};
 ghost use Rattle.image.specs.Directions.{BaseReadable, AxisReadable, AxisRead};
 ghost use Rattle.image.specs.Answering.{lacking as lacking-of};
 ghost use Rattle.image.specs.Calls.{ReadOf};
@@ -42,7 +42,7 @@ fn read_fields(
     at: usize,
     count: usize,
 )
-    requires { ⌜ Spread (now bytes) position stride width (now words) at count ⌝ }
+    requires { ⌜ SpreadFits (now bytes) position stride width (now words) at count ⌝ }
     ensures { λ _. ⌜ Rewritten (now (words .entry)) (now (words .exit)) at count (spread (now (bytes .entry)) position stride width) ⌝ }
 {
     let mut from = position;
