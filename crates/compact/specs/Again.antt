@@ -1,25 +1,24 @@
--- Compacting again changes nothing: what compaction leaves is canonical, and compacting a canonical store leaves every word as it was.
+-- Compacting again changes nothing: what compaction leaves is canonical, and compacting a canonical store leaves every word as it was, which is shown here.
 use Prim.Native.Nat.{ℕ, _+_, _*_, _≤_, _<_}
 use mathlib.Core.Path.{_≡_, sym, ap, ap₂, subst, subst₂, _∙_}
 use mathlib.Core.Bool.{true}
 use mathlib.Core.Logic.{⊎-elim}
-use mathlib.Core.List.{List, [], map, _++_}
+use mathlib.Core.List.{List, [], map}
 use native.Mathlib.Nat.{zero-add}
 use lib.ListN.{length, getD, take, drop, replicate, List·getD-eq-default}
-use lib.Seq.{drop-append-seam, getD-take}
+use lib.Seq.{getD-take}
 use Rattle.plain.specs.declared.TraversalDirection.{TraversalDirection}
 use Rattle.plain.specs.declared.TraversalDirection.the-variants.{Outgoing, Incoming}
 use Rattle.plain.specs.declared.Slots.{Slots}
 use Rattle.plain.specs.declared.Counts.{Counts}
 use Rattle.plain.specs.Lists.{joined, from, member, written}
 use Rattle.plain.specs.Plain.{Plain, node-bound, list-of}
-use Rattle.plain.specs.Compaction.{Survivors, survivors, of-survivors, compacted}
+use Rattle.plain.specs.Compaction.{survivors, of-survivors, compacted}
 use Rattle.plain.specs.Laws.AllLive.{AllLive, live-slot, own-rank, compacted-same}
 use Rattle.plain.specs.Laws.Booleans.{below-or-not}
-use Rattle.plain.specs.Laws.ListLaws.{map-getD, getD-map, length-from, getD-from}
-use Rattle.plain.specs.Laws.Fitting.{fitted-many}
+use Rattle.plain.specs.Laws.ListLaws.{getD-map, length-from, getD-from}
 use Rattle.liveness.specs.Flags.{live-flags}
-use Rattle.liveness.specs.Calls.{Reset, all-live}
+use Rattle.liveness.specs.Calls.{all-live}
 use Rattle.shape.specs.Columns.{cell, end-at}
 use Rattle.shape.specs.Chains.{ring}
 use Rattle.shape.specs.Shape.{Words, Adjacency, capacities, node-live, edge-live, axis-words, ring-of, axis-in, adjacency-of, no-adjacency, shape-of, plain-of, ascends, settled, lists}
@@ -29,78 +28,11 @@ use Rattle.shape.specs.Laws.CheckedShape.{checked-proper}
 use Rattle.shape.specs.Laws.Settling.{settled-is-plain}
 use Rattle.shape.specs.Laws.Reading.{shape-adjacency, axis-is, axis-nodes, node-flags-are, edge-flags-are, node-bound-is, edge-bound-is}
 use Rattle.shape.specs.Laws.Indexing.{Rewritten, before, ends-of}
-use Rattle.shape.specs.Laws.NewBase.{NewBase}
-use Rattle.compact.specs.Survivors.{survivors-plain}
 use Rattle.compact.specs.Slots.{kept-word, rewritten-same, kept-all-live}
 use Rattle.compact.specs.Bases.{Compactable, AxisCompacted}
-use Rattle.compact.specs.Dropping.{based, Droppable, Dropped, axis-compactable, first-half, drop-room}
-use Rattle.compact.specs.Compacted.{left-sound, left-nodes, nodes-bound, edges-bound, out-base, in-base-of, dropped-shape}
+use Rattle.compact.specs.Dropping.{Droppable, Dropped, axis-compactable, first-half, drop-room}
+use Rattle.compact.specs.Holding.{based, all-lists}
 use Rattle.compact.specs.Calls.{AxisCanonical, Canonical}
-
--- words whose slots were all made live are those words
-reset-same : {entry exit : List ℕ} {slots : ℕ} → Reset entry slots exit → Reset exit slots exit
-reset-same {entry} {exit} {slots} p = record {
-  flags = p .flags;
-  packs = p .packs;
-  words = p .words ∙ ap (λ (l : List ℕ). all-live slots ++ l) (sym (drop-append-seam (all-live slots) (drop (length (all-live slots)) entry)))
-      ∙ sym (ap (λ (l : List ℕ). all-live slots ++ drop (length (all-live slots)) l) (p .words));
-}
-
--- a new base is canonical
-axis-canonical : {ws : List ℕ} {ce cn : ℕ} {counts : Counts} {ends : List ℕ} {ls : List (List ℕ)} → NewBase ws ce cn counts ends ls
-    → AxisCanonical ws ce cn (counts .nodes .bound) (counts .edges .bound) (joined ls)
-axis-canonical {ws} {ce} {cn} {counts} {ends} b =
-    let there : ends-of ws (counts .edges .bound) ≡ ends = ap (ends-of ws) (b .edges-bound) ∙ b .built .ends-there in
-    record {
-      offsets = λ x h. b .built .offsets x h ∙ ap (λ (l : List ℕ). before l x) (sym there);
-      lists = ap (λ (m : ℕ). map (cell ws ce) (from 0 m)) (b .edges-bound) ∙ b .built .entries;
-      rings = b .rings;
-      marks = b .marks;
-    }
-
--- the lists of all nodes are the lists
-all-lists : (n : ℕ) (ls : List (List ℕ)) → length ls ≡ n → map (λ x. getD ls x []) (from 0 n) ≡ ls
-all-lists n ls is = ap (λ (k : ℕ). map (λ x. getD ls x []) (from 0 k)) (sym is) ∙ map-getD ls []
-
-module _ {w : Words} {node-map work : List ℕ} {v : Words} (pre : Droppable w node-map work) (r : Dropped w node-map work v)
-    (outs : take (w .counts .edges .live) work ≡ joined (survivors (settled (shape-of w)) .outs))
-    (ins : take (w .counts .edges .live) (drop (w .counts .edges .live) work) ≡ joined (survivors (settled (shape-of w)) .ins)) where
-  abbrev left : Survivors
-  left = survivors (settled (shape-of w))
-
-  lists-left : lists v ≡ of-survivors left
-  lists-left = ap plain-of (dropped-shape pre r outs ins) ∙ survivors-plain left (left-sound pre r)
-
-  listed : (d : TraversalDirection) → map (list-of d (lists v)) (from 0 (v .counts .nodes .bound)) ≡ map (list-of d (of-survivors left)) (from 0 (length (left .nodes)))
-  listed d = ap₂ (λ (p : Plain) (n : ℕ). map (list-of d p) (from 0 n)) lists-left (nodes-bound pre r ∙ sym (left-nodes pre r))
-
-  directions : (d : TraversalDirection) → AxisCanonical (axis-words d v) (length (v .edges)) (length (v .nodes)) (v .counts .nodes .bound) (v .counts .edges .bound)
-      (joined (map (list-of d (lists v)) (from 0 (v .counts .nodes .bound))))
-  unfolding of-survivors
-  directions Outgoing =
-      subst₂ (λ (ce cn : ℕ). AxisCanonical (v .outgoing) ce cn (v .counts .nodes .bound) (v .counts .edges .bound)
-      (joined (map (list-of Outgoing (lists v)) (from 0 (v .counts .nodes .bound))))) (sym (r .lengths .edges)) (sym (r .lengths .nodes))
-      (subst (AxisCanonical (v .outgoing) (length (w .edges)) (length (w .nodes)) (v .counts .nodes .bound) (v .counts .edges .bound))
-      (sym (ap joined (listed Outgoing ∙ all-lists (length (left .nodes)) (left .outs) (fitted-many (left-sound pre r .outs)))))
-      (axis-canonical (out-base pre r outs ins)))
-  directions Incoming =
-      subst₂ (λ (ce cn : ℕ). AxisCanonical (v .incoming) ce cn (v .counts .nodes .bound) (v .counts .edges .bound)
-      (joined (map (list-of Incoming (lists v)) (from 0 (v .counts .nodes .bound))))) (sym (r .lengths .edges)) (sym (r .lengths .nodes))
-      (subst (AxisCanonical (v .incoming) (length (w .edges)) (length (w .nodes)) (v .counts .nodes .bound) (v .counts .edges .bound))
-      (sym (ap joined (listed Incoming ∙ all-lists (length (left .nodes)) (left .ins) (fitted-many (left-sound pre r .ins)))))
-      (axis-canonical (in-base-of pre r outs ins)))
-
-  -- what compaction leaves is canonical
-  pub dropped-canonical : Canonical v
-  dropped-canonical = record {
-    nodes-based = ap (λ (c : Counts). c .nodes .base) (r .counts) ∙ sym (nodes-bound pre r);
-    nodes-live = ap (λ (c : Counts). c .nodes .live) (r .counts) ∙ sym (nodes-bound pre r);
-    edges-based = ap (λ (c : Counts). c .edges .base) (r .counts) ∙ sym (edges-bound pre r);
-    edges-live = ap (λ (c : Counts). c .edges .live) (r .counts) ∙ sym (edges-bound pre r);
-    node-words = subst (λ (n : ℕ). Reset (v .live-nodes) n (v .live-nodes)) (sym (nodes-bound pre r)) (reset-same (r .live-nodes));
-    edge-words = subst (λ (n : ℕ). Reset (v .live-edges) n (v .live-edges)) (sym (edges-bound pre r)) (reset-same (r .live-edges));
-    axis = directions;
-  }
 
 -- ---- a canonical store compacted
 

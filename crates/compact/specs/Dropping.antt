@@ -7,7 +7,6 @@ use native.Mathlib.Omega.{arith}
 use lib.ListN.{length, getD, take, drop, length-drop}
 use lib.Seq.{take-all}
 use Rattle.plain.specs.declared.TraversalDirection.{TraversalDirection}
-use Rattle.plain.specs.declared.Slots.{Slots}
 use Rattle.plain.specs.Reads.{live-count}
 use Rattle.plain.specs.Compaction.{rank}
 use Rattle.plain.specs.Laws.ListLaws.{count-length}
@@ -21,11 +20,8 @@ use Rattle.shape.specs.Laws.Indexing.{Rewritten}
 use Rattle.relocate.specs.Stores.{checked-end}
 use Rattle.store.specs.Operations.{SameLengths}
 use Rattle.compact.specs.Slots.{kept-word, Keepable}
+use Rattle.compact.specs.Holding.{based}
 use Rattle.compact.specs.Bases.{Compactable, AxisCompacted}
-
--- the counts of slots that are all live and all in the base
-abbrev pub based : ℕ → Slots
-based n = record { bound = n; base = n; live = n }
 
 -- A checked store, the number of every live node in the node map, and room for both directions' lists.
 pub record Droppable (w : Words) (node-map work : List ℕ) : Type 0 where

@@ -1,5 +1,5 @@
 -- The ways that a compaction ends, each by what the program has tested.
-use Prim.Native.Nat.{ℕ, zero, suc, _+_, _*_, _≤_, _<_}
+use Prim.Native.Nat.{ℕ, zero, suc, _*_, _≤_, _<_}
 use mathlib.Core.Path.{_≡_, refl, sym, ap, _∙_}
 use mathlib.Core.Bool.{Bool, true}
 use mathlib.Core.List.{List, [], _++_, append-assoc}
@@ -25,9 +25,10 @@ use Rattle.validate.specs.Judging.{Judged}
 use Rattle.store.specs.Operations.{same-lengths}
 use Rattle.compact.specs.ListsStore.{settled-well-formed, settled-node-flags, settled-edge-flags}
 use Rattle.compact.specs.Settling.{Settleable, Settling, droppable}
-use Rattle.compact.specs.Compacted.{dropped-shape, dropped-state, dropped-reached, dropped-checked}
+use Rattle.compact.specs.Holding.{holding-shape, holding-state, holding-reached, holding-checked, holding-canonical}
+use Rattle.compact.specs.Compacted.{dropped-holding}
 use Rattle.compact.specs.Calls.{seen, compacting-of, CompactOf}
-use Rattle.compact.specs.Again.{dropped-canonical, dropped-again}
+use Rattle.compact.specs.Again.{dropped-again}
 
 module _ (w : Words) (node-map edge-map work : List ℕ) where
   -- refused: not a word changes
@@ -164,7 +165,7 @@ module _ (w : Words) (node-map edge-map work : List ℕ) where
 
           pub compact-done : {v : Words} {node-map' edge-map' work' : List ℕ} → Settling w node-map edge-map work v node-map' edge-map' work'
               → CompactOf w node-map edge-map work 0 0 v node-map' edge-map' work'
-          unfolding compaction first-short
+          unfolding compaction compacted first-short
           compact-done {v} {node-map'} {edge-map'} {work'} done =
               let is : compacting-of w (length node-map) (length edge-map) (length work)
               ≡ record { number = 0; value = 0; node-map = renumbering (node-flags (settled (shape-of w))); edge-map = renumbering (edge-flags (settled (shape-of w))); work = adjacency (survivors (settled (shape-of w))); after = record { lists = compacted (settled (shape-of w)); compact = true } } =
@@ -180,6 +181,7 @@ module _ (w : Words) (node-map edge-map work : List ℕ) where
               let r = done .dropped in
               let outs = outs-there (done .worked) in
               let ins = ins-there (done .worked) in
+              let holding = dropped-holding pre r outs ins in
               record {
                 numbered = ap (λ (c : Compacted). c .number) (sym is);
                 valued = ap (λ (c : Compacted). c .value) (sym is);
@@ -188,11 +190,11 @@ module _ (w : Words) (node-map edge-map work : List ℕ) where
                 edge-mapped = done .edge-mapped
                     ∙ ap (λ (f : List Bool). written (renumbering f) edge-map) (sym (settled-edge-flags w)) ∙ sym (ap (λ (c : Compacted). written (c .edge-map) edge-map) is);
                 worked = done .worked ∙ sym (ap (λ (c : Compacted). written (c .work) work) is);
-                state = λ h. dropped-state pre r outs ins ∙ sym (ap (λ (c : Compacted). c .after) is);
-                shape = λ h. dropped-shape pre r outs ins;
-                checked = λ h. dropped-checked pre r outs ins;
-                reached = λ h. dropped-reached pre r outs ins;
-                canonical = λ h. dropped-canonical pre r outs ins;
+                state = λ h. holding-state holding ∙ sym (ap (λ (c : Compacted). c .after) is);
+                shape = λ h. holding-shape holding;
+                checked = λ h. holding-checked holding;
+                reached = λ h. holding-reached holding;
+                canonical = λ h. holding-canonical holding;
                 again = λ h s. dropped-again pre r outs ins s;
                 lengths = r .lengths;
                 refused-keeps = λ h. absurd (h refl);

@@ -1,4 +1,5 @@
 pub mod Survivors
+pub mod Holding
 pub mod Slots
 pub mod Lists
 pub mod ListsSettled

@@ -88,10 +88,11 @@ rewritten-same {entry = entry} {exit = exit} {at = at} {n = n} r same =
 
 module _ {entry exit : List ℕ} {n : ℕ} {f : ℕ → ℕ} (r : Rewritten entry exit 0 n f) where
   -- the front holds the new words
+  pub rewritten-range : map (λ p. getD exit p 0) (from 0 n) ≡ map f (from 0 n)
+  rewritten-range = map-from-same (λ p. getD exit p 0) f 0 n (λ p _ h. ap (λ (z : ℕ). getD exit z 0) (sym (zero-add p)) ∙ r .within p (omega arith))
+
   pub rewritten-front : n ≤ length entry → take n exit ≡ map f (from 0 n)
-  rewritten-front room =
-      front-range exit n (let long = r .long in omega arith)
-      ∙ map-from-same (λ p. getD exit p 0) f 0 n (λ p _ h. ap (λ (z : ℕ). getD exit z 0) (sym (zero-add p)) ∙ r .within p (omega arith))
+  rewritten-front room = front-range exit n (let long = r .long in omega arith) ∙ rewritten-range
 
   -- and the rest is as it was
   pub rewritten-rest : drop n exit ≡ drop n entry

@@ -6,7 +6,7 @@ use plain::NONE;
 ghost use Rattle.compact.specs.Bases.{Rebuildable, Rebuilt, Compactable, AxisCompacted};
 
 // Puts a new base in place of base, runs and rings: the offsets counted from the ends of `count_edges` edges, the joined lists copied from lent words, every
-// ring of `count_nodes` nodes empty, and no run. For compaction and image reading.
+// ring of `count_nodes` nodes empty, and no run. For compaction; image reading leaves the same base, its lists read from bits.
 pub fn rebuild(
     axis: &mut [u32],
     edges: usize,

@@ -13,13 +13,14 @@ ghost use mathlib.Core.Path.{_≡_};
 ghost use Rattle.plain.specs.Lists.{written};
 ghost use Rattle.plain.specs.Compaction.{survivors, adjacency};
 ghost use Rattle.shape.specs.Shape.{store, shape-of, settled};
+ghost use Rattle.compact.specs.Holding.{based};
 ghost use Rattle.compact.specs.Working.{Workable};
 ghost use Rattle.compact.specs.Settling.{Settleable, Settling};
 ghost use Rattle.compact.specs.Calls.{CompactOf};
-ghost use Rattle.compact.specs.Dropping.{based, Droppable, Dropped};
+ghost use Rattle.compact.specs.Dropping.{Droppable, Dropped};
 
-// The counts of slots that are all live and all in the base.
-fn all_based(count: u32) -> Slots
+// The counts of slots that are all live and all in the base. For compaction and image reading.
+pub fn all_based(count: u32) -> Slots
     ensures { λ r. ⌜ r ≡ based count ⌝ }
 {
     Slots {

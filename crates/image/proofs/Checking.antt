@@ -1,20 +1,20 @@
 -- The rules of an image by the tests of src/check.rt: what the counts and the length say, where the parts stand in the bytes, and that the passes over them
 -- answer rules 4 to 6.
-use Prim.Native.Nat.{ℕ, zero, suc, _+_, _-_, _*_, _^_, _≤_, _<_}
+use Prim.Native.Nat.{ℕ, _+_, _-_, _*_, _^_, _≤_, _<_}
 use mathlib.Core.Path.{_≡_, refl, sym, ap, ap₂, _∙_}
 use mathlib.Core.Bool.{Bool, true, false, cond, _&&_}
 use mathlib.Core.Logic.{inl, inr}
 use mathlib.Core.List.{List, [], _∷_, map}
 use native.Mathlib.Omega.{arith}
-use native.Mathlib.Nat.{mul-le-mul, mul-le-mul-left, le-of-suc-le-suc}
+use native.Mathlib.Nat.{mul-le-mul, mul-le-mul-left}
 use lib.ListN.{length, getD}
 use lib.Dec.{eqb, ltb}
 use borrow.Author.Tests.{ltb-true, ltb-false, lt-ltb, eqb-true, eqb-false}
 use Rattle.plain.specs.Numbers.{LIMIT}
 use Rattle.plain.specs.Lists.{member, distinct, all, from}
-use Rattle.plain.specs.Compaction.{EdgeRecord, source-of, target-of}
+use Rattle.plain.specs.Compaction.{source-of, target-of}
 use Rattle.plain.specs.Bits.{field-at, fields-at, bytes-for, least-width}
-use Rattle.plain.specs.Image.{nodes-in, edges-in, edges-start, outs-start, image-size, record-width, payload-at, records-at, cut, list-lengths, parsed, lists-right, broken-image}
+use Rattle.plain.specs.Image.{nodes-in, edges-in, edges-start, outs-start, image-size, record-width, cut, list-lengths, parsed, lists-right, broken-image}
 use Rattle.plain.specs.Laws.Booleans.{by-test, true-false}
 use Rattle.plain.specs.Laws.ListLaws.{all-member, map-same, member-first, member-later, member-below}
 use Rattle.plain.specs.Laws.Below.{Below, below-of}
@@ -22,6 +22,7 @@ use Rattle.plain.specs.Laws.Bits.{length-fields-at}
 use Rattle.plain.specs.Laws.Width.{width-most}
 use Rattle.plain.specs.Laws.Ascending.{ascending, right-by-order}
 use Rattle.plain.specs.Laws.Refusals.{Counted, Sized, Padded, Ended, sources-in, targets-in, size-in, padding-in, length-edges-in, refused-3, refused-4, refused-5, refused-6, accepted}
+use Rattle.image.specs.Spread.{spread-at, sources-spread, targets-spread}
 use Rattle.image.specs.Checks.{end-in, ends-within, ordered, Few, Filled, Ends, Entries, Whole}
 
 -- ---- sizes
@@ -46,35 +47,23 @@ ends-fewer {bytes} {at} {w} {m} e t h =
 
 -- ---- rules 1 to 3
 
-module _ (bytes : List ℕ) {n m size : ℕ} (four : 4 ≤ length bytes) (a : n ≡ nodes-in bytes) (b : m ≡ edges-in bytes) (f : Few n m) (c : size ≡ image-size n m) where
+module _ (bytes : List ℕ) {n m size : ℕ} (four : 4 ≤ length bytes) (a : n ≡ nodes-in bytes) (b : m ≡ edges-in bytes) (f : Few n m)
+    (c : size ≡ bytes-for (image-size n m)) where
   counted : Counted bytes
   counted = record { four = four; nodes-within = rw a at (f .nodes); edges-within = rw b at (f .edges) }
 
-  size-read : bytes-for size ≡ bytes-for (size-in bytes)
-  size-read = ap bytes-for (c ∙ ap₂ image-size a b)
+  size-read : size ≡ bytes-for (size-in bytes)
+  size-read = c ∙ ap bytes-for (ap₂ image-size a b)
 
   -- the length is another than the counts say
-  pub other-length : (length bytes ≡ bytes-for size → ⊥) → 3 ≡ broken-image bytes
+  pub other-length : (length bytes ≡ size → ⊥) → 3 ≡ broken-image bytes
   other-length h = sym (refused-3 bytes counted (λ q. h (q ∙ sym size-read)))
 
   -- it is as they say
-  pub right-length : length bytes ≡ bytes-for size → Whole bytes n m
+  pub right-length : length bytes ≡ size → Whole bytes n m
   right-length h = record { nodes = a; edges = b; sized = record { counted = counted; length-right = h ∙ size-read } }
 
 -- ---- the ends in the records
-
--- the record of an edge at bit p
-abbrev record-in : List ℕ → ℕ → ℕ → EdgeRecord
-record-in bytes p w = record { source = field-at bytes p w; target = field-at bytes (p + w) w; payload = payload-at bytes (p + (w + w)) }
-
-module _ (bytes : List ℕ) (w o : ℕ) (f : EdgeRecord → ℕ) (there : (p : ℕ) → f (record-in bytes p w) ≡ field-at bytes (p + o) w) where
-  -- the end of edge e, o bits into its record, where the m records stand from bit p on
-  end-read : (p m e : ℕ) → e < m → getD (map f (records-at bytes p w m)) e 0 ≡ end-in bytes (p + o) w e
-  unfolding records-at
-  end-read p zero e h = absurd (omega arith)
-  end-read p (suc m) zero h = there p ∙ ap (λ (z : ℕ). field-at bytes z w) (omega arith)
-  end-read p (suc m) (suc e) h =
-      end-read (p + record-width w) m e (le-of-suc-le-suc h) ∙ ap (λ (z : ℕ). field-at bytes z w) (omega arith)
 
 -- One direction of an image: its ends are in the records from bit `at` on.
 record Direction (bytes : List ℕ) (at : ℕ) (ends : List ℕ) : Type 0 where
@@ -86,11 +75,9 @@ module _ (bytes : List ℕ) where
   unfolding parsed
   sources =
       let n : ℕ = nodes-in bytes in
-      let w : ℕ = least-width n in
       record {
         long = length-edges-in bytes source-of;
-        read = λ e h. end-read bytes w 0 source-of (λ p. ap (λ (z : ℕ). field-at bytes z w) (omega arith)) (edges-start n) (edges-in bytes) e h
-            ∙ ap (λ (z : ℕ). field-at bytes z w) (omega arith);
+        read = spread-at (end-in bytes (edges-start n) (least-width n)) (edges-in bytes) (sources-spread bytes (least-width n) (edges-start n) (edges-in bytes));
       }
 
   targets : Direction bytes (edges-start (nodes-in bytes) + least-width (nodes-in bytes)) (targets-in bytes)
@@ -99,7 +86,7 @@ module _ (bytes : List ℕ) where
       let n : ℕ = nodes-in bytes in
       record {
         long = length-edges-in bytes target-of;
-        read = λ e h. end-read bytes (least-width n) (least-width n) target-of (λ p. refl) (edges-start n) (edges-in bytes) e h;
+        read = spread-at (end-in bytes (edges-start n + least-width n) (least-width n)) (edges-in bytes) (targets-spread bytes (least-width n) (edges-start n) (edges-in bytes));
       }
 
 -- ---- rules 5 and 6 of one direction

@@ -2,9 +2,15 @@ pub mod Fields
 pub mod Widths
 pub mod Wrote
 pub mod Replaced
+pub mod Places
 pub mod Checks
-pub mod Calls
 pub mod Strung
 pub mod Writing
 pub mod Stored
-pub mod Entry
+pub mod Spread
+pub mod Directions
+pub mod Reading
+pub mod Answering
+pub mod Calls
+pub mod WriteCases
+pub mod ReadCases

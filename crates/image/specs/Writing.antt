@@ -207,18 +207,6 @@ size-few n m hn hm =
     let b : least-width m * m ≤ 32 * LIMIT = mul-le-mul (width-most m) hm in
     omega arith
 
--- The size as it is computed from the widths: every number on the way is small.
-pub record SizeComputed (n m w v : ℕ) : Type 0 where
-  pub slots : (2 * w + 32) * m < 2 ^ 32
-  pub lists : 2 * v * m < 2 ^ 32
-  pub sum : 32 + 32 * n + (2 * w + 32) * m + 2 * v * m ≡ image-size n m
-  pub few : image-size n m < 2 ^ 32
-
-pub size-computed : (n m : ℕ) {w v : ℕ} → n ≤ LIMIT → m ≤ LIMIT → w ≡ least-width n → v ≡ least-width m → SizeComputed n m w v
-size-computed n m hn hm e f =
-    let few = size-few n m hn hm in
-    rw (e, f) (record { slots = omega arith; lists = omega arith; sum = omega arith; few = few })
-
 -- each of the bits is 0 or 1
 below-column-bits : (c : Columns) → Below 2 (column-bits c)
 unfolding column-bits

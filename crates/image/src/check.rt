@@ -4,40 +4,18 @@
 
 use crate::bits::least_width;
 use crate::bits::read_field;
+use crate::places::image_bytes;
+use crate::places::lists_size;
+use crate::places::outs_start;
 use plain::LIMIT;
 use validate::marks::mark;
 ghost use mathlib.Core.Path.{_≡_};
 ghost use Prim.Native.Nat.{_+_, _-_, _*_};
 ghost use lib.ListN.{length};
 ghost use lib.Dec.{eqb};
-ghost use Rattle.plain.specs.Bits.{field-at, fields-at, least-width};
-ghost use Rattle.plain.specs.Image.{outs-start, image-size, broken-image};
+ghost use Rattle.plain.specs.Bits.{field-at, fields-at};
+ghost use Rattle.plain.specs.Image.{image-size, broken-image};
 ghost use Rattle.image.specs.Checks.{Few, Filled, Ends, Entries, Whole, end-in, ends-within, ordered};
-
-// The bit at which the joined out-lists of an image of n nodes and m edges start.
-fn outs_start(n: u32, m: u32) -> usize
-    requires { ⌜ Few n m ⌝ }
-    ensures { λ r. ⌜ r ≡ outs-start n m ⌝ }
-{
-    let w = least_width(n) as usize;
-    32 + 32 * n as usize + (2 * w + 32) * m as usize
-}
-
-// The bits of the joined lists of one direction.
-fn lists_size(m: u32) -> usize
-    requires { ⌜ Few 0 m ⌝ }
-    ensures { λ r. ⌜ r ≡ least-width m * m ⌝ }
-{
-    least_width(m) as usize * m as usize
-}
-
-// The bits of an image before its padding.
-fn image_size(n: u32, m: u32) -> usize
-    requires { ⌜ Few n m ⌝ }
-    ensures { λ r. ⌜ r ≡ image-size n m ⌝ }
-{
-    outs_start(n, m) + 2 * lists_size(m)
-}
 
 // Rule 4: the bits after the last field are 0.
 fn padding_clear(bytes: &[u8], size: usize) -> bool
@@ -143,7 +121,7 @@ pub fn first_broken(bytes: &[u8]) -> u32
     if m > LIMIT {
         return 2;
     }
-    if bytes.len() != (image_size(n, m) + 7) / 8 {
+    if bytes.len() != image_bytes(n, m) {
         return 3;
     }
     broken_content(bytes, n, m)

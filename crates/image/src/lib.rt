@@ -2,4 +2,6 @@
 
 pub mod bits;
 pub mod check;
+pub mod places;
+pub mod read;
 pub mod write;

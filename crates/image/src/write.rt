@@ -3,10 +3,12 @@
 use crate::bits::least_width;
 use crate::bits::write_field;
 use crate::bits::write_padding;
+use crate::places::image_bytes;
 use plain::Answer;
 use plain::Counts;
 use plain::NONE;
 use plain::numbers::DONE;
+use plain::numbers::NOT_COMPACT;
 use plain::numbers::TOO_SHORT;
 use validate::judging::judge;
 use validate::judging::no_store;
@@ -21,14 +23,11 @@ ghost use Rattle.plain.specs.Image.{edge-bits, image-size};
 ghost use Rattle.shape.specs.Shape.{store};
 ghost use Rattle.view.specs.Calls.{Replied};
 ghost use Rattle.image.specs.Calls.{written-image};
-ghost use Rattle.image.specs.Entry.{BytesLent};
+ghost use Rattle.image.specs.WriteCases.{BytesLent};
 ghost use Rattle.image.specs.Stored.{Stored, columns-of};
 ghost use Rattle.image.specs.Strung.{WroteTo, record-bits};
 ghost use Rattle.image.specs.Wrote.{Wrote};
 ghost use Rattle.image.specs.Writing.{RowFits, RecordFits, EdgesFit, SlotsFit, ListsFit, ImageFits, records-in, count-bits, slot-bits, list-bits, columns, column-bits};
-
-// Image of a store not compact.
-pub const NOT_COMPACT: u32 = 11;
 
 // Writes words one after the other, each in `width` bits, from bit `position` on, and answers the bit after them. Internal: they have room.
 fn write_row(bytes: &mut [u8], position: usize, width: u32, words: &[u32]) -> usize
@@ -145,17 +144,6 @@ fn write_columns(
     write_padding(bytes, end);
 }
 
-// How many bytes the image of so many nodes and edges has. Internal: both are within the limit.
-fn image_bytes(nodes: usize, edges: usize) -> usize
-    requires { ⌜ (nodes ≤ LIMIT) × (edges ≤ LIMIT) ⌝ }
-    ensures { λ r. ⌜ r ≡ bytes-for (image-size nodes edges) ⌝ }
-{
-    let width = least_width(nodes as u32) as usize;
-    let entry_width = least_width(edges as u32) as usize;
-    let slots = 32 + 32 * nodes + (2 * width + 32) * edges;
-    (slots + 2 * entry_width * edges + 7) / 8
-}
-
 // Writes the image of a compact store of n nodes and m edges. Internal: its words are right.
 fn write_store(
     n: usize,
@@ -171,7 +159,7 @@ fn write_store(
         (pack (column-bits (columns-of n m (now (nodes .entry)) (now (edges .entry)) (now (outgoing .entry)) (now (incoming .entry)))))
         (now (bytes .entry)) r (now (bytes .exit)) ⌝ }
 {
-    let needed = image_bytes(n, m);
+    let needed = image_bytes(n as u32, m as u32);
     if bytes.len() < needed {
         return Answer {
             number: TOO_SHORT,

@@ -30,5 +30,11 @@ pub const ONTO_ITSELF: u32 = 9;
 // Bound equals capacity.
 pub const FULL: u32 = 10;
 
+// Image of a store not compact.
+pub const NOT_COMPACT: u32 = 11;
+
+// Image unreadable.
+pub const UNREADABLE: u32 = 12;
+
 // Capacity above 32,768.
 pub const ABOVE_LIMIT: u32 = 13;

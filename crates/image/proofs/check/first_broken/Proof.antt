@@ -5,12 +5,12 @@ use native.Mathlib.Omega.{arith}
 use borrow.Author.Needs.{needs}
 use Rattle.plain.specs.Laws.Refusals.{refused-1, refused-2}
 use Rattle.image.specs.Checks.{Few}
-use Rattle.image.proofs.Checking.{small, other-length, right-length}
+use Rattle.image.proofs.Checking.{other-length, right-length}
 use Rattle.image.proofs.check.first_broken.Statement.{statement}
 use Rattle.image.proofs.check.first_broken.Tie as tie
 
 -- the counts are within the limit
-few : (c : tie.After-image-size) → let g = c .before .before .before in Few (g .before .read-field .result) (g .read-field2 .result)
+few : (c : tie.After-image-bytes) → let g = c .before .before .before in Few (g .before .read-field .result) (g .read-field2 .result)
 few c = record { nodes = c .before .before .if2 .left; edges = c .before .if3 .left }
 
 returns : tie.Need-returns
@@ -28,13 +28,13 @@ returns-4 : tie.Need-returns-4
 returns-4 c =
     let z = c .before in
     let f = z .before .before .before .before in
-    other-length _ (f .before .if1 .left) (f .read-field .ensures) (z .before .before .before .read-field2 .ensures) (few z) (z .image-size .ensures) (c .if4 .taken)
+    other-length _ (f .before .if1 .left) (f .read-field .ensures) (z .before .before .before .read-field2 .ensures) (few z) (z .image-bytes .ensures) (c .if4 .taken)
 
 broken-content-requires : tie.Need-broken-content-requires
 broken-content-requires c κs =
     let z = c .before in
     let f = z .before .before .before .before in
-    right-length _ (f .before .if1 .left) (f .read-field .ensures) (z .before .before .before .read-field2 .ensures) (few z) (z .image-size .ensures) (c .if4 .left)
+    right-length _ (f .before .if1 .left) (f .read-field .ensures) (z .before .before .before .read-field2 .ensures) (few z) (z .image-bytes .ensures) (c .if4 .left)
 
 pub first-broken-spec : {M : Type 1} → statement M
 first-broken-spec =
@@ -46,7 +46,6 @@ first-broken-spec =
     returns-2
     returns-3
     (λ c κs. search needs)
-    (λ c. omega (arith, c .image-size .ensures, small _ _ (few c)))
     returns-4
     broken-content-requires
     (λ c. search needs))

@@ -3,7 +3,7 @@ use borrow.Author.Needs.{needs}
 use Rattle.validate.specs.Passing.{refused, accepted}
 use Rattle.view.specs.Calls.{reply-refuses}
 use Rattle.image.specs.Stored.{compact-stored}
-use Rattle.image.specs.Entry.{image-refused, image-replied}
+use Rattle.image.specs.WriteCases.{image-refused, image-replied}
 use Rattle.image.proofs.write.write_image.Statement.{statement}
 use Rattle.image.proofs.write.write_image.Tie as tie
 

@@ -5,7 +5,7 @@ use native.Mathlib.Omega.{arith}
 use lib.ListN.{length, length-take}
 use borrow.Author.Needs.{needs}
 use Rattle.plain.specs.Laws.Below.{Below, below-of}
-use Rattle.image.specs.Entry.{bytes-short, bytes-done, stored-size, stored-fits}
+use Rattle.image.specs.WriteCases.{bytes-short, bytes-done, stored-size, stored-fits}
 use Rattle.image.proofs.write.write_store.Statement.{statement}
 use Rattle.image.proofs.write.write_store.Tie as tie
 

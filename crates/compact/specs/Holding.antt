@@ -1,0 +1,209 @@
+-- A store that holds survivors and nothing else, which is what compaction and image reading leave: "the result equals what compaction leaves". Its shape and its
+-- plain lists are the survivors', it is checked, compact and reached, and its words are canonical.
+use Prim.Native.Nat.{ℕ, _≤_}
+use mathlib.Core.Path.{_≡_, sym, ap, ap₂, subst, _∙_}
+use mathlib.Core.Bool.{Bool, true, false}
+use mathlib.Core.List.{List, [], map, map-map, _++_}
+use native.Mathlib.Omega.{arith}
+use lib.ListN.{length, getD, drop, replicate}
+use lib.Seq.{drop-append-seam}
+use borrow.Author.Tests.{lt-ltb, ltb-true}
+use Rattle.plain.specs.declared.TraversalDirection.{TraversalDirection}
+use Rattle.plain.specs.declared.TraversalDirection.the-variants.{Outgoing, Incoming}
+use Rattle.plain.specs.declared.Slots.{Slots}
+use Rattle.plain.specs.declared.Counts.{Counts}
+use Rattle.plain.specs.Lists.{joined, from}
+use Rattle.plain.specs.Plain.{Plain, NodeSlot, EdgeSlot, list-of}
+use Rattle.plain.specs.Reads.{live-count}
+use Rattle.plain.specs.Memory.{live-words}
+use Rattle.plain.specs.Compaction.{Survivors, kept-node, kept-edge, source-of, target-of, of-survivors}
+use Rattle.plain.specs.Laws.ListLaws.{map-same, map-getD, member-below}
+use Rattle.plain.specs.Laws.Rank.{live-all-live, live-count-all-live}
+use Rattle.plain.specs.Laws.WellFormed.{Sound, WellFormed}
+use Rattle.plain.specs.Laws.Fitting.{fitted-many}
+use Rattle.plain.specs.Laws.Compacting.{of-survivors-well-formed}
+use Rattle.plain.specs.Laws.ImageBits.{payload-of}
+use Rattle.liveness.specs.Flags.{live-flags}
+use Rattle.liveness.specs.Calls.{Reset, all-live}
+use Rattle.shape.specs.Columns.{Sized, cell}
+use Rattle.shape.specs.Shape.{Words, capacities, node-live, edge-live, axis-words, shape-of, plain-of, lists}
+use Rattle.shape.specs.Checked.{LiveRight, AxisChecked, Checked, Reached}
+use Rattle.shape.specs.Steps.{state-of}
+use Rattle.shape.specs.Laws.Indexing.{before, ends-of}
+use Rattle.shape.specs.Laws.NewBase.{NewBase, new-axis, new-checked}
+use Rattle.store.specs.Acting.{shape-ext}
+use Rattle.compact.specs.Survivors.{shape-of-survivors, survivors-plain, survivors-state, survivors-reached}
+use Rattle.compact.specs.Calls.{AxisCanonical, Canonical}
+
+-- the counts of slots that are all live and all in the base
+abbrev pub based : ℕ → Slots
+based n = record { bound = n; base = n; live = n }
+
+-- the words at the front of a slice
+abbrev pub front : List ℕ → ℕ → List ℕ
+front words n = map (λ x. getD words x 0) (from 0 n)
+
+-- Survivors that have an image, in a store of their counts: their payloads in the slots, every slot live, and in each direction a base of their ends and lists.
+pub record Holding (v : Words) (s : Survivors) : Type 0 where
+  pub sound : Sound s
+  pub counts : v .counts ≡ record { nodes = based (length (s .nodes)); edges = based (length (s .edges)) }
+  pub nodes-fit : length (s .nodes) ≤ length (v .nodes)
+  pub edges-fit : length (s .edges) ≤ length (v .edges)
+  pub live-nodes-long : live-words (length (v .nodes)) ≤ length (v .live-nodes)
+  pub live-edges-long : live-words (length (v .edges)) ≤ length (v .live-edges)
+  pub sized : (d : TraversalDirection) → Sized (axis-words d v) (length (v .edges)) (length (v .nodes))
+  pub nodes : front (v .nodes) (length (s .nodes)) ≡ s .nodes
+  pub edges : front (v .edges) (length (s .edges)) ≡ map payload-of (s .edges)
+  pub live-nodes : Reset (v .live-nodes) (length (s .nodes)) (v .live-nodes)
+  pub live-edges : Reset (v .live-edges) (length (s .edges)) (v .live-edges)
+  pub outgoing : NewBase (v .outgoing) (length (v .edges)) (length (v .nodes)) (v .counts) (map source-of (s .edges)) (s .outs)
+  pub incoming : NewBase (v .incoming) (length (v .edges)) (length (v .nodes)) (v .counts) (map target-of (s .edges)) (s .ins)
+
+-- ---- for those who make one
+
+-- words whose slots were all made live are those words
+pub reset-same : {entry exit : List ℕ} {slots : ℕ} → Reset entry slots exit → Reset exit slots exit
+reset-same {entry} {exit} {slots} p = record {
+  flags = p .flags;
+  packs = p .packs;
+  words = p .words ∙ ap (λ (l : List ℕ). all-live slots ++ l) (sym (drop-append-seam (all-live slots) (drop (length (all-live slots)) entry)))
+      ∙ sym (ap (λ (l : List ℕ). all-live slots ++ drop (length (all-live slots)) l) (p .words));
+}
+
+pub sized-as : {ws ws' : List ℕ} {ce cn : ℕ} → length ws' ≡ length ws → Sized ws ce cn → Sized ws' ce cn
+sized-as same sized = record { edges-within = sized .edges-within; nodes-within = sized .nodes-within; room = rw same (sized .room) }
+
+-- ---- parts of a store that holds survivors
+
+-- a slot, from its payload and its flag
+abbrev node-slot : ℕ → Bool → NodeSlot
+node-slot payload live = record { payload = payload; live = live }
+
+abbrev edge-slot : ℕ → Bool → EdgeSlot
+edge-slot payload live = record { payload = payload; live = live }
+
+-- slots that are all live, from their payloads
+slots-held : {A : Type 0} (make : ℕ → Bool → A) (words : List ℕ) (flags : List Bool) (n : ℕ) → flags ≡ replicate n true
+    → map (λ x. make (getD words x 0) (getD flags x false)) (from 0 n) ≡ map (λ p. make p true) (front words n)
+slots-held {A} make words flags n on =
+    map-same (λ x. make (getD words x 0) (getD flags x false)) (λ x. make (getD words x 0) true) (from 0 n)
+    (λ x m. ap (make (getD words x 0))
+    (ap (λ (f : List Bool). getD f x false) on ∙ live-all-live n x ∙ lt-ltb x n (ltb-true x n (sym (member-below x n) ∙ m))))
+    ∙ sym (map-map (λ p. make p true) (λ x. getD words x 0) (from 0 n))
+
+-- the live words of slots that are all live
+live-held : {words : List ℕ} {slots : Slots} (n : ℕ) → Reset words n words → slots ≡ based n → LiveRight words (live-flags words (slots .bound)) slots
+live-held {words = words} n reset is =
+    subst (λ (s : Slots). LiveRight words (live-flags words (s .bound)) s) (sym is)
+    (record { unused-clear = reset .packs; live-right = sym (ap live-count (reset .flags) ∙ live-count-all-live n) })
+
+-- a new base is canonical
+axis-canonical : {ws : List ℕ} {ce cn : ℕ} {counts : Counts} {ends : List ℕ} {ls : List (List ℕ)} → NewBase ws ce cn counts ends ls
+    → AxisCanonical ws ce cn (counts .nodes .bound) (counts .edges .bound) (joined ls)
+axis-canonical {ws} {ce} {cn} {counts} {ends} b =
+    let there : ends-of ws (counts .edges .bound) ≡ ends = ap (ends-of ws) (b .edges-bound) ∙ b .built .ends-there in
+    record {
+      offsets = λ x h. b .built .offsets x h ∙ ap (λ (l : List ℕ). before l x) (sym there);
+      lists = ap (λ (m : ℕ). map (cell ws ce) (from 0 m)) (b .edges-bound) ∙ b .built .entries;
+      rings = b .rings;
+      marks = b .marks;
+    }
+
+-- the lists of all nodes are the lists
+pub all-lists : (n : ℕ) (ls : List (List ℕ)) → length ls ≡ n → map (λ x. getD ls x []) (from 0 n) ≡ ls
+all-lists n ls is = ap (λ (k : ℕ). map (λ x. getD ls x []) (from 0 k)) (sym is) ∙ map-getD ls []
+
+-- ---- the store
+
+module _ {v : Words} {s : Survivors} (h : Holding v s) where
+  node-slots : v .counts .nodes ≡ based (length (s .nodes))
+  node-slots = ap (λ (c : Counts). c .nodes) (h .counts)
+
+  edge-slots : v .counts .edges ≡ based (length (s .edges))
+  edge-slots = ap (λ (c : Counts). c .edges) (h .counts)
+
+  nodes-bound : v .counts .nodes .bound ≡ length (s .nodes)
+  nodes-bound = ap (λ (c : Slots). c .bound) node-slots
+
+  nodes-base : v .counts .nodes .base ≡ length (s .nodes)
+  nodes-base = ap (λ (c : Slots). c .base) node-slots
+
+  edges-bound : v .counts .edges .bound ≡ length (s .edges)
+  edges-bound = ap (λ (c : Slots). c .bound) edge-slots
+
+  edges-base : v .counts .edges .base ≡ length (s .edges)
+  edges-base = ap (λ (c : Slots). c .base) edge-slots
+
+  -- the node slots
+  nodes-held : shape-of v .nodes ≡ map kept-node (s .nodes)
+  unfolding shape-of
+  nodes-held =
+      ap (λ (n : ℕ). map (λ x. node-slot (getD (v .nodes) x 0) (getD (node-live v) x false)) (from 0 n)) nodes-bound
+      ∙ slots-held node-slot (v .nodes) (node-live v) (length (s .nodes)) (ap (live-flags (v .live-nodes)) nodes-bound ∙ h .live-nodes .flags)
+      ∙ ap (map kept-node) (h .nodes)
+
+  -- the edge slots
+  edges-held : shape-of v .edges ≡ map kept-edge (s .edges)
+  unfolding shape-of
+  edges-held =
+      ap (λ (n : ℕ). map (λ x. edge-slot (getD (v .edges) x 0) (getD (edge-live v) x false)) (from 0 n)) edges-bound
+      ∙ slots-held edge-slot (v .edges) (edge-live v) (length (s .edges)) (ap (live-flags (v .live-edges)) edges-bound ∙ h .live-edges .flags)
+      ∙ ap (map (λ p. edge-slot p true)) (h .edges) ∙ map-map (λ p. edge-slot p true) payload-of (s .edges)
+
+  -- the shape is that of the survivors
+  pub holding-shape : shape-of v ≡ shape-of-survivors s
+  unfolding shape-of shape-of-survivors
+  holding-shape = shape-ext nodes-held edges-held nodes-base edges-base (new-axis (h .outgoing)) (new-axis (h .incoming))
+
+  pub holding-state : state-of (shape-of v) ≡ record { lists = of-survivors s; compact = true }
+  holding-state = ap state-of holding-shape ∙ survivors-state s (h .sound)
+
+  pub holding-reached : Reached (shape-of v)
+  holding-reached = subst Reached (sym holding-shape) (survivors-reached s)
+
+  plain-held : lists v ≡ of-survivors s
+  plain-held = ap plain-of holding-shape ∙ survivors-plain s (h .sound)
+
+  -- each direction passes rules 3 to 6
+  axis-held : (d : TraversalDirection) → AxisChecked (axis-words d v) (length (v .edges)) (length (v .nodes)) (v .counts) (node-live v) (edge-live v)
+  axis-held Outgoing = new-checked (h .outgoing) (h .sized Outgoing) (node-live v) (edge-live v)
+  axis-held Incoming = new-checked (h .incoming) (h .sized Incoming) (node-live v) (edge-live v)
+
+  -- the store is checked
+  pub holding-checked : Checked v
+  holding-checked = record {
+    nodes = record { bound-within = omega (arith, nodes-bound, h .nodes-fit); base-within = omega (arith, nodes-bound, nodes-base) };
+    edges = record { bound-within = omega (arith, edges-bound, h .edges-fit); base-within = omega (arith, edges-bound, edges-base) };
+    live-nodes-long = h .live-nodes-long;
+    live-edges-long = h .live-edges-long;
+    nodes-live = live-held (length (s .nodes)) (h .live-nodes) node-slots;
+    edges-live = live-held (length (s .edges)) (h .live-edges) edge-slots;
+    axis = axis-held;
+    walks = subst (WellFormed (capacities v)) (sym plain-held) (of-survivors-well-formed (capacities v) s (h .sound) (h .nodes-fit) (h .edges-fit));
+  }
+
+  -- the plain lists of all nodes
+  listed : (d : TraversalDirection) → map (list-of d (lists v)) (from 0 (v .counts .nodes .bound)) ≡ map (list-of d (of-survivors s)) (from 0 (length (s .nodes)))
+  listed d = ap₂ (λ (p : Plain) (n : ℕ). map (list-of d p) (from 0 n)) plain-held nodes-bound
+
+  directions : (d : TraversalDirection) → AxisCanonical (axis-words d v) (length (v .edges)) (length (v .nodes)) (v .counts .nodes .bound) (v .counts .edges .bound)
+      (joined (map (list-of d (lists v)) (from 0 (v .counts .nodes .bound))))
+  unfolding of-survivors
+  directions Outgoing =
+      subst (AxisCanonical (v .outgoing) (length (v .edges)) (length (v .nodes)) (v .counts .nodes .bound) (v .counts .edges .bound))
+      (sym (ap joined (listed Outgoing ∙ all-lists (length (s .nodes)) (s .outs) (fitted-many (h .sound .outs))))) (axis-canonical (h .outgoing))
+  directions Incoming =
+      subst (AxisCanonical (v .incoming) (length (v .edges)) (length (v .nodes)) (v .counts .nodes .bound) (v .counts .edges .bound))
+      (sym (ap joined (listed Incoming ∙ all-lists (length (s .nodes)) (s .ins) (fitted-many (h .sound .ins))))) (axis-canonical (h .incoming))
+
+  -- its words are canonical
+  pub holding-canonical : Canonical v
+  holding-canonical = record {
+    nodes-based = nodes-base ∙ sym nodes-bound;
+    nodes-live = ap (λ (c : Slots). c .live) node-slots ∙ sym nodes-bound;
+    edges-based = edges-base ∙ sym edges-bound;
+    edges-live = ap (λ (c : Slots). c .live) edge-slots ∙ sym edges-bound;
+    node-words = subst (λ (n : ℕ). Reset (v .live-nodes) n (v .live-nodes)) (sym nodes-bound) (h .live-nodes);
+    edge-words = subst (λ (n : ℕ). Reset (v .live-edges) n (v .live-edges)) (sym edges-bound) (h .live-edges);
+    axis = directions;
+  }

@@ -1,0 +1,99 @@
+-- `read::place` meets its contract: the two counts, and call by call.
+use mathlib.Core.Path.{ap, ap₂, _∙_}
+use native.Mathlib.Omega.{arith}
+use borrow.Author.Needs.{needs}
+use Rattle.plain.specs.declared.Slots.{Slots}
+use Rattle.plain.specs.declared.Counts.{Counts}
+use Rattle.compact.specs.Holding.{based}
+use Rattle.image.specs.Reading.{count-room, payloads-readable, axes-readable, payloads-of, axes-of, reset-of}
+use Rattle.image.proofs.read.place.Statement.{statement}
+use Rattle.image.proofs.read.place.Tie as tie
+
+-- the entry, and the calls, each from the next one
+abbrev entry : tie.After-read-field → tie.Start
+entry c = c .before .before .before .before .before .before .before .before
+
+abbrev counted : tie.After-read-axes → tie.After-read-field2
+counted c = c .before .before .before
+
+abbrev directions : tie.After-read-payloads → tie.After-read-axes
+directions c = c .before .before .before .before .before .before .before
+
+abbrev slots : tie.After-reset-all-live → tie.After-read-payloads
+slots c = c .before .before .before .before .before .before
+
+abbrev live : tie.After-reset-all-live2 → tie.After-reset-all-live
+live c = c .before .before .before .before
+
+read-field-requires : tie.Need-read-field-requires
+read-field-requires c κs = count-room _ (c .before .before .before .before .before .before .before .pre .image) 0 (omega arith)
+
+read-field-requires-2 : tie.Need-read-field-requires-2
+read-field-requires-2 c κs = count-room _ (entry c .pre .image) 16 (omega arith)
+
+read-axes-requires : tie.Need-read-axes-requires
+read-axes-requires c κs =
+    let edges = c .before .before in
+    let nodes = edges .before in
+    let pre = entry nodes .pre in
+    rw (nodes .read-field .ensures, edges .read-field2 .ensures) (axes-readable pre _ _ (pre .outgoing-room) (pre .incoming-room))
+
+read-payloads-requires : tie.Need-read-payloads-requires
+read-payloads-requires c κs =
+    let edges = c .before .before .before .before .before .before .before .before .before in
+    let nodes = edges .before in
+    let pre = entry nodes .pre in
+    rw (nodes .read-field .ensures, edges .read-field2 .ensures) (payloads-readable pre _ _ (pre .nodes-room) (pre .edges-room))
+
+reset-all-live-requires-2 : tie.Need-reset-all-live-requires-2
+reset-all-live-requires-2 c κs =
+    let edges = counted (directions (slots (c .before .before .before))) in
+    let pre = entry (edges .before) .pre in
+    omega (arith, edges .read-field2 .ensures, pre .edges-room, pre .live-edges-room)
+
+returns : tie.Need-returns
+returns c =
+    let edges-live = c .before .before .before .before in
+    let nodes-live = live edges-live in
+    let payloads = slots nodes-live in
+    let axes = directions payloads in
+    let edges = counted axes in
+    let nodes = edges .before in
+    record {
+      lengths = record {
+        nodes = payloads .read-payloads .kept .0;
+        edges = payloads .read-payloads .kept .1 .0;
+        live-nodes = nodes-live .reset-all-live .kept .0;
+        live-edges = edges-live .reset-all-live2 .kept .0;
+        outgoing = axes .read-axes .kept .0;
+        incoming = axes .read-axes .kept .1 .0;
+      };
+      counts = ap₂ {C = Counts} (λ (n e : Slots). record { nodes = n; edges = e }) (c .before .all-based .ensures ∙ ap based (nodes .read-field .ensures))
+          (c .all-based2 .ensures ∙ ap based (edges .read-field2 .ensures));
+      payloads = payloads-of (nodes .read-field .ensures) (edges .read-field2 .ensures) (payloads .read-payloads .ensures);
+      axes = axes-of (nodes .read-field .ensures) (edges .read-field2 .ensures) (axes .read-axes .ensures);
+      live-nodes = reset-of (nodes .read-field .ensures) (nodes-live .reset-all-live .ensures);
+      live-edges = reset-of (edges .read-field2 .ensures) (edges-live .reset-all-live2 .ensures);
+    }
+
+pub place-spec : {M : Type 1} → statement M
+place-spec =
+    tie.close
+    (tie.spec
+    read-field-requires
+    read-field-requires-2
+    read-axes-requires
+    read-payloads-requires
+    (λ c. search needs)
+    (λ c κs. search needs)
+    (λ c. search needs)
+    reset-all-live-requires-2
+    (λ c κs. search needs)
+    (λ c κs. search needs)
+    (λ c. search needs)
+    (λ c. search needs)
+    (λ c. search needs)
+    (λ c. search needs)
+    (λ c. search needs)
+    (λ c. search needs)
+    returns)

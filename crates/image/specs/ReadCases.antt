@@ -1,0 +1,55 @@
+-- The two ways that a reading ends: refused, or with what the bytes hold in place of all.
+use Prim.Native.Nat.{ℕ}
+use mathlib.Core.Path.{_≡_, refl, sym, ap, _∙_}
+use mathlib.Core.List.{List}
+use Rattle.plain.specs.declared.Answer.{Answer}
+use Rattle.plain.specs.declared.Counts.{Counts}
+use Rattle.plain.specs.Calls.{read-image}
+use Rattle.shape.specs.Shape.{Words, store, lengths-of}
+use Rattle.store.specs.Operations.{same-lengths}
+use Rattle.compact.specs.Holding.{holding-shape, holding-state, holding-reached, holding-checked, holding-canonical}
+use Rattle.image.specs.Reading.{Accepted, Placed, placed-holding}
+use Rattle.image.specs.Answering.{read-accepted}
+use Rattle.image.specs.Calls.{ReadOf}
+
+module _ (w : Words) (bytes : List ℕ) (answer : Answer) (told : answer ≡ read-image (lengths-of w) bytes) where
+  -- "refused": not a word and not a count
+  pub read-refused : (answer .number ≡ 0 → ⊥) → ReadOf w bytes (answer .number) (answer .value) w
+  read-refused refused = record {
+    answered = told;
+    state = λ h. absurd (refused h);
+    shape = λ h. absurd (refused h);
+    checked = λ h. absurd (refused h);
+    reached = λ h. absurd (refused h);
+    canonical = λ h. absurd (refused h);
+    lengths = same-lengths w;
+    refused-keeps = λ h. refl;
+  }
+
+  module _ (done : answer .number ≡ 0) where
+    pub accepted : Accepted (lengths-of w) bytes
+    accepted = read-accepted (lengths-of w) bytes (ap (λ (a : Answer). a .number) (sym told) ∙ done)
+
+    -- "the result equals what compaction leaves"
+    pub read-done : (counts : Counts) {v : Words} → Placed (store counts (w .nodes) (w .edges) (w .live-nodes) (w .live-edges) (w .outgoing) (w .incoming)) bytes v
+        → ReadOf w bytes (answer .number) (answer .value) v
+    read-done counts placed =
+        let holding = placed-holding accepted placed in
+        let same = placed .lengths in
+        record {
+          answered = told;
+          state = λ h. holding-state holding;
+          shape = λ h. holding-shape holding;
+          checked = λ h. holding-checked holding;
+          reached = λ h. holding-reached holding;
+          canonical = λ h. holding-canonical holding;
+          lengths = record {
+            nodes = same .nodes;
+            edges = same .edges;
+            live-nodes = same .live-nodes;
+            live-edges = same .live-edges;
+            outgoing = same .outgoing;
+            incoming = same .incoming;
+          };
+          refused-keeps = λ h. absurd (h done);
+        }

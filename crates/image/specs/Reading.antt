@@ -1,0 +1,247 @@
+-- Reading an image into a store's memory: which bytes and lengths are accepted, what is then written, and that the store holds what the bytes hold.
+use Prim.Native.Nat.{ℕ, _+_, _*_, _^_, _≤_, _<_}
+use mathlib.Core.Path.{_≡_, refl, sym, ap, ap₂, subst, subst₂, _∙_}
+use mathlib.Core.List.{List, map}
+use native.Mathlib.Omega.{arith}
+use native.Mathlib.Nat.{add-zero}
+use lib.ListN.{length, getD}
+use Rattle.plain.specs.declared.TraversalDirection.{TraversalDirection}
+use Rattle.plain.specs.declared.TraversalDirection.the-variants.{Outgoing, Incoming}
+use Rattle.plain.specs.declared.Counts.{Counts}
+use Rattle.plain.specs.Numbers.{LIMIT}
+use Rattle.plain.specs.Lists.{from}
+use Rattle.plain.specs.Bits.{fields-at, least-width}
+use Rattle.plain.specs.Compaction.{EdgeRecord, source-of, target-of}
+use Rattle.plain.specs.Image.{record-width, nodes-in, edges-in, edges-start, outs-start, ins-start, image-size, cut, list-lengths, parsed, broken-image}
+use Rattle.plain.specs.Memory.{Lengths, live-words, axis-words}
+use Rattle.plain.specs.Laws.Bits.{length-fields-at}
+use Rattle.plain.specs.Laws.Below.{below-of}
+use Rattle.plain.specs.Laws.Cutting.{joined-cut, sum-list-lengths}
+use Rattle.plain.specs.Laws.Width.{width-most}
+use Rattle.plain.specs.Laws.WellFormed.{Fitted, Sound}
+use Rattle.plain.specs.Laws.Refusals.{Counted, Readable, readable, length-edges-in}
+use Rattle.plain.specs.Laws.ImageLaws.{nodes-length, edges-length, parsed-sound}
+use Rattle.liveness.specs.Calls.{Reset}
+use Rattle.shape.specs.Columns.{Sized}
+use Rattle.shape.specs.Shape.{Words, lengths-of, axis-words as words-of}
+use Rattle.shape.specs.Laws.Indexing.{Rewritten}
+use Rattle.shape.specs.Laws.NewBase.{NewBase}
+use Rattle.store.specs.Operations.{SameLengths}
+use Rattle.compact.specs.Slots.{rewritten-range}
+use Rattle.compact.specs.Holding.{based, front, Holding, reset-same, sized-as}
+use Rattle.image.specs.Fields.{Room}
+use Rattle.image.specs.Places.{records-small, entries-small}
+use Rattle.image.specs.Spread.{spread, SpreadFits, spread-in, fields-spread, spread-at, sources-spread, targets-spread, payloads-spread}
+use Rattle.image.specs.Directions.{AxisReadable, AxisRead, read-base}
+
+-- ---- what is asked
+
+-- the lengths of a store's slices, in parameter order
+abbrev pub lengths : ℕ → ℕ → ℕ → ℕ → ℕ → ℕ → Lengths
+lengths nodes edges live-nodes live-edges outgoing incoming = record {
+  capacities = record { nodes = nodes; edges = edges };
+  live-nodes = live-nodes;
+  live-edges = live-edges;
+  outgoing = outgoing;
+  incoming = incoming;
+}
+
+-- None of the refusals of a reading holds: 13, 12, 2.
+pub record Accepted (l : Lengths) (bytes : List ℕ) : Type 0 where
+  pub few-nodes : l .capacities .nodes ≤ LIMIT
+  pub few-edges : l .capacities .edges ≤ LIMIT
+  pub image : broken-image bytes ≡ 0
+  pub nodes-room : nodes-in bytes ≤ l .capacities .nodes
+  pub edges-room : edges-in bytes ≤ l .capacities .edges
+  pub live-nodes-room : live-words (l .capacities .nodes) ≤ l .live-nodes
+  pub live-edges-room : live-words (l .capacities .edges) ≤ l .live-edges
+  pub outgoing-room : axis-words (l .capacities) ≤ l .outgoing
+  pub incoming-room : axis-words (l .capacities) ≤ l .incoming
+
+-- ---- what is read
+
+-- the payloads of n nodes, and of m edges out of their records
+abbrev pub node-payload : List ℕ → ℕ → ℕ
+node-payload bytes = spread bytes 32 32 32
+
+abbrev pub edge-payload : List ℕ → ℕ → ℕ → ℕ
+edge-payload bytes n = spread bytes (edges-start n + (least-width n + least-width n)) (record-width (least-width n)) 32
+
+pub record PayloadsReadable (nodes edges bytes : List ℕ) (n m : ℕ) : Type 0 where
+  pub nodes-there : SpreadFits bytes 32 32 32 nodes 0 n
+  pub edges-there : SpreadFits bytes (edges-start n + (least-width n + least-width n)) (record-width (least-width n)) 32 edges 0 m
+
+pub record PayloadsRead (nodes edges bytes : List ℕ) (n m : ℕ) (nodes' edges' : List ℕ) : Type 0 where
+  pub nodes-read : Rewritten nodes nodes' 0 n (node-payload bytes)
+  pub edges-read : Rewritten edges edges' 0 m (edge-payload bytes n)
+
+-- both directions: the sources and the out-lists, the targets and the in-lists
+pub record AxesReadable (outgoing incoming : List ℕ) (ce cn : ℕ) (bytes : List ℕ) (n m : ℕ) : Type 0 where
+  pub sources : AxisReadable outgoing ce cn n m bytes (edges-start n) (outs-start n m)
+  pub targets : AxisReadable incoming ce cn n m bytes (edges-start n + least-width n) (ins-start n m)
+
+pub record AxesRead (outgoing incoming : List ℕ) (ce cn : ℕ) (bytes : List ℕ) (n m : ℕ) (outgoing' incoming' : List ℕ) : Type 0 where
+  pub sources : AxisRead outgoing ce cn n m bytes (edges-start n) (outs-start n m) outgoing'
+  pub targets : AxisRead incoming ce cn n m bytes (edges-start n + least-width n) (ins-start n m) incoming'
+
+-- counts that were read
+pub payloads-of : {nodes edges bytes : List ℕ} {n m n' m' : ℕ} {nodes' edges' : List ℕ} → n ≡ n' → m ≡ m' → PayloadsRead nodes edges bytes n m nodes' edges'
+    → PayloadsRead nodes edges bytes n' m' nodes' edges'
+payloads-of {nodes} {edges} {bytes} {nodes' = nodes'} {edges'} a b r = subst₂ (λ (n m : ℕ). PayloadsRead nodes edges bytes n m nodes' edges') a b r
+
+pub axes-of : {outgoing incoming : List ℕ} {ce cn : ℕ} {bytes : List ℕ} {n m n' m' : ℕ} {outgoing' incoming' : List ℕ} → n ≡ n' → m ≡ m'
+    → AxesRead outgoing incoming ce cn bytes n m outgoing' incoming' → AxesRead outgoing incoming ce cn bytes n' m' outgoing' incoming'
+axes-of {outgoing} {incoming} {ce} {cn} {bytes} {outgoing' = outgoing'} {incoming'} a b r =
+    subst₂ (λ (n m : ℕ). AxesRead outgoing incoming ce cn bytes n m outgoing' incoming') a b r
+
+pub reset-of : {entry exit : List ℕ} {n n' : ℕ} → n ≡ n' → Reset entry n exit → Reset entry n' exit
+reset-of {entry} {exit} a r = subst (λ (n : ℕ). Reset entry n exit) a r
+
+-- What the bytes hold is in place.
+pub record Placed (w : Words) (bytes : List ℕ) (v : Words) : Type 0 where
+  pub lengths : SameLengths w v
+  pub counts : v .counts ≡ record { nodes = based (nodes-in bytes); edges = based (edges-in bytes) }
+  pub payloads : PayloadsRead (w .nodes) (w .edges) bytes (nodes-in bytes) (edges-in bytes) (v .nodes) (v .edges)
+  pub axes : AxesRead (w .outgoing) (w .incoming) (length (w .edges)) (length (w .nodes)) bytes (nodes-in bytes) (edges-in bytes) (v .outgoing) (v .incoming)
+  pub live-nodes : Reset (w .live-nodes) (nodes-in bytes) (v .live-nodes)
+  pub live-edges : Reset (w .live-edges) (edges-in bytes) (v .live-edges)
+
+-- ---- what the calls ask
+
+-- the counts are there to be read
+pub count-room : (bytes : List ℕ) → broken-image bytes ≡ 0 → (position : ℕ) → position ≤ 16 → Room bytes position 16
+count-room bytes image position h =
+    let four = readable bytes image .ended .padded .sized .counted .four in
+    record { narrow = omega arith; within = omega arith; counted = omega arith }
+
+module _ {l : Lengths} {bytes : List ℕ} (a : Accepted l bytes) where
+  abbrev n : ℕ
+  n = nodes-in bytes
+
+  abbrev m : ℕ
+  m = edges-in bytes
+
+  rules : Readable bytes
+  rules = readable bytes (a .image)
+
+  counted : Counted bytes
+  counted = rules .ended .padded .sized .counted
+
+  -- the image is within the bytes
+  whole : image-size n m ≤ 8 * length bytes
+  whole = let long = rules .ended .padded .sized .length-right in omega arith
+
+  -- and small
+  small : image-size n m + 96 < 2 ^ 64
+  small = omega (arith, counted .nodes-within, counted .edges-within, records-small n m, entries-small m)
+
+  pub payloads-readable : (nodes edges : List ℕ) → n ≤ length nodes → m ≤ length edges → PayloadsReadable nodes edges bytes n m
+  payloads-readable nodes edges nodes-room edges-room = record {
+    nodes-there = spread-in 32 0 32 32 32 n refl (omega arith) (omega arith) (omega (arith, whole)) (omega (arith, small)) (omega arith);
+    edges-there = spread-in (edges-start n) (least-width n + least-width n) (edges-start n + (least-width n + least-width n)) (record-width (least-width n)) 32 m refl
+        (omega arith) (omega arith) (omega (arith, whole)) (omega (arith, small, width-most n)) (omega arith);
+  }
+
+  -- each end is below n where they all are
+  end-below : (f : ℕ → ℕ) {ends : List ℕ} → map f (from 0 m) ≡ ends → ((e : ℕ) → e < m → getD ends e 0 < n) → (e : ℕ) → e < m → f e < n
+  end-below f are below e h = subst (λ (z : ℕ). z < n) (spread-at f m are e h) (below e h)
+
+  -- one direction: of each record the field of a node's number at bit k, and the entries from bit `lists` on
+  axis-readable : (ws : List ℕ) (k ends lists : ℕ) → axis-words (l .capacities) ≤ length ws → ends ≡ edges-start n + k → k ≤ least-width n
+      → lists + least-width m * m ≤ image-size n m → ((e : ℕ) → e < m → spread bytes ends (record-width (least-width n)) (least-width n) e < n)
+      → AxisReadable ws (l .capacities .edges) (l .capacities .nodes) n m bytes ends lists
+  axis-readable ws k ends lists room is low inside below = record {
+    sized = record { edges-within = a .few-edges; nodes-within = a .few-nodes; room = room };
+    nodes-fit = a .nodes-room;
+    edges-fit = a .edges-room;
+    ends-there = spread-in (edges-start n) k ends (record-width (least-width n)) (least-width n) m is (omega arith) (width-most n) (omega (arith, whole))
+        (omega (arith, small, width-most n)) (omega (arith, a .edges-room));
+    ends-below = below;
+    lists-there = spread-in lists 0 lists (least-width m) (least-width m) m (sym (add-zero lists)) (omega arith) (width-most m) (omega (arith, whole))
+        (omega (arith, small, width-most m)) (omega (arith, a .edges-room));
+  }
+
+  pub axes-readable : (outgoing incoming : List ℕ) → axis-words (l .capacities) ≤ length outgoing → axis-words (l .capacities) ≤ length incoming
+      → AxesReadable outgoing incoming (l .capacities .edges) (l .capacities .nodes) bytes n m
+  unfolding parsed
+  axes-readable outgoing incoming out-room in-room = record {
+    sources = axis-readable outgoing 0 (edges-start n) (outs-start n m) out-room (sym (add-zero (edges-start n))) (omega arith) (omega arith)
+        (end-below (spread bytes (edges-start n) (record-width (least-width n)) (least-width n)) (sources-spread bytes (least-width n) (edges-start n) m)
+        (rules .ended .sources-below));
+    targets = axis-readable incoming (least-width n) (edges-start n + least-width n) (ins-start n m) in-room refl (omega arith) (omega arith)
+        (end-below (spread bytes (edges-start n + least-width n) (record-width (least-width n)) (least-width n))
+        (targets-spread bytes (least-width n) (edges-start n) m) (rules .ended .targets-below));
+  }
+
+-- ---- the store afterwards
+
+module _ {w : Words} {bytes : List ℕ} {v : Words} (a : Accepted (lengths-of w) bytes) (r : Placed w bytes v) where
+  -- the lists that begin at a bit, by these ends
+  abbrev lists-at : ℕ → List ℕ → List (List ℕ)
+  lists-at position ends = cut (list-lengths (nodes-in bytes) ends) (fields-at bytes position (least-width (edges-in bytes)) (edges-in bytes))
+
+  sound : Sound (parsed bytes)
+  sound = parsed-sound bytes (a .image)
+
+  ready : AxesReadable (w .outgoing) (w .incoming) (length (w .edges)) (length (w .nodes)) bytes (nodes-in bytes) (edges-in bytes)
+  ready = axes-readable a (w .outgoing) (w .incoming) (a .outgoing-room) (a .incoming-room)
+
+  -- the base of one direction
+  base-of : {ws ws' : List ℕ} (end : EdgeRecord → ℕ) (ends lists : ℕ)
+      → AxisReadable ws (length (w .edges)) (length (w .nodes)) (nodes-in bytes) (edges-in bytes) bytes ends lists
+      → AxisRead ws (length (w .edges)) (length (w .nodes)) (nodes-in bytes) (edges-in bytes) bytes ends lists ws'
+      → map (spread bytes ends (record-width (least-width (nodes-in bytes))) (least-width (nodes-in bytes))) (from 0 (edges-in bytes)) ≡ map end (parsed bytes .edges)
+      → Fitted (length (parsed bytes .nodes)) (map end (parsed bytes .edges)) (lists-at lists (map end (parsed bytes .edges)))
+      → NewBase ws' (length (w .edges)) (length (w .nodes)) (v .counts) (map end (parsed bytes .edges)) (lists-at lists (map end (parsed bytes .edges)))
+  base-of end ends lists ready read are fitted =
+      let of-nodes = subst (λ (k : ℕ). Fitted k (map end (parsed bytes .edges)) (lists-at lists (map end (parsed bytes .edges)))) (nodes-length bytes) fitted in
+      let entries = fields-at bytes lists (least-width (edges-in bytes)) (edges-in bytes) in
+      let long = length-fields-at bytes lists (least-width (edges-in bytes)) (edges-in bytes) ∙ sym (length-edges-in bytes end) in
+      read-base ready read (v .counts) (map end (parsed bytes .edges)) (lists-at lists (map end (parsed bytes .edges)))
+      (ap (λ (c : Counts). c .nodes .bound) (r .counts)) (ap (λ (c : Counts). c .nodes .base) (r .counts)) (ap (λ (c : Counts). c .edges .bound) (r .counts))
+      (ap (λ (c : Counts). c .edges .base) (r .counts)) are
+      (sym (joined-cut (list-lengths (nodes-in bytes) (map end (parsed bytes .edges))) entries
+      (sum-list-lengths (nodes-in bytes) (below-of (map end (parsed bytes .edges)) (of-nodes .ends-below)) ∙ sym long)))
+      of-nodes
+
+  out-base : NewBase (v .outgoing) (length (w .edges)) (length (w .nodes)) (v .counts) (map source-of (parsed bytes .edges)) (parsed bytes .outs)
+  unfolding parsed
+  out-base =
+      base-of source-of (edges-start (nodes-in bytes)) (outs-start (nodes-in bytes) (edges-in bytes)) (ready .sources) (r .axes .sources)
+      (sources-spread bytes (least-width (nodes-in bytes)) (edges-start (nodes-in bytes)) (edges-in bytes)) (sound .outs)
+
+  in-base : NewBase (v .incoming) (length (w .edges)) (length (w .nodes)) (v .counts) (map target-of (parsed bytes .edges)) (parsed bytes .ins)
+  unfolding parsed
+  in-base =
+      base-of target-of (edges-start (nodes-in bytes) + least-width (nodes-in bytes)) (ins-start (nodes-in bytes) (edges-in bytes)) (ready .targets) (r .axes .targets)
+      (targets-spread bytes (least-width (nodes-in bytes)) (edges-start (nodes-in bytes)) (edges-in bytes)) (sound .ins)
+
+  sized-again : (d : TraversalDirection) → Sized (words-of d v) (length (v .edges)) (length (v .nodes))
+  sized-again Outgoing = subst₂ (Sized (v .outgoing)) (sym (r .lengths .edges)) (sym (r .lengths .nodes)) (sized-as (r .lengths .outgoing) (ready .sources .sized))
+  sized-again Incoming = subst₂ (Sized (v .incoming)) (sym (r .lengths .edges)) (sym (r .lengths .nodes)) (sized-as (r .lengths .incoming) (ready .targets .sized))
+
+  -- the store holds what the bytes hold
+  pub placed-holding : Holding v (parsed bytes)
+  unfolding parsed
+  placed-holding =
+      let same = r .lengths in
+      let many-nodes = nodes-length bytes in
+      let many-edges = edges-length bytes in
+      record {
+        sound = sound;
+        counts = r .counts ∙ ap₂ {C = Counts} (λ (n m : ℕ). record { nodes = based n; edges = based m }) (sym many-nodes) (sym many-edges);
+        nodes-fit = omega (arith, a .nodes-room, same .nodes);
+        edges-fit = omega (arith, a .edges-room, same .edges);
+        live-nodes-long = rw (same .nodes, same .live-nodes) (a .live-nodes-room);
+        live-edges-long = rw (same .edges, same .live-edges) (a .live-edges-room);
+        sized = sized-again;
+        nodes = ap (front (v .nodes)) many-nodes ∙ rewritten-range (r .payloads .nodes-read) ∙ fields-spread bytes 32 32 (nodes-in bytes);
+        edges = ap (front (v .edges)) many-edges ∙ rewritten-range (r .payloads .edges-read)
+            ∙ payloads-spread bytes (least-width (nodes-in bytes)) (edges-start (nodes-in bytes)) (edges-in bytes);
+        live-nodes = subst (λ (k : ℕ). Reset (v .live-nodes) k (v .live-nodes)) (sym many-nodes) (reset-same (r .live-nodes));
+        live-edges = subst (λ (k : ℕ). Reset (v .live-edges) k (v .live-edges)) (sym many-edges) (reset-same (r .live-edges));
+        outgoing = subst₂ (λ (ce cn : ℕ). NewBase (v .outgoing) ce cn (v .counts) (map source-of (parsed bytes .edges)) (parsed bytes .outs)) (sym (same .edges))
+            (sym (same .nodes)) out-base;
+        incoming = subst₂ (λ (ce cn : ℕ). NewBase (v .incoming) ce cn (v .counts) (map target-of (parsed bytes .edges)) (parsed bytes .ins)) (sym (same .edges))
+            (sym (same .nodes)) in-base;
+      }

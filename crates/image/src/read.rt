@@ -1,0 +1,329 @@
+// Reading an image into a store's memory: the bytes are checked, and what they hold is put in place of all that was there, all of it in the base. The result is
+// what compaction leaves.
+
+use crate::bits;
+use crate::check;
+use crate::places;
+use adjacency::index;
+use compact;
+use liveness;
+use plain::Answer;
+use plain::Changed;
+use plain::Counts;
+use plain::LIMIT;
+use plain::NONE;
+use plain::numbers;
+ghost use mathlib.Core.Path.{_≡_};
+ghost use Prim.Native.Nat.{_≤_};
+ghost use lib.ListN.{length};
+ghost use Rattle.plain.specs.Bits.{fields-at};
+ghost use Rattle.plain.specs.Numbers.{LIMIT};
+ghost use Rattle.plain.specs.Memory.{first-short};
+ghost use Rattle.plain.specs.Calls.{short-answer, reading-slices, read-image};
+ghost use Rattle.shape.specs.Shape.{store};
+ghost use Rattle.shape.specs.Laws.Indexing.{Rewritten};
+ghost use Rattle.compact.specs.Bases.{Rebuilt};
+ghost use Rattle.image.specs.Spread.{spread, SpreadFits};
+ghost use Rattle.image.specs.Directions.{BaseReadable, AxisReadable, AxisRead};
+ghost use Rattle.image.specs.Answering.{lacking as lacking-of};
+ghost use Rattle.image.specs.Calls.{ReadOf};
+ghost use Rattle.image.specs.Reading.{lengths, Accepted, PayloadsReadable, PayloadsRead, AxesReadable, AxesRead, Placed};
+
+// Reads `count` fields of `width` bits, the first at bit `position` and each `stride` bits further, into words from `at` on.
+fn read_fields(
+    bytes: &[u8],
+    position: usize,
+    stride: usize,
+    width: u32,
+    words: &mut [u32],
+    at: usize,
+    count: usize,
+)
+    requires { ⌜ SpreadFits (now bytes) position stride width (now words) at count ⌝ }
+    ensures { λ _. ⌜ Rewritten (now (words .entry)) (now (words .exit)) at count (spread (now (bytes .entry)) position stride width) ⌝ }
+{
+    let mut from = position;
+    let mut i: usize = 0;
+    while i < count {
+        words[at + i] = bits::read_field(bytes, from, width);
+        from += stride;
+        i += 1;
+    }
+}
+
+// Builds the base of one direction once the ends are in place: the offsets counted from them, the joined lists read, every ring empty, and no run.
+fn read_base(
+    axis: &mut [u32],
+    edges: usize,
+    nodes: usize,
+    count_nodes: usize,
+    count_edges: usize,
+    bytes: &[u8],
+    position: usize,
+    width: u32,
+)
+    requires { ⌜ BaseReadable (now axis) edges nodes «count_nodes» «count_edges» (now bytes) position width ⌝ }
+    ensures { λ _. ⌜ Rebuilt (now (axis .entry)) edges nodes «count_nodes» «count_edges» (fields-at (now (bytes .entry)) position width «count_edges») (now (axis .exit)) ⌝ }
+{
+    index::count_offsets(axis, edges, nodes, count_nodes, count_edges);
+    read_fields(
+        bytes,
+        position,
+        width as usize,
+        width,
+        axis,
+        edges,
+        count_edges,
+    );
+    index::fill_words(axis, 4 * edges, count_nodes, NONE);
+    index::fill_words(axis, 4 * edges + 4 * nodes, count_nodes, 0);
+}
+
+// Reads one direction: the ends of the edges from bit `ends` on, a record apart, and the joined lists from bit `lists` on.
+fn read_axis(
+    axis: &mut [u32],
+    edges: usize,
+    nodes: usize,
+    count_nodes: u32,
+    count_edges: u32,
+    bytes: &[u8],
+    ends: usize,
+    lists: usize,
+)
+    requires { ⌜ AxisReadable (now axis) edges nodes «count_nodes» «count_edges» (now bytes) ends lists ⌝ }
+    ensures { λ _. ⌜ AxisRead (now (axis .entry)) edges nodes «count_nodes» «count_edges» (now (bytes .entry)) ends lists (now (axis .exit)) ⌝ }
+{
+    let n = count_nodes as usize;
+    let m = count_edges as usize;
+    let node_width = bits::least_width(count_nodes);
+    let edge_width = bits::least_width(count_edges);
+    let stride = places::record_width(count_nodes);
+    read_fields(bytes, ends, stride, node_width, axis, 0, m);
+    read_base(axis, edges, nodes, n, m, bytes, lists, edge_width);
+}
+
+// Reads the payloads of nodes and edges.
+fn read_payloads(
+    nodes: &mut [u32],
+    edges: &mut [u32],
+    bytes: &[u8],
+    count_nodes: u32,
+    count_edges: u32,
+)
+    requires { ⌜ PayloadsReadable (now nodes) (now edges) (now bytes) «count_nodes» «count_edges» ⌝ }
+    ensures { λ _. ⌜ PayloadsRead (now (nodes .entry)) (now (edges .entry)) (now (bytes .entry)) «count_nodes» «count_edges» (now (nodes .exit)) (now (edges .exit)) ⌝ }
+{
+    let width = bits::least_width(count_nodes) as usize;
+    let stride = places::record_width(count_nodes);
+    let payloads = places::edges_start(count_nodes) + (width + width);
+    read_fields(bytes, 32, 32, 32, nodes, 0, count_nodes as usize);
+    read_fields(bytes, payloads, stride, 32, edges, 0, count_edges as usize);
+}
+
+// Reads both directions. `edges` and `nodes` are the capacities.
+fn read_axes(
+    outgoing: &mut [u32],
+    incoming: &mut [u32],
+    edges: usize,
+    nodes: usize,
+    bytes: &[u8],
+    count_nodes: u32,
+    count_edges: u32,
+)
+    requires { ⌜ AxesReadable (now outgoing) (now incoming) edges nodes (now bytes) «count_nodes» «count_edges» ⌝ }
+    ensures { λ _. ⌜ AxesRead (now (outgoing .entry)) (now (incoming .entry)) edges nodes (now (bytes .entry)) «count_nodes» «count_edges» (now (outgoing .exit)) (now (incoming .exit)) ⌝ }
+{
+    let sources = places::edges_start(count_nodes);
+    let targets = sources + bits::least_width(count_nodes) as usize;
+    let outs = places::outs_start(count_nodes, count_edges);
+    let ins = places::ins_start(count_nodes, count_edges);
+    read_axis(
+        outgoing,
+        edges,
+        nodes,
+        count_nodes,
+        count_edges,
+        bytes,
+        sources,
+        outs,
+    );
+    read_axis(
+        incoming,
+        edges,
+        nodes,
+        count_nodes,
+        count_edges,
+        bytes,
+        targets,
+        ins,
+    );
+}
+
+// Puts what an image's bytes hold in place of all: payloads, both directions, every slot live and in the base.
+fn place(
+    nodes: &mut [u32],
+    edges: &mut [u32],
+    live_nodes: &mut [u64],
+    live_edges: &mut [u64],
+    outgoing: &mut [u32],
+    incoming: &mut [u32],
+    bytes: &[u8],
+) -> Counts
+    requires { ⌜ Accepted (lengths (length (now nodes)) (length (now edges)) (length (now «live_nodes»)) (length (now «live_edges»)) (length (now outgoing)) (length (now incoming))) (now bytes) ⌝ }
+    ensures { λ r. ⌜ Placed
+        (store r (now (nodes .entry)) (now (edges .entry)) (now («live_nodes» .entry)) (now («live_edges» .entry)) (now (outgoing .entry)) (now (incoming .entry)))
+        (now (bytes .entry))
+        (store r (now (nodes .exit)) (now (edges .exit)) (now («live_nodes» .exit)) (now («live_edges» .exit)) (now (outgoing .exit)) (now (incoming .exit))) ⌝ }
+{
+    let count_nodes = bits::read_field(bytes, 0, 16);
+    let count_edges = bits::read_field(bytes, 16, 16);
+    read_axes(
+        outgoing,
+        incoming,
+        edges.len(),
+        nodes.len(),
+        bytes,
+        count_nodes,
+        count_edges,
+    );
+    read_payloads(nodes, edges, bytes, count_nodes, count_edges);
+    liveness::reset_all_live(live_nodes, count_nodes as usize);
+    liveness::reset_all_live(live_edges, count_edges as usize);
+    Counts {
+        nodes: compact::all_based(count_nodes),
+        edges: compact::all_based(count_edges),
+    }
+}
+
+// The answer, or "a lent slice too short: 2, length needed".
+fn lacking(needs: usize, has: usize, rest: Answer) -> Answer
+    ensures { λ r. ⌜ r ≡ lacking-of needs has rest ⌝ }
+{
+    if needs <= has {
+        return rest;
+    }
+    Answer {
+        number: numbers::TOO_SHORT,
+        value: needs as u64,
+    }
+}
+
+// The answer to an image of two counts, by the lengths of the memory: 2 for the first slice that is too short.
+fn room_for(
+    count_nodes: u32,
+    count_edges: u32,
+    nodes: usize,
+    edges: usize,
+    live_nodes: usize,
+    live_edges: usize,
+    outgoing: usize,
+    incoming: usize,
+) -> Answer
+    requires { ⌜ (nodes ≤ LIMIT) × (edges ≤ LIMIT) ⌝ }
+    ensures { λ r. ⌜ r ≡ short-answer (first-short (reading-slices «count_nodes» «count_edges» (lengths nodes edges «live_nodes» «live_edges» outgoing incoming))) ⌝ }
+{
+    let done = Answer {
+        number: numbers::DONE,
+        value: 0,
+    };
+    let axis_words = 4 * edges + 6 * nodes + 1;
+    let axes = lacking(axis_words, outgoing, lacking(axis_words, incoming, done));
+    let live = lacking((edges + 63) / 64, live_edges, axes);
+    let others = lacking((nodes + 63) / 64, live_nodes, live);
+    let payloads = lacking(count_edges as usize, edges, others);
+    lacking(count_nodes as usize, nodes, payloads)
+}
+
+// The answer of a reading, by the lengths of the memory and the bytes: "13, 12, 2".
+fn answer(
+    nodes: usize,
+    edges: usize,
+    live_nodes: usize,
+    live_edges: usize,
+    outgoing: usize,
+    incoming: usize,
+    bytes: &[u8],
+) -> Answer
+    ensures { λ r. ⌜ r ≡ read-image (lengths nodes edges «live_nodes» «live_edges» outgoing incoming) (now (bytes .entry)) ⌝ }
+{
+    let limit = LIMIT as usize;
+    if limit < nodes {
+        return Answer {
+            number: numbers::ABOVE_LIMIT,
+            value: nodes as u64,
+        };
+    }
+    if limit < edges {
+        return Answer {
+            number: numbers::ABOVE_LIMIT,
+            value: edges as u64,
+        };
+    }
+    let rule = check::first_broken(bytes);
+    if rule != 0 {
+        return Answer {
+            number: numbers::UNREADABLE,
+            value: rule as u64,
+        };
+    }
+    room_for(
+        bits::read_field(bytes, 0, 16),
+        bits::read_field(bytes, 16, 16),
+        nodes,
+        edges,
+        live_nodes,
+        live_edges,
+        outgoing,
+        incoming,
+    )
+}
+
+// Reads an image into a store's memory, whatever stands there. Refused, nothing is written.
+pub fn read_image(
+    counts: Counts,
+    nodes: &mut [u32],
+    edges: &mut [u32],
+    live_nodes: &mut [u64],
+    live_edges: &mut [u64],
+    outgoing: &mut [u32],
+    incoming: &mut [u32],
+    bytes: &[u8],
+) -> Changed
+    ensures { λ r. ⌜ ReadOf
+        (store counts (now (nodes .entry)) (now (edges .entry)) (now («live_nodes» .entry)) (now («live_edges» .entry)) (now (outgoing .entry)) (now (incoming .entry)))
+        (now (bytes .entry)) (r .number) (r .value)
+        (store (r .counts) (now (nodes .exit)) (now (edges .exit)) (now («live_nodes» .exit)) (now («live_edges» .exit)) (now (outgoing .exit)) (now (incoming .exit))) ⌝ }
+{
+    let told = answer(
+        nodes.len(),
+        edges.len(),
+        live_nodes.len(),
+        live_edges.len(),
+        outgoing.len(),
+        incoming.len(),
+        bytes,
+    );
+    let number = told.number;
+    let value = told.value;
+    if number != 0 {
+        return Changed {
+            number,
+            value,
+            counts,
+        };
+    }
+    let after = place(
+        nodes,
+        edges,
+        live_nodes,
+        live_edges,
+        outgoing,
+        incoming,
+        bytes,
+    );
+    Changed {
+        number,
+        value,
+        counts: after,
+    }
+}
