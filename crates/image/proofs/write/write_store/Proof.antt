@@ -42,6 +42,8 @@ pub write-store-spec : {M : Type 1} → statement M
 write-store-spec =
     tie.close
     (tie.spec
+    (λ c. search needs)
+    (λ c. search needs)
     (λ c κs. search needs)
     returns
     (λ c. search needs)
