@@ -287,13 +287,13 @@ impl Readable<'_> {
     /// The walk into a slice that it fits, and its length.
     pub fn write(&self, node: usize, live: bool, out: &mut [u32]) -> usize {
         let Axis { words, layout } = self.asked(node);
-        let count = self.count(node, live);
+        let count = self.degree(node, live);
         assert!(
             count <= out.len(),
             "required of write_walk: room for the walk"
         );
         // SAFETY: as in `count`; `out` is borrowed mutably and `WalkFits`, since
-        // the length of the walk is what `lot_count_walk` is proved to give.
+        // the length of the walk is what `lot_degree` is proved to give.
         unsafe {
             exports::lot_write_walk(
                 words.as_ptr(),
