@@ -15,6 +15,8 @@
  *   5       a node at or above the bound                 LOT_NONE
  *   7       an edge at or above the bound                LOT_NONE
  *   8       a removed edge                               LOT_NONE
+ *   11      the image of a store that is not compact     LOT_NONE
+ *   12      bytes that are no image                      the first broken rule, 1 to 6 (lot_read_image)
  *   13      a capacity above 32,768                      that capacity
  *
  * Operations of a strip are refused by themselves (lot_strip). docs/ENTRIES.md tells the same of the Rattle functions, with the definition that each is proved
@@ -122,6 +124,16 @@ lot_changed lot_strip(lot_counts counts, LOT_STORE_WRITTEN, const uint32_t *word
 lot_changed lot_compact(lot_counts counts, LOT_STORE_WRITTEN, uint32_t *node_map, size_t node_map_length, uint32_t *edge_map, size_t edge_map_length,
     uint32_t *work, size_t work_length);
 
+/* The store of an image in place of all that was there. The result is what a compaction leaves: every slot live, all in the base.
+ *
+ * Answers 0, with the counts of the image, which the next call takes. Refuses 13 (nodes before edges), then 12 with the first broken rule, then 2: `nodes` shorter
+ * than the image's node count, `edges` shorter than its edge count, then the other slices in their order; then the counts are those given. The rules of 12:
+ *   1  under 4 bytes                        4  a padding bit that is not 0
+ *   2  a count above 32,768                 5  an end that is not below the node count
+ *   3  a length that the counts do not give 6  a list entry not below the edge count, repeated, or at the wrong node
+ * What was there is not checked, and need not be a store: counts of any content are taken. */
+lot_changed lot_read_image(lot_counts counts, LOT_STORE_WRITTEN, const uint8_t *bytes, size_t bytes_length);
+
 /* Whether the words are a store. Answers 0. Refuses 1. Every function below that takes a store makes the same check first. */
 lot_answer lot_check(lot_counts counts, LOT_STORE_READ);
 
@@ -176,6 +188,10 @@ lot_answer lot_is_compact(lot_counts counts, LOT_STORE_READ);
 /* The live slots in slot order, at the start of `slots`. Answers how many. Refuses 1, 2. Leaves the words of `slots` past them. */
 lot_answer lot_node_ids(lot_counts counts, LOT_STORE_READ, uint32_t *slots, size_t slots_length);
 lot_answer lot_edge_ids(lot_counts counts, LOT_STORE_READ, uint32_t *slots, size_t slots_length);
+
+/* The image of a compact store, at the start of `bytes`: bit-packed, most significant bit first, the same for stores that hold the same. Answers how many bytes.
+ * Refuses 1, 11, 2. Leaves the bytes past them. */
+lot_answer lot_write_image(lot_counts counts, LOT_STORE_READ, uint8_t *bytes, size_t bytes_length);
 
 /* ---- maps of compactions: at each old slot the new one, or LOT_NONE where it was removed */
 

@@ -15,6 +15,7 @@ mod columns;
 #[cfg(feature = "serde")]
 mod damaged;
 mod exports;
+mod images;
 mod live;
 mod maps;
 mod memory;
@@ -349,6 +350,7 @@ pub fn compare(operations: u64, depth: usize, seed: u64, tally: &mut Tally) -> S
     sequences::compare_exhaustive::<Ported>(depth, tally);
     strips::compare_fresh(4_000, seed, tally)?;
     strips::compare(4_000, seed, tally)?;
+    images::compare(20_000, seed, tally)?;
     maps::compare(20_000, seed, tally)?;
     #[cfg(feature = "serde")]
     {

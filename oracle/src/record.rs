@@ -6,7 +6,7 @@
 
 use std::fmt::{Debug, Write};
 
-use crate::calls::{self, Lots, hexadecimal};
+use crate::calls::{self, LOTSTRIP, Lots, hexadecimal};
 use crate::compare::Trio;
 use crate::generate::{Generator, MEDIUM, MIXES, Mix, SHORT, STRIP, Size, Step, compact_lists};
 use crate::graph::traverse::TraversalDirection;
@@ -279,7 +279,7 @@ fn sequences(seed: u64, tally: &mut Tally) -> Result<String, Difference> {
 }
 
 /// A random image, most of the time spoiled in its lists or in its bytes.
-fn spoiled_image(rng: &mut Rng) -> Vec<u8> {
+pub fn spoiled_image(rng: &mut Rng) -> Vec<u8> {
     let mut plain = compact_lists(rng, Capacities { nodes: 5, edges: 7 });
     let (nodes, edges) = (plain.nodes.len() as u32, plain.edges.len());
     let incidence = match rng.one_in(2) {
@@ -358,8 +358,8 @@ fn covers_reading(text: &str) -> bool {
             .all(|&number| seen.iter().any(|seen| seen.1 == Some(number)))
 }
 
-/// What `crates/replay_main` reads and has to print: the sequences up to their
-/// first image reading, which the port has not yet. Left out are images.
+/// What `crates/replay_main` reads and has to print: every call of both files, but
+/// for readings into capacities above the limit.
 #[derive(Default)]
 struct Replay {
     calls: String,
@@ -410,6 +410,51 @@ impl Replay {
         self.answer(&told);
     }
 
+    /// An image read: its bytes, sixteen a line, the last of them filled with 0.
+    fn reading(&mut self, bytes: &[u8], told: &[u32]) {
+        let lines = bytes.chunks(16);
+        self.call(15, &[bytes.len() as u32, lines.len() as u32]);
+        for line in lines {
+            let mut sixteen = [0; 16];
+            sixteen[..line.len()].copy_from_slice(line);
+            let (words, _) = sixteen.as_chunks::<4>();
+            let words: Vec<u32> = words.iter().map(|&word| u32::from_be_bytes(word)).collect();
+            self.call(15, &words);
+        }
+        self.answer(told);
+    }
+
+    /// The image written, and its bytes where it is done.
+    fn image(&mut self, rest: &str) {
+        let numbers = numbers_of(rest);
+        let mut told = numbers[1..3].to_vec();
+        if told[0] == 0 {
+            let text = rest.rsplit(' ').next().expect("the bytes");
+            told.extend(bytes_of(text).into_iter().map(u32::from));
+        }
+        self.one(14, &numbers[..1], &told);
+    }
+
+    /// A line of `images.txt`, read into a fresh store of these capacities, cut where
+    /// the program's memory ends: that is longer than the counts of any image here.
+    fn image_line(&mut self, text: &str) {
+        let fields: Vec<&str> = text.split(' ').collect();
+        let [nodes, edges, bytes, number, value] = fields[..] else {
+            unreachable!("five fields")
+        };
+        if number == "13" {
+            return;
+        }
+        let [nodes, edges] =
+            [(nodes, LOTSTRIP.nodes), (edges, LOTSTRIP.edges)].map(|(text, most)| {
+                text.parse()
+                    .map_or(most, |capacity: u32| capacity.min(most))
+            });
+        self.one(0, &[nodes, edges], &[0, 0]);
+        let bytes = if bytes == "-" { "" } else { bytes };
+        self.reading(&bytes_of(bytes), &numbers_of(&format!("{number} {value}")));
+    }
+
     /// A compaction: number and value beside each of the three slices that it
     /// leaves where it is done.
     fn compaction<'l>(&mut self, numbers: &[u32], lines: &mut impl Iterator<Item = &'l str>) {
@@ -417,12 +462,19 @@ impl Replay {
         for _ in 0..3 {
             let mut told = numbers[3..].to_vec();
             if numbers[3] == 0 {
-                let (_, words) = named(lines.next().expect("a slice a line"));
-                told.extend(words);
+                let text = lines.next().expect("a slice a line");
+                let (_, words) = text.split_once(' ').unwrap_or((text, ""));
+                told.extend(numbers_of(words));
             }
             self.answer(&told);
         }
     }
+}
+
+/// The bytes of a hexadecimal text.
+fn bytes_of(text: &str) -> Vec<u8> {
+    let digit = |at: usize| u8::from_str_radix(&text[at..at + 2], 16).expect("two digits");
+    (0..text.len()).step_by(2).map(digit).collect()
 }
 
 /// The numbers of a line's text.
@@ -432,26 +484,12 @@ fn numbers_of(text: &str) -> Vec<u32> {
         .collect()
 }
 
-/// The name and the numbers of a line.
-fn named(text: &str) -> (&str, Vec<u32>) {
-    let (name, rest) = text.split_once(' ').unwrap_or((text, ""));
-    (name, numbers_of(rest))
-}
-
-fn replay(sequences: &str) -> [String; 2] {
+fn replay(sequences: &str, images: &str) -> [String; 2] {
     let mut replay = Replay::default();
-    let mut read = false;
     let mut lines = sequences.lines().skip(1);
     while let Some(text) = lines.next() {
-        let (name, numbers) = named(text);
-        match name {
-            "fresh" => read = false,
-            "read" => read = true,
-            _ => {}
-        }
-        if read {
-            continue;
-        }
+        let (name, rest) = text.split_once(' ').unwrap_or((text, ""));
+        let numbers = numbers_of(rest);
         match name {
             "fresh" => replay.one(0, &numbers, &[0, 0]),
             "strip" => replay.strip(&numbers, &mut lines),
@@ -465,8 +503,13 @@ fn replay(sequences: &str) -> [String; 2] {
             "store" => replay.one(9, &[], &numbers),
             "compact" => replay.compaction(&numbers, &mut lines),
             "find" => replay.one(13, &numbers[..2], &numbers[2..]),
-            _ => {}
+            "image" => replay.image(rest),
+            "read" => replay.reading(&bytes_of(rest), &[0, 0]),
+            name => unreachable!("a line of sequences.txt, {name}"),
         }
+    }
+    for text in images.lines().skip(1) {
+        replay.image_line(text);
     }
     [replay.calls, replay.answers]
 }
@@ -474,10 +517,11 @@ fn replay(sequences: &str) -> [String; 2] {
 /// All files, by name.
 pub fn files(seed: u64, tally: &mut Tally) -> Result<[(&'static str, String); 4], Difference> {
     let sequences = sequences(seed, tally)?;
-    let [calls, answers] = replay(&sequences);
+    let images = images(seed);
+    let [calls, answers] = replay(&sequences, &images);
     Ok([
         (SEQUENCES, sequences),
-        (IMAGES, images(seed)),
+        (IMAGES, images),
         (CALLS, calls),
         (ANSWERS, answers),
     ])

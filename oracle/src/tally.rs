@@ -118,6 +118,10 @@ things! {
         "The check, the yes or no reads of a store, bounds and counts: 1.";
     BookCompaction: "book: compactions, their maps, work slices and refusals, and second ones",
         "Compaction works as `Graph::compact`.";
+    BookImage: "book: images written, into slices of several lengths, and refused",
+        "Only compact stores have one. Writing: 1, 11, 2.";
+    BookReading: "book: images read, and refused",
+        "Reading: 13, 12, 2 .. and the result equals what compaction leaves.";
     BookList: "book: walks, successors and predecessors, lists of live slots, into slices of several lengths",
         "Walk: 1, 5, 2. List of live nodes or edges in slot order: 1, 2.";
     BookDegree: "book: degrees",

@@ -1,6 +1,6 @@
 //! What the static library of crate `boundary` exports, and the one place where it
 //! is called. A slice is a pointer and a length. No function requires more than
-//! that its slices can be read, those for answers and a strip's store written, and
+//! that its slices can be read, those for answers and a changed store written, and
 //! that they do not overlap: the borrows say so.
 
 use super::Memory;
@@ -55,7 +55,7 @@ pub struct Record {
 /// Declares reads of a store, each with its own arguments and whether it is lent a
 /// slice, and a method of [`Memory`] for each.
 macro_rules! reads {
-    ($($name:ident($($argument:ident),* $(; $slots:ident)?) -> $answer:ty;)*) => {
+    ($($name:ident($($argument:ident),* $(; $slots:ident: $word:ty)?) -> $answer:ty;)*) => {
         mod reads {
             use super::{Answer, Counts, Record};
 
@@ -75,13 +75,13 @@ macro_rules! reads {
                     incoming: *const u32,
                     incoming_length: usize,
                     $($argument: u32,)*
-                    $($slots: *mut u32, length: usize,)?
+                    $($slots: *mut $word, length: usize,)?
                 ) -> $answer;)*
             }
         }
 
         impl Memory {
-            $(pub fn $name(&self, $($argument: u32,)* $($slots: &mut [u32])?) -> $answer {
+            $(pub fn $name(&self, $($argument: u32,)* $($slots: &mut [$word])?) -> $answer {
                 let [outgoing, incoming] = &self.axes;
                 // SAFETY: the slices are borrowed and as long as stated.
                 unsafe {
@@ -110,10 +110,10 @@ macro_rules! reads {
 
 reads! {
     lot_check() -> Answer;
-    lot_outgoing(node; slots) -> Answer;
-    lot_incoming(node; slots) -> Answer;
-    lot_successors(node; slots) -> Answer;
-    lot_predecessors(node; slots) -> Answer;
+    lot_outgoing(node; slots: u32) -> Answer;
+    lot_incoming(node; slots: u32) -> Answer;
+    lot_successors(node; slots: u32) -> Answer;
+    lot_predecessors(node; slots: u32) -> Answer;
     lot_out_degree(node) -> Answer;
     lot_in_degree(node) -> Answer;
     lot_find(first, second) -> Answer;
@@ -128,8 +128,9 @@ reads! {
     lot_edge_bound() -> Answer;
     lot_node_count() -> Answer;
     lot_edge_count() -> Answer;
-    lot_node_ids(; slots) -> Answer;
-    lot_edge_ids(; slots) -> Answer;
+    lot_node_ids(; slots: u32) -> Answer;
+    lot_edge_ids(; slots: u32) -> Answer;
+    lot_write_image(; bytes: u8) -> Answer;
 }
 
 mod others {
@@ -189,6 +190,23 @@ mod others {
             edge_map_length: usize,
             work: *mut u32,
             work_length: usize,
+        ) -> Changed;
+        pub fn lot_read_image(
+            counts: Counts,
+            nodes: *mut u32,
+            nodes_length: usize,
+            edges: *mut u32,
+            edges_length: usize,
+            live_nodes: *mut u64,
+            live_nodes_length: usize,
+            live_edges: *mut u64,
+            live_edges_length: usize,
+            outgoing: *mut u32,
+            outgoing_length: usize,
+            incoming: *mut u32,
+            incoming_length: usize,
+            bytes: *const u8,
+            bytes_length: usize,
         ) -> Changed;
         pub fn lot_lookup(renumbering: *const u32, length: usize, slot: u32) -> Answer;
         pub fn lot_compose(
@@ -286,6 +304,31 @@ impl Memory {
                 edge_map.len(),
                 work.as_mut_ptr(),
                 work.len(),
+            )
+        }
+    }
+
+    pub fn lot_read_image(&mut self, bytes: &[u8]) -> Changed {
+        let [outgoing, incoming] = &mut self.axes;
+        // SAFETY: the slices are borrowed, all but `bytes` mutably, and as long as
+        // stated.
+        unsafe {
+            others::lot_read_image(
+                self.counts,
+                self.nodes.as_mut_ptr(),
+                self.nodes.len(),
+                self.edges.as_mut_ptr(),
+                self.edges.len(),
+                self.live_nodes.as_mut_ptr(),
+                self.live_nodes.len(),
+                self.live_edges.as_mut_ptr(),
+                self.live_edges.len(),
+                outgoing.as_mut_ptr(),
+                outgoing.len(),
+                incoming.as_mut_ptr(),
+                incoming.len(),
+                bytes.as_ptr(),
+                bytes.len(),
             )
         }
     }

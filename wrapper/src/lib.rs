@@ -40,6 +40,12 @@
 //! assert_eq!(answers[1].unwrap_err().number, 9);
 //! assert_eq!(answers[2], Ok(1));
 //! assert_eq!(book.node_ids()?, [malt]);
+//!
+//! // The image of what is left, which any other book can read.
+//! book.compact()?;
+//! let mut copy = LotBook::new(10, 10)?;
+//! copy.read_image(&book.image()?)?;
+//! assert_eq!(copy.node_payload(0)?, 7);
 //! # Ok(())
 //! # }
 //! ```
@@ -270,13 +276,23 @@ impl LotBook {
     /// 1 (the first broken rule).
     pub fn compact(&mut self) -> Result<Compaction, Refused> {
         let bound = |slots: Slots, capacity: usize| capacity.min(slots.bound as usize);
-        let Memory { counts, nodes, edges, .. } = &self.memory;
+        let Memory {
+            counts,
+            nodes,
+            edges,
+            ..
+        } = &self.memory;
         let mut node_map = vec![0; bound(counts.nodes, nodes.len())];
         let mut edge_map = vec![0; bound(counts.edges, edges.len())];
         let mut work = vec![0; 2 * edges.len().min(counts.edges.live as usize)];
         self.compact_into(&mut node_map, &mut edge_map, &mut work)?;
         let incoming = work.split_off(work.len() / 2);
-        Ok(Compaction { node_map, edge_map, outgoing: work, incoming })
+        Ok(Compaction {
+            node_map,
+            edge_map,
+            outgoing: work,
+            incoming,
+        })
     }
 
     /// Compaction into lent slices. Words past what is needed keep their content.
@@ -290,6 +306,16 @@ impl LotBook {
         work: &mut [u32],
     ) -> Result<(), Refused> {
         let changed = self.memory.lot_compact(node_map, edge_map, work);
+        self.changed(changed)
+    }
+
+    /// Puts the store of an image in place of all, as a compaction would leave it.
+    /// What was there need not be a store.
+    ///
+    /// # Errors
+    /// 13 (a capacity), 12 (the first broken rule of images), 2 (the length needed).
+    pub fn read_image(&mut self, bytes: &[u8]) -> Result<(), Refused> {
+        let changed = self.memory.lot_read_image(bytes);
         self.changed(changed)
     }
 
@@ -315,14 +341,14 @@ impl LotBook {
     }
 
     /// A list into a slice that is lengthened once if it is too short.
-    fn list(
+    fn list<Word: Clone + Default>(
         &self,
-        call: impl Fn(&Memory, &mut [u32]) -> exports::Answer,
-    ) -> Result<Vec<u32>, Refused> {
-        let mut slots = vec![0; 16];
+        call: impl Fn(&Memory, &mut [Word]) -> exports::Answer,
+    ) -> Result<Vec<Word>, Refused> {
+        let mut slots = vec![Word::default(); 16];
         let mut answer = call(&self.memory, &mut slots);
         if answer.number == 2 {
-            slots.resize(answer.value as usize, 0);
+            slots.resize(answer.value as usize, Word::default());
             answer = call(&self.memory, &mut slots);
         }
         slots.truncate(done(answer.number, answer.value)? as usize);
@@ -479,6 +505,23 @@ impl LotBook {
 
     pub fn edge_ids_into(&self, slots: &mut [u32]) -> Result<u32, Refused> {
         self.slot_answer(|memory| memory.lot_edge_ids(slots))
+    }
+
+    /// The image of a compact store: the same bytes for stores that hold the same.
+    ///
+    /// # Errors
+    /// 1, 11 (not compact).
+    pub fn image(&self) -> Result<Vec<u8>, Refused> {
+        self.list(Memory::lot_write_image)
+    }
+
+    /// The image into a lent slice: how many bytes it has. Bytes past them keep
+    /// their content.
+    ///
+    /// # Errors
+    /// 1, 11 (not compact), 2 (the length needed).
+    pub fn image_into(&self, bytes: &mut [u8]) -> Result<u32, Refused> {
+        self.slot_answer(|memory| memory.lot_write_image(bytes))
     }
 }
 

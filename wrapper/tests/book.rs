@@ -173,7 +173,6 @@ fn capacities() {
     assert_eq!(LotBook::from_memory(memory).fresh(), Err(refused(2, 2)));
 }
 
-/// Every call on memory that is no store answers 1 and leaves every word.
 #[test]
 fn compacted() {
     // M7: three edges, the first removed: the map is NONE, 0, 1.
@@ -182,13 +181,27 @@ fn compacted() {
         book.operation(Operation::AddNode { payload }).unwrap();
     }
     for payload in [5, 6, 8] {
-        book.operation(Operation::AddEdge { source: 0, target: 1, payload }).unwrap();
+        book.operation(Operation::AddEdge {
+            source: 0,
+            target: 1,
+            payload,
+        })
+        .unwrap();
     }
     book.operation(Operation::RemoveEdge { edge: 0 }).unwrap();
     let before = book.clone();
-    assert_eq!(book.compact_into(&mut [0], &mut [0; 3], &mut [0; 4]), Err(refused(2, 2)));
-    assert_eq!(book.compact_into(&mut [0; 2], &mut [0; 2], &mut [0; 4]), Err(refused(2, 3)));
-    assert_eq!(book.compact_into(&mut [0; 2], &mut [0; 3], &mut [0; 3]), Err(refused(2, 4)));
+    assert_eq!(
+        book.compact_into(&mut [0], &mut [0; 3], &mut [0; 4]),
+        Err(refused(2, 2))
+    );
+    assert_eq!(
+        book.compact_into(&mut [0; 2], &mut [0; 2], &mut [0; 4]),
+        Err(refused(2, 3))
+    );
+    assert_eq!(
+        book.compact_into(&mut [0; 2], &mut [0; 3], &mut [0; 3]),
+        Err(refused(2, 4))
+    );
     assert_eq!(book, before);
     let compaction = book.compact().unwrap();
     assert_eq!(compaction.node_map, [0, 1]);
@@ -204,9 +217,61 @@ fn compacted() {
     assert!(maps::is_identity(&again.node_map, &again.edge_map));
     assert_eq!(book, once);
     // "Dead slots are usable again afterwards."
-    assert_eq!(book.operation(Operation::AddEdge { source: 1, target: 0, payload: 1 }), Ok(2));
+    assert_eq!(
+        book.operation(Operation::AddEdge {
+            source: 1,
+            target: 0,
+            payload: 1
+        }),
+        Ok(2)
+    );
 }
 
+#[test]
+fn images() {
+    // M2: fresh, compacted: image 00 00 00 00.
+    let mut empty = LotBook::new(0, 0).unwrap();
+    empty.compact().unwrap();
+    assert_eq!(empty.image(), Ok(vec![0; 4]));
+
+    let mut book = book();
+    assert_eq!(book.image(), Err(refused(11, NONE)));
+    book.compact().unwrap();
+    let image = book.image().unwrap();
+    let mut bytes = vec![77; image.len() + 1];
+    assert_eq!(book.image_into(&mut bytes), Ok(image.len() as u32));
+    assert_eq!(bytes, [&image[..], &[77]].concat());
+    let mut short = vec![77; image.len() - 1];
+    assert_eq!(
+        book.image_into(&mut short),
+        Err(refused(2, image.len() as u64))
+    );
+    assert_eq!(short, vec![77; image.len() - 1]);
+
+    // Into other memory, which holds anything.
+    let mut memory = Memory::zeros(4, 30);
+    memory.counts.nodes.bound = 9;
+    memory.axes[0].fill(77);
+    let mut copy = LotBook::from_memory(memory);
+    let before = copy.clone();
+    // M11: 00 00 00 01 is unreadable by rule 3; with four more zero bytes by rule 5.
+    assert_eq!(copy.read_image(&[0, 0, 0, 1]), Err(refused(12, 3)));
+    assert_eq!(
+        copy.read_image(&[0, 0, 0, 1, 0, 0, 0, 0]),
+        Err(refused(12, 5))
+    );
+    assert_eq!(copy, before);
+    assert_eq!(copy.read_image(&image), Ok(()));
+    assert_eq!(copy.check(), Ok(()));
+    assert_eq!(copy.image(), Ok(image.clone()));
+    assert_eq!(copy.incoming(1), book.incoming(1));
+    let mut small = LotBook::new(2, 30).unwrap();
+    assert_eq!(small.read_image(&image), Err(refused(2, 3)));
+    let mut above = LotBook::from_memory(Memory::zeros(0, 32_769));
+    assert_eq!(above.read_image(&image), Err(refused(13, 32_769)));
+}
+
+/// Every call on memory that is no store answers 1 and leaves every word.
 #[test]
 fn damaged() {
     let mut memory = book().into_memory();
@@ -223,6 +288,7 @@ fn damaged() {
     assert_eq!(book.edge_record(0), Err(no_store));
     assert_eq!(book.node_count(), Err(no_store));
     assert_eq!(book.find(0, 1), Err(no_store));
+    assert_eq!(book.image(), Err(no_store));
     assert_eq!(book, before);
     let nothing = LotBook::from_memory(Memory {
         axes: [Vec::new(), Vec::new()],

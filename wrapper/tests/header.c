@@ -94,6 +94,28 @@ int main(void) {
     expect("live edges", slots[0], slots[1], 0, 2);
     expect("past the list", slots[2], 77, 77, 77);
 
+    /* Compaction, and the image of what is left: two nodes, two edges. */
+    static const uint8_t image[] = {0, 2, 0, 2, 0, 0, 0, 7, 0, 0, 0, 9, 0x40, 0, 0, 1, 0x70, 0, 0, 0, 0x85};
+    uint8_t bytes[LENGTH(image) + 1];
+    bytes[LENGTH(image)] = 77;
+    ANSWERS(lot_write_image(counts, STORE, SLICE(bytes)), 11, LOT_NONE);
+    uint32_t node_map[3], edge_map[3], work[4];
+    changed = lot_compact(counts, STORE, SLICE(node_map), SLICE(edge_map), SLICE(work));
+    expect("compaction", changed.number, changed.value, 0, 0);
+    expect("maps", node_map[2], edge_map[2], LOT_NONE, 1);
+    counts = changed.counts;
+    ANSWERS(lot_write_image(counts, STORE, bytes, 4), 2, LENGTH(image));
+    ANSWERS(lot_write_image(counts, STORE, SLICE(bytes)), 0, LENGTH(image));
+    for (size_t i = 0; i < LENGTH(image); i++)
+        expect("byte of the image", i, bytes[i], i, image[i]);
+    expect("past the image", bytes[LENGTH(image)], 0, 77, 0);
+    changed = lot_read_image(counts, STORE, bytes, 3);
+    expect("three bytes", changed.number, changed.value, 12, 1);
+    changed = lot_read_image(counts, STORE, SLICE(image));
+    expect("reading", changed.number, changed.value, 0, 0);
+    counts = changed.counts;
+    ANSWERS(lot_in_degree(counts, STORE, 1), 0, 2);
+
     /* A count that is not true: rule 2. */
     counts.nodes.live = 3;
     ANSWERS(lot_node_count(counts, STORE), 1, 2);

@@ -4,7 +4,8 @@
 // A line is five words of eight hexadecimal digits, separated by a space: the kind of call and its arguments. Kinds: 0 fresh (node and edge capacity), 1 strip (words,
 // words lent for the answers, lines that follow: an operation each, in the last four words), 2 and 3 walk out and in (node, words lent), 4 and 5 live nodes and edges
 // (0, words lent), 6 node payload, 7 and 8 record in both readings, 9 bounds, counts, empty and compact, 10 and 11 degree out and in, 12 compaction (words lent for
-// the node map, the edge map and the work), 13 finding (two nodes).
+// the node map, the edge map and the work), 13 finding (two nodes), 14 writing the image (bytes lent), 15 reading an image (bytes, lines that follow: sixteen bytes
+// each, in the last four words).
 
 use plain::Answer;
 use plain::Counts;
@@ -103,6 +104,19 @@ fn print_entries(slots: &[u32; 2048], count: u64) {
         }
         io::write_all(1, b" ");
         io::print_decimal(1, wide(slots[i]));
+        i += 1;
+    }
+}
+
+// A space and a number for each of the first bytes.
+fn print_bytes(bytes: &[u8; 1024], count: u64) {
+    let mut i: usize = 0;
+    while i < 1024 {
+        if count <= i as u64 {
+            return;
+        }
+        io::write_all(1, b" ");
+        io::print_decimal(1, bytes[i] as u64);
         i += 1;
     }
 }
@@ -253,6 +267,108 @@ fn compact(
     print_written(changed.number, changed.value, &work, wide(call.third));
     let counts = changed.counts;
     counts
+}
+
+// Puts the four bytes of a word at `at`, most significant first.
+fn put_word(bytes: &mut [u8], at: usize, word: u32)
+    requires { ⌜ at + 4 ≤ length (now bytes) ⌝ }
+{
+    bytes[at] = (word >> 24) as u8;
+    bytes[at + 1] = (word >> 16) as u8;
+    bytes[at + 2] = (word >> 8) as u8;
+    bytes[at + 3] = word as u8;
+}
+
+// Reads bytes, sixteen a line, to the start of `bytes`; what is left of a shorter input is 0.
+fn read_bytes(bytes: &mut [u8], lines: u32) {
+    let mut left = lines;
+    let mut at: usize = 0;
+    while left > 0 {
+        let line = next();
+        if bytes.len() < at + 16 {
+            return;
+        }
+        put_word(bytes, at, line.first);
+        put_word(bytes, at + 4, line.second);
+        put_word(bytes, at + 8, line.third);
+        put_word(bytes, at + 12, line.fourth);
+        at += 16;
+        left -= 1;
+    }
+}
+
+// A recorded number of bytes, cut where they end.
+fn within_bytes(length: u32, bytes: &[u8]) -> usize
+    ensures { λ r. ⌜ Front r (now (bytes .entry)) ⌝ }
+{
+    let n = length as usize;
+    if n < bytes.len() {
+        return n;
+    }
+    bytes.len()
+}
+
+// An image read in place of all.
+fn read_image(
+    held: Held,
+    nodes: &mut [u32],
+    edges: &mut [u32],
+    live_nodes: &mut [u64],
+    live_edges: &mut [u64],
+    outgoing: &mut [u32],
+    incoming: &mut [u32],
+    call: Call,
+) -> Counts {
+    let mut bytes: [u8; 1024] = [0; 1024];
+    read_bytes(&mut bytes, call.second);
+    let n = within(held.nodes, nodes);
+    let e = within(held.edges, edges);
+    let length = within_bytes(call.first, &bytes);
+    let changed = image::read::read_image(
+        held.counts,
+        &mut nodes[..n],
+        &mut edges[..e],
+        live_nodes,
+        live_edges,
+        outgoing,
+        incoming,
+        &bytes[..length],
+    );
+    number(wide(changed.number));
+    last(changed.value);
+    let counts = changed.counts;
+    counts
+}
+
+// The image into bytes of the recorded length.
+fn write_image(
+    counts: Counts,
+    nodes: &[u32],
+    edges: &[u32],
+    live_nodes: &[u64],
+    live_edges: &[u64],
+    outgoing: &[u32],
+    incoming: &[u32],
+    call: Call,
+) {
+    let mut bytes: [u8; 1024] = [0; 1024];
+    let room = within_bytes(call.first, &bytes);
+    let answered = image::write::write_image(
+        counts,
+        nodes,
+        edges,
+        live_nodes,
+        live_edges,
+        outgoing,
+        incoming,
+        &mut bytes[..room],
+    );
+    number(wide(answered.number));
+    io::print_decimal(1, answered.value);
+    if answered.number == 0 {
+        print_bytes(&bytes, answered.value);
+    }
+    io::write_all(1, b"\n");
 }
 
 // A list into a slice of the recorded length.
@@ -583,6 +699,19 @@ fn read_of(
         );
         return;
     }
+    if kind == 14 {
+        write_image(
+            counts,
+            nodes,
+            edges,
+            live_nodes,
+            live_edges,
+            outgoing,
+            incoming,
+            call,
+        );
+        return;
+    }
     if kind == 7 || kind == 8 {
         read_record(
             counts,
@@ -608,7 +737,7 @@ fn read_of(
     );
 }
 
-// A strip or a compaction; the counts afterwards.
+// A strip, a compaction or a reading; the counts afterwards.
 fn change(
     held: Held,
     nodes: &mut [u32],
@@ -631,7 +760,19 @@ fn change(
             call,
         );
     }
-    compact(
+    if call.kind == 12 {
+        return compact(
+            held,
+            nodes,
+            edges,
+            live_nodes,
+            live_edges,
+            outgoing,
+            incoming,
+            call,
+        );
+    }
+    read_image(
         held,
         nodes,
         edges,
@@ -665,7 +806,7 @@ fn step(
             incoming,
         );
     }
-    if call.kind == 1 || call.kind == 12 {
+    if call.kind == 1 || call.kind == 12 || call.kind == 15 {
         let counts = change(
             held,
             nodes,

@@ -14,10 +14,12 @@ use super::words::Words;
 use super::{Port, compare_strip, kept, lent};
 use crate::calls::{self, Lots};
 use crate::checked::read;
-use crate::generate::{Generator, MEDIUM, MIXES, Mix, SHORT, Size};
+use crate::generate::{Generator, MEDIUM, MIXES, Mix, SHORT, Size, compact_lists};
 use crate::graph::traverse::TraversalDirection;
+use crate::image;
 use crate::lots::{EdgeRecord, LotBook, Refused, maps};
 use crate::model::{Answer, Capacities, DIRECTIONS, Model, NONE};
+use crate::record::spoiled_image;
 use crate::rng::Rng;
 use crate::rust_store::{self, RustStore};
 use crate::sequences::{Same, guarded};
@@ -156,17 +158,79 @@ impl Shelf {
         self.compact_again(tally)
     }
 
+    /// The image of both sides, into a slice with bytes to spare and into one that
+    /// is too short; of a store that is not compact it is refused.
+    fn compare_image(&self, tally: &mut Tally) -> Same {
+        let place = || "the image".to_string();
+        let expected = calls::write_image(&self.rust, usize::MAX);
+        let needed = expected.as_ref().map_or(0, Vec::len);
+        let mut bytes = vec![77; needed + 2];
+        let given = self.book.image_into(&mut bytes).map_err(Answer::from);
+        let past = bytes.split_off(needed);
+        let given = given.map(|length| (length as usize, bytes));
+        let expected = expected.map(|image| (image.len(), image));
+        tally.same(
+            Thing::BookImage,
+            place,
+            (expected, vec![77; 2]),
+            (given, past),
+        )?;
+        if let Some(shorter) = needed.checked_sub(1) {
+            let mut bytes = vec![77; shorter];
+            let given = self.book.image_into(&mut bytes).map_err(Answer::from);
+            let expected = (Err(Answer::too_short(needed)), vec![77; shorter]);
+            tally.same(Thing::BookImage, place, expected, (given, bytes))?;
+        }
+        Ok(())
+    }
+
+    /// Reads an image, its own where it has one, another or a spoiled one, on both
+    /// sides, then every read. Refused, every word stays.
+    fn read(&mut self, rng: &mut Rng, tally: &mut Tally) -> Same {
+        let place = || "reading an image".to_string();
+        let capacities = self.rust.capacities;
+        let bytes = match (rng.below(3), calls::write_image(&self.rust, usize::MAX)) {
+            (0, Ok(own)) => own,
+            (1, _) => spoiled_image(rng),
+            _ => image::write(&compact_lists(rng, capacities)),
+        };
+        let before = self.book.clone();
+        let given = self.book.read_image(&bytes).map_err(Answer::from);
+        let Capacities { nodes, edges } = capacities;
+        match calls::read_image(nodes.into(), edges.into(), &bytes) {
+            Ok(model) => {
+                tally.same(Thing::BookReading, place, Ok(()), given)?;
+                self.rust.put(&model.plain);
+                self.model = model;
+                self.compare_reads(rng, tally)?;
+                let image = self.book.image().map_err(Answer::from);
+                tally.same(Thing::BookReading, place, Ok(bytes), image)?;
+                self.compact_again(tally)
+            }
+            Err(refused) => {
+                let given = (given, &self.book);
+                tally.same(Thing::BookReading, place, (Err(refused), &before), given)
+            }
+        }
+    }
+
     /// A second compaction changes no word, and its maps leave every slot.
     fn compact_again(&mut self, tally: &mut Tally) -> Same {
         let place = || "a second compaction".to_string();
         let before = self.book.clone();
         let given = self.book.compact().map_err(Answer::from);
         let given = given.map(|each| maps::is_identity(&each.node_map, &each.edge_map));
-        tally.same(Thing::BookCompaction, place, (Ok(true), true), (given, self.book == before))
+        tally.same(
+            Thing::BookCompaction,
+            place,
+            (Ok(true), true),
+            (given, self.book == before),
+        )
     }
 
     fn compare_reads(&self, rng: &mut Rng, tally: &mut Tally) -> Same {
         self.compare_whole(tally)?;
+        self.compare_image(tally)?;
         self.compare_parts(tally)?;
         let [nodes, edges] = self.rust.bounds().map(|bound| bound as u32);
         for node in (0..nodes).chain([nodes, NONE]) {
@@ -328,6 +392,7 @@ fn compare_refused(memory: &Words, refused: Refused, rng: &mut Rng, tally: &mut 
         book.edge_count().map(nothing),
         book.node_ids_into(&mut slots).map(nothing),
         book.edge_ids_into(&mut slots).map(nothing),
+        book.image_into(&mut [0; 8]).map(nothing),
     ];
     for answer in answers {
         tally.same(Thing::BookRefused, place, Err(refused), answer)?;
@@ -393,7 +458,7 @@ impl Found {
     }
 
     /// Strips from a fresh store, a damaged copy after each, now and then a
-    /// compaction.
+    /// compaction or an image read.
     fn sequence(&mut self, rng: &mut Rng, tally: &mut Tally) -> Same {
         let size = rng.pick(&[SHORT, SHORT, MEDIUM]);
         let mix = rng.pick(&MIXES);
@@ -404,8 +469,10 @@ impl Found {
             self.reached += shelf.strip(most, &mut generator, tally)?;
             self.strips += 1;
             self.damaged(&shelf, size, mix, rng, tally)?;
-            if rng.one_in(5) {
-                shelf.compact(rng, tally)?;
+            match rng.below(10) {
+                0 | 1 => shelf.compact(rng, tally)?,
+                2 => shelf.read(rng, tally)?,
+                _ => {}
             }
         }
         Ok(())

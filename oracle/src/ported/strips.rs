@@ -60,11 +60,8 @@ pub fn compare(strips: usize, seed: u64, tally: &mut Tally) -> Same {
     Ok(())
 }
 
-/// "Fresh: 13, nodes before edges, then 2", in the order of the slices.
-fn fresh([nodes, edges, others @ ..]: [usize; 6]) -> Answer {
-    if let Err(refused) = model::capacities(nodes as u64, edges as u64) {
-        return refused;
-    }
+/// "2 in the order of the slices": those beside the payloads.
+pub fn others_fit([nodes, edges, others @ ..]: [usize; 6]) -> Answer {
     let axis = Layout { edges, nodes }.length();
     let needed = [nodes.div_ceil(64), edges.div_ceil(64), axis, axis];
     let short = needed
@@ -74,42 +71,57 @@ fn fresh([nodes, edges, others @ ..]: [usize; 6]) -> Answer {
     short.map_or(Answer::done(0), |(needed, _)| Answer::too_short(needed))
 }
 
+/// "Fresh: 13, nodes before edges, then 2".
+fn fresh(lengths: [usize; 6]) -> Answer {
+    let refused = model::capacities(lengths[0] as u64, lengths[1] as u64).err();
+    refused.unwrap_or_else(|| others_fit(lengths))
+}
+
+/// Memory of lengths about those needed, with counts and words of any content, and
+/// the lengths.
+pub fn any_memory(rng: &mut Rng) -> ([usize; 6], Words) {
+    let mut capacity = || match rng.below(40) {
+        0 => LIMIT as usize + rng.below(3),
+        1 => LIMIT as usize - rng.below(2),
+        _ => rng.below(140),
+    };
+    let (nodes, edges) = (capacity(), capacity());
+    let axis = Layout { edges, nodes }.length();
+    let mut about = |needed: usize| match rng.below(4) {
+        0 => needed.saturating_sub(1 + rng.below(2)),
+        1 => needed + 1,
+        _ => needed,
+    };
+    let [live_nodes, live_edges] = [nodes, edges].map(|slots| about(slots.div_ceil(64)));
+    let axes = [axis; 2].map(&mut about);
+    let any = Slots {
+        bound: rng.word(),
+        base: rng.word(),
+        live: rng.word(),
+    };
+    let words = Words {
+        counts: Counts {
+            nodes: any,
+            edges: any,
+        },
+        nodes: vec![7; nodes],
+        edges: vec![7; edges],
+        live_nodes: vec![7; live_nodes],
+        live_edges: vec![7; live_edges],
+        axes: axes.map(|length| vec![7; length]),
+    };
+    (
+        [nodes, edges, live_nodes, live_edges, axes[0], axes[1]],
+        words,
+    )
+}
+
 /// So many calls of fresh, with lengths about those needed: the answer, and counts
 /// that are all 0.
 pub fn compare_fresh(calls: usize, seed: u64, tally: &mut Tally) -> Same {
     let mut rng = Rng::new(seed);
     for _ in 0..calls {
-        let mut capacity = || match rng.below(40) {
-            0 => LIMIT as usize + rng.below(3),
-            1 => LIMIT as usize - rng.below(2),
-            _ => rng.below(140),
-        };
-        let (nodes, edges) = (capacity(), capacity());
-        let axis = Layout { edges, nodes }.length();
-        let mut about = |needed: usize| match rng.below(4) {
-            0 => needed.saturating_sub(1 + rng.below(2)),
-            1 => needed + 1,
-            _ => needed,
-        };
-        let [live_nodes, live_edges] = [nodes, edges].map(|slots| about(slots.div_ceil(64)));
-        let axes = [axis; 2].map(&mut about);
-        let lengths = [nodes, edges, live_nodes, live_edges, axes[0], axes[1]];
-        let any = Slots {
-            bound: rng.word(),
-            base: rng.word(),
-            live: rng.word(),
-        };
-        let mut words = Words {
-            counts: Counts {
-                nodes: any,
-                edges: any,
-            },
-            nodes: vec![7; nodes],
-            edges: vec![7; edges],
-            live_nodes: vec![7; live_nodes],
-            live_edges: vec![7; live_edges],
-            axes: axes.map(|length| vec![7; length]),
-        };
+        let (lengths, mut words) = any_memory(&mut rng);
         let empty = Counts {
             nodes: Slots::default(),
             edges: Slots::default(),

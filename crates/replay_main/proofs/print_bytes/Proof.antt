@@ -1,0 +1,31 @@
+-- `replay_main::print_bytes` is safe and ends. The measure is the number of words left; nothing has to hold from turn to turn.
+use Prim.Native.Nat.{_-_}
+use native.Mathlib.Omega.{arith}
+use borrow.Author.Needs.{needs}
+use Rattle.replay_main.proofs.print_bytes.Statement.{statement}
+use Rattle.replay_main.proofs.print_bytes.Tie as tie
+
+abbrev Inv-loop : tie.InvT-loop
+Inv-loop slots count i₀ t4 i = Unit {0}
+
+abbrev μ-loop : tie.MeasureT-loop
+μ-loop slots count i₀ t4 i = 2048 - i
+
+pub print-bytes-spec : {M : Type 1} → statement M
+print-bytes-spec =
+    tie.close
+    (tie.spec
+    Inv-loop
+    μ-loop
+    (λ c. tt)
+    (λ c. search needs)
+    (λ c. search needs)
+    (λ c κs. search needs)
+    (λ c. search needs)
+    (λ c. search needs)
+    (λ c κs. search needs)
+    (λ c κs. search needs)
+    (λ c. search needs)
+    (λ c. omega arith)
+    (λ c. tt)
+    (λ c. search needs))

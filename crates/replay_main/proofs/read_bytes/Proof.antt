@@ -1,0 +1,33 @@
+-- `replay_main::read_bytes` is safe and ends. The loop keeps the words as long as they were, and `at` within them; the measure is the number of lines left.
+use Prim.Native.Nat.{_≤_}
+use mathlib.Core.Path.{_≡_, refl}
+use native.Mathlib.Omega.{arith}
+use lib.ListN.{length}
+use borrow.Author.Needs.{needs}
+use Rattle.replay_main.proofs.read_bytes.Statement.{statement}
+use Rattle.replay_main.proofs.read_bytes.Tie as tie
+
+abbrev Inv-loop : tie.InvT-loop
+Inv-loop words₀ lines left₀ at₀ words left at = (length words ≡ length words₀) × (at ≤ length words₀)
+
+abbrev μ-loop : tie.MeasureT-loop
+μ-loop words₀ lines left₀ at₀ words left at = left
+
+pub read-bytes-spec : {M : Type 1} → statement M
+read-bytes-spec =
+    tie.close
+    (tie.spec
+    Inv-loop
+    μ-loop
+    (λ c. (refl, omega arith))
+    (λ c κs. search needs)
+    (λ c. search needs)
+    (λ c. search needs)
+    (λ c. search needs)
+    (λ c κs. search needs)
+    (λ c. search needs)
+    (λ c. search needs)
+    (λ c. omega arith)
+    (λ c. (search needs, search needs))
+    (λ c. search needs)
+    (λ c. search needs))
