@@ -109,9 +109,9 @@ fn print_entries(slots: &[u32; 2048], count: u64) {
 }
 
 // A space and a number for each of the first bytes.
-fn print_bytes(bytes: &[u8; 1024], count: u64) {
+fn print_bytes(bytes: &[u8], count: u64) {
     let mut i: usize = 0;
-    while i < 1024 {
+    while i < bytes.len() {
         if count <= i as u64 {
             return;
         }
@@ -274,9 +274,9 @@ fn put_word(bytes: &mut [u8], at: usize, word: u32)
     requires { ⌜ at + 4 ≤ length (now bytes) ⌝ }
 {
     bytes[at] = (word >> 24) as u8;
-    bytes[at + 1] = (word >> 16) as u8;
-    bytes[at + 2] = (word >> 8) as u8;
-    bytes[at + 3] = word as u8;
+    bytes[at + 1] = ((word >> 16) % 256) as u8;
+    bytes[at + 2] = ((word >> 8) % 256) as u8;
+    bytes[at + 3] = (word % 256) as u8;
 }
 
 // Reads bytes, sixteen a line, to the start of `bytes`; what is left of a shorter input is 0.
@@ -340,6 +340,35 @@ fn read_image(
     counts
 }
 
+// The image into lent bytes, and those that were written.
+fn print_image(
+    counts: Counts,
+    nodes: &[u32],
+    edges: &[u32],
+    live_nodes: &[u64],
+    live_edges: &[u64],
+    outgoing: &[u32],
+    incoming: &[u32],
+    bytes: &mut [u8],
+) {
+    let answered = image::write::write_image(
+        counts,
+        nodes,
+        edges,
+        live_nodes,
+        live_edges,
+        outgoing,
+        incoming,
+        bytes,
+    );
+    number(wide(answered.number));
+    io::print_decimal(1, answered.value);
+    if answered.number == 0 {
+        print_bytes(bytes, answered.value);
+    }
+    io::write_all(1, b"\n");
+}
+
 // The image into bytes of the recorded length.
 fn write_image(
     counts: Counts,
@@ -353,7 +382,7 @@ fn write_image(
 ) {
     let mut bytes: [u8; 1024] = [0; 1024];
     let room = within_bytes(call.first, &bytes);
-    let answered = image::write::write_image(
+    print_image(
         counts,
         nodes,
         edges,
@@ -363,12 +392,6 @@ fn write_image(
         incoming,
         &mut bytes[..room],
     );
-    number(wide(answered.number));
-    io::print_decimal(1, answered.value);
-    if answered.number == 0 {
-        print_bytes(&bytes, answered.value);
-    }
-    io::write_all(1, b"\n");
 }
 
 // A list into a slice of the recorded length.

@@ -1,4 +1,4 @@
--- `replay_main::put_word` is safe: the words stay as long as they are.
+-- `replay_main::put_word` is safe: the bytes stay as many as they are.
 use native.Mathlib.Omega.{arith}
 use lib.ListN.{length-set}
 use borrow.Author.Needs.{needs}

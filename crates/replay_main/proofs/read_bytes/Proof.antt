@@ -1,4 +1,4 @@
--- `replay_main::read_bytes` is safe and ends. The loop keeps the words as long as they were, and `at` within them; the measure is the number of lines left.
+-- `replay_main::read_bytes` is safe and ends. The loop keeps the bytes as many as they were, and `at` within them; the measure is the number of lines left.
 use Prim.Native.Nat.{_≤_}
 use mathlib.Core.Path.{_≡_, refl}
 use native.Mathlib.Omega.{arith}
@@ -8,10 +8,10 @@ use Rattle.replay_main.proofs.read_bytes.Statement.{statement}
 use Rattle.replay_main.proofs.read_bytes.Tie as tie
 
 abbrev Inv-loop : tie.InvT-loop
-Inv-loop words₀ lines left₀ at₀ words left at = (length words ≡ length words₀) × (at ≤ length words₀)
+Inv-loop bytes₀ lines left₀ at₀ bytes left at = (length bytes ≡ length bytes₀) × (at ≤ length bytes₀)
 
 abbrev μ-loop : tie.MeasureT-loop
-μ-loop words₀ lines left₀ at₀ words left at = left
+μ-loop bytes₀ lines left₀ at₀ bytes left at = left
 
 pub read-bytes-spec : {M : Type 1} → statement M
 read-bytes-spec =
@@ -23,6 +23,12 @@ read-bytes-spec =
     (λ c κs. search needs)
     (λ c. search needs)
     (λ c. search needs)
+    (λ c. search needs)
+    (λ c κs. search needs)
+    (λ c. search needs)
+    (λ c κs. search needs)
+    (λ c. search needs)
+    (λ c κs. search needs)
     (λ c. search needs)
     (λ c κs. search needs)
     (λ c. search needs)
