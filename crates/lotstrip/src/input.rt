@@ -1,0 +1,29 @@
+// The input's bytes as the words of a strip.
+
+ghost use mathlib.Core.Path.{_≡_};
+ghost use Prim.Native.Nat.{_+_, _/_, _≤_};
+ghost use lib.ListN.{length};
+ghost use Rattle.plain.specs.Lists.{written};
+ghost use Rattle.plain.specs.Lotstrip.{words-of};
+ghost use Rattle.lotstrip.specs.Input.{word-at as word-of};
+
+// The word whose first byte is at `at`.
+fn word_at(bytes: &[u8], at: usize) -> u32
+    requires { ⌜ at + 4 ≤ length (now bytes) ⌝ }
+    ensures { λ r. ⌜ r ≡ word-of (now (bytes .entry)) at ⌝ }
+{
+    ((bytes[at] as u32 * 256 + bytes[at + 1] as u32) * 256 + bytes[at + 2] as u32) * 256 + bytes[at + 3] as u32
+}
+
+// Writes the words of the input to the start of `words`.
+pub fn read_words(bytes: &[u8], words: &mut [u32])
+    requires { ⌜ length (now bytes) / 4 ≤ length (now words) ⌝ }
+    ensures { λ _. ⌜ now (words .exit) ≡ written (words-of (now (bytes .entry))) (now (words .entry)) ⌝ }
+{
+    let count = bytes.len() / 4;
+    let mut i: usize = 0;
+    while i < count {
+        words[i] = word_at(bytes, 4 * i);
+        i += 1;
+    }
+}
