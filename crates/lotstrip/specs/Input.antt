@@ -4,7 +4,7 @@ use mathlib.Core.Path.{_≡_, refl, sym, ap, _∙_}
 use mathlib.Core.List.{List, [], _∷_, _++_}
 use native.Mathlib.Omega.{arith}
 use lib.ListN.{length, getD, drop, length-drop}
-use lib.Seq.{getD-drop}
+use lib.Seq.{getD-drop, drop-drop}
 use Rattle.plain.specs.Lotstrip.{words-of}
 use Rattle.lotstrip.specs.Put.{Next}
 
@@ -31,7 +31,10 @@ words-first (a ∷ b ∷ c ∷ d ∷ rest) h = refl
 -- word i, and the words after it
 pub words-next : (bytes : List ℕ) (i : ℕ) → i < length bytes / 4
     → Next (words-of (drop (4 * i) bytes)) (word-at bytes (4 * i) ∷ []) (words-of (drop (4 * (i + 1)) bytes))
-words-next bytes i h = record { is = words-first (drop (4 * i) bytes) (rw length-drop (omega arith)) ∙ ? }
+words-next bytes i h =
+    let here : 4 * i + 0 ≡ 4 * i = omega arith in
+    let next : 4 * i + 4 ≡ 4 * (i + 1) = omega arith in
+    record { is = words-first (drop (4 * i) bytes) (rw length-drop (omega arith)) ∙ simp (getD-drop, drop-drop, here, next) }
 
 -- past the last
 pub words-none : (bytes : List ℕ) (i : ℕ) → length bytes / 4 ≤ i → words-of (drop (4 * i) bytes) ≡ []

@@ -1,18 +1,27 @@
 // The input's bytes as the words of a strip.
 
 ghost use mathlib.Core.Path.{_≡_};
-ghost use Prim.Native.Nat.{_+_, _/_, _≤_};
-ghost use lib.ListN.{length};
+ghost use Prim.Native.Nat.{_+_, _/_, _≤_, _<_};
+ghost use lib.ListN.{length, getD};
 ghost use Rattle.plain.specs.Lists.{written};
 ghost use Rattle.plain.specs.Lotstrip.{words-of};
 ghost use Rattle.lotstrip.specs.Input.{word-at as word-of};
+
+// The byte at i.
+fn byte(bytes: &[u8], i: usize) -> u32
+    requires { ⌜ i < length (now bytes) ⌝ }
+    ensures { λ r. ⌜ (r ≡ getD (now (bytes .entry)) i 0) × (r < 256) ⌝ }
+{
+    bytes[i] as u32
+}
 
 // The word whose first byte is at `at`.
 fn word_at(bytes: &[u8], at: usize) -> u32
     requires { ⌜ at + 4 ≤ length (now bytes) ⌝ }
     ensures { λ r. ⌜ r ≡ word-of (now (bytes .entry)) at ⌝ }
 {
-    ((bytes[at] as u32 * 256 + bytes[at + 1] as u32) * 256 + bytes[at + 2] as u32) * 256 + bytes[at + 3] as u32
+    let high = byte(bytes, at) * 256 + byte(bytes, at + 1);
+    (high * 256 + byte(bytes, at + 2)) * 256 + byte(bytes, at + 3)
 }
 
 // Writes the words of the input to the start of `words`.

@@ -1,54 +1,35 @@
+-- `lotstrip::input::read_words` meets its contract. The loop's invariant: the words passed are written. The measure is the number of words left.
+use Prim.Native.Nat.{_-_, _*_, _/_, _<_}
+use mathlib.Core.Path.{_≡_, refl}
+use native.Mathlib.Omega.{arith}
+use lib.ListN.{length, drop}
+use Rattle.plain.specs.Lotstrip.{words-of}
+use Rattle.lotstrip.specs.Put.{Writing, Appended, writing-start, writing-room, writing-more, writing-end, put-one, put-length, put-written}
+use Rattle.lotstrip.specs.Input.{length-words, words-next, words-none}
 use Rattle.lotstrip.proofs.input.read_words.Statement.{statement}
 use Rattle.lotstrip.proofs.input.read_words.Tie as tie
-use Rattle.lotstrip.proofs.input.read_words.Reads as reads
-use Rattle.lotstrip.proofs.input.read_words.Lts as lts
-use Rattle.lotstrip.proofs.input.word_at.Reads as word-at-reads
 
 abbrev Inv-loop : tie.InvT-loop
-Inv-loop bytes words₀ count i₀ words i = ?
+Inv-loop bytes words₀ count i₀ words i =
+    (count ≡ length bytes / 4) × Writing words₀ 0 (words-of bytes) (words-of (drop (4 * i) bytes)) words i
 
 abbrev μ-loop : tie.MeasureT-loop
-μ-loop bytes words₀ count i₀ words i = ?
+μ-loop bytes words₀ count i₀ words i = count - i
 
--- src/input.rt:25:5
-loop-holds : tie.Need-loop-holds Inv-loop μ-loop
-loop-holds c = ?
+-- the next word has its place
+room : (l : tie.In-loop Inv-loop μ-loop) → l .before .loop .i < length (l .before .loop .words)
+room l = omega (arith, writing-room (l .before .loop .inv .1) (words-next (l .before .before .before .before .args .bytes .now) (l .before .loop .i) (omega arith)))
 
--- src/input.rt:26:35
-mul-word-at : tie.Need-mul-word-at Inv-loop μ-loop
-mul-word-at c = ?
-
--- src/input.rt:26:20
-word-at-requires : tie.Need-word-at-requires Inv-loop μ-loop
-word-at-requires c κs = ?
-
--- src/input.rt:26:9
-mul-words : tie.Need-mul-words Inv-loop μ-loop
-mul-words c = ?
-
--- src/input.rt:26:9
-slice-write-words : tie.Need-slice-write-words Inv-loop μ-loop
-slice-write-words c = ?
-
--- src/input.rt:27:9
-add-i : tie.Need-add-i Inv-loop μ-loop
-add-i c = ?
-
--- src/input.rt:25:5
-loop-less : tie.Need-loop-less Inv-loop μ-loop
-loop-less c = ?
-
--- src/input.rt:25:5
 loop-again : tie.Need-loop-again Inv-loop μ-loop
-loop-again c = ?
+loop-again c =
+    let l = c .before .before in
+    let next = words-next (l .before .before .before .args .bytes .now) (l .loop .i) (omega arith) in
+    (refl, writing-more (l .loop .inv .1) next (record { put = rw (c .word-at .ensures) (put-one _ _ _ (room (c .before))); ended = refl }))
 
--- src/input.rt:19:1
-same-length : tie.Need-same-length Inv-loop μ-loop
-same-length c = ?
-
--- src/input.rt:19:1
-returns : tie.Need-returns Inv-loop μ-loop
-returns c = ?
+-- all words are written
+all : (c : tie.After-loop Inv-loop μ-loop)
+    → Appended (c .before .before .before .before .args .words .now) 0 (words-of (c .before .before .before .before .args .bytes .now)) (c .before .loop .words) (c .before .loop .i)
+all c = writing-end (c .before .loop .inv .1) (words-none (c .before .before .before .before .args .bytes .now) (c .before .loop .i) (omega arith))
 
 pub read-words-spec : {M : Type 1} → statement M
 read-words-spec =
@@ -56,13 +37,13 @@ read-words-spec =
     (tie.spec
     Inv-loop
     μ-loop
-    loop-holds
-    mul-word-at
-    word-at-requires
-    mul-words
-    slice-write-words
-    add-i
-    loop-less
+    (λ c. (refl, writing-start _ _ _ (omega (arith, length-words (c .before .before .args .bytes .now)))))
+    (λ c. omega arith)
+    (λ c κs. omega arith)
+    (λ c. omega arith)
+    (λ c. room (c .before))
+    (λ c. omega arith)
+    (λ c. omega arith)
     loop-again
-    same-length
-    returns)
+    (λ c. put-length (all c .put))
+    (λ c. put-written (all c .put)))
