@@ -2,3 +2,4 @@ pub mod Put
 pub mod Digits
 pub mod Lines
 pub mod Input
+pub mod Booking
