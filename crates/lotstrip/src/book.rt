@@ -2,15 +2,13 @@
 // call is refused.
 
 use compact;
-use plain::Answer;
+use image;
 use plain::Counts;
 use strip;
 ghost use Prim.Native.Nat.{_≤_, _%_, _/_};
 ghost use mathlib.Core.Path.{_≡_};
 ghost use lib.ListN.{length};
 ghost use Rattle.shape.specs.Shape.{store};
-ghost use Rattle.view.specs.Calls.{Replied};
-ghost use Rattle.image.specs.Calls.{written-image};
 ghost use Rattle.lotstrip.specs.Booking.{Bookable, Booked, Held, Closed, Printable, Printed, Closing};
 
 // Runs a strip on a fresh store.
@@ -77,23 +75,6 @@ fn close(
     done.counts
 }
 
-fn write_image(
-    counts: Counts,
-    nodes: & [u32],
-    edges: & [u32],
-    live_nodes: & [u64],
-    live_edges: & [u64],
-    outgoing: & [u32],
-    incoming: & [u32],
-    bytes: &mut [u8],
-) -> Answer
-    ensures { λ r. ⌜ Replied
-        (store counts (now (nodes .entry)) (now (edges .entry)) (now («live_nodes» .entry)) (now («live_edges» .entry)) (now (outgoing .entry)) (now (incoming .entry)))
-        written-image (now (bytes .entry)) r (now (bytes .exit)) ⌝ }
-{
-    Answer { number: 0, value: 0 }
-}
-
 // Writes the image of a compact store, and answers how many bytes it has.
 fn print_image(
     counts: Counts,
@@ -110,7 +91,7 @@ fn print_image(
         (store counts (now (nodes .entry)) (now (edges .entry)) (now («live_nodes» .entry)) (now («live_edges» .entry)) (now (outgoing .entry)) (now (incoming .entry)))
         (now (bytes .entry)) r (now (bytes .exit)) ⌝ }
 {
-    let done = write_image(
+    let done = image::write::write_image(
         counts,
         nodes,
         edges,
