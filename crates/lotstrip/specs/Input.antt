@@ -5,8 +5,13 @@ use mathlib.Core.List.{List, [], _∷_, _++_}
 use native.Mathlib.Omega.{arith}
 use lib.ListN.{length, getD, drop, length-drop}
 use lib.Seq.{getD-drop, drop-drop}
+use Rattle.plain.specs.Lists.{written}
 use Rattle.plain.specs.Lotstrip.{words-of}
 use Rattle.lotstrip.specs.Put.{Next}
+
+-- The words of the input were written to the start of a slice.
+pub record WordsRead (bytes entry exit : List ℕ) : Type 0 where
+  pub words : exit ≡ written (words-of bytes) entry
 
 -- "words most significant byte first": the word whose first byte is at `at`
 abbrev pub word-at : List ℕ → ℕ → ℕ

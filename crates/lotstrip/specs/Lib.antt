@@ -3,3 +3,4 @@ pub mod Digits
 pub mod Lines
 pub mod Input
 pub mod Booking
+pub mod Printing

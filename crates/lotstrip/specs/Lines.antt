@@ -49,6 +49,12 @@ lines-none answers i h = short (drop (2 * i) answers) (rw length-drop (omega ari
     short (a ∷ []) h = refl
     short (a ∷ b ∷ rest) h = absurd (omega arith)
 
+-- ---- bytes
+
+-- byte i, and the bytes after it
+pub bytes-next : (bytes : List ℕ) (i : ℕ) → i < length bytes → Next (drop i bytes) (getD bytes i 0 ∷ []) (drop (i + 1) bytes)
+bytes-next bytes i h = record { is = rw (drop-cons bytes i 0 h, add-one) }
+
 -- ---- bytes in hexadecimal
 
 -- the digits of byte i, and those of the bytes after it

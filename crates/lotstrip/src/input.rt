@@ -3,9 +3,7 @@
 ghost use mathlib.Core.Path.{_≡_};
 ghost use Prim.Native.Nat.{_+_, _/_, _≤_, _<_};
 ghost use lib.ListN.{length, getD};
-ghost use Rattle.plain.specs.Lists.{written};
-ghost use Rattle.plain.specs.Lotstrip.{words-of};
-ghost use Rattle.lotstrip.specs.Input.{word-at as word-of};
+ghost use Rattle.lotstrip.specs.Input.{word-at as word-of, WordsRead};
 
 // The byte at i.
 fn byte(bytes: &[u8], i: usize) -> u32
@@ -27,7 +25,7 @@ fn word_at(bytes: &[u8], at: usize) -> u32
 // Writes the words of the input to the start of `words`.
 pub fn read_words(bytes: &[u8], words: &mut [u32])
     requires { ⌜ length (now bytes) / 4 ≤ length (now words) ⌝ }
-    ensures { λ _. ⌜ now (words .exit) ≡ written (words-of (now (bytes .entry))) (now (words .entry)) ⌝ }
+    ensures { λ _. ⌜ WordsRead (now (bytes .entry)) (now (words .entry)) (now (words .exit)) ⌝ }
 {
     let count = bytes.len() / 4;
     let mut i: usize = 0;

@@ -105,3 +105,18 @@ pub fn write_hex(text: &mut [u8], at: usize, bytes: &[u8]) -> usize
     }
     to
 }
+
+// Writes bytes as they are, and answers where they end.
+pub fn write_bytes(text: &mut [u8], at: usize, bytes: &[u8]) -> usize
+    requires { ⌜ at + length (now bytes) ≤ length (now text) ⌝ }
+    ensures { λ r. ⌜ Appended (now (text .entry)) at (now (bytes .entry)) (now (text .exit)) r ⌝ }
+{
+    let mut to = at;
+    let mut i: usize = 0;
+    while i < bytes.len() {
+        text[to] = bytes[i];
+        to += 1;
+        i += 1;
+    }
+    to
+}

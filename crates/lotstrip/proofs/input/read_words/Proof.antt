@@ -46,4 +46,4 @@ read-words-spec =
     (λ c. omega arith)
     loop-again
     (λ c. put-length (all c .put))
-    (λ c. put-written (all c .put)))
+    (λ c. record { words = put-written (all c .put) }))
