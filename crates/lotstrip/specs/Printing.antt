@@ -28,12 +28,15 @@ printed answers bytes = answer-lines 0 answers ++ (hexadecimal bytes ++ (newline
 pub length-printed : (answers bytes : List ℕ) → length (printed answers bytes) ≡ length (answer-lines 0 answers) + length (hexadecimal bytes) + 1
 length-printed answers bytes = simp length-append (omega arith)
 
--- An input that is run: no longer than a strip may be, and whole operations. The text lent is 4,096 lines of 63 bytes, two digits for each of the 11,012 bytes of
--- the largest image, and a newline.
+-- Bytes that hold any text: 4,096 lines of 63 bytes, two digits for each of the 11,012 bytes of the largest image, and a newline.
+abbrev pub text-room : ℕ
+text-room = 280_073
+
+-- An input that is run: no longer than a strip may be, and whole operations.
 pub record Runnable (input text : List ℕ) : Type 0 where
   pub short : length input ≤ 65_536
   pub whole : length input % 16 ≡ 0
-  pub room : 280_073 ≤ length text
+  pub room : text-room ≤ length text
 
 -- ---- the ways that it ends
 
@@ -105,7 +108,7 @@ module _ {input zeros words : List ℕ} (read : WordsRead input zeros words) (wh
     pub image-within : size ≤ length bytes'
     image-within = omega (arith, image-part, length-take size bytes')
 
-    pub print-room : {room : ℕ} → length input ≤ 65_536 → 280_073 ≤ room → length (printed (take (length input / 4 / 2) answers') (take size bytes')) ≤ room
+    pub print-room : {room : ℕ} → length input ≤ 65_536 → text-room ≤ room → length (printed (take (length input / 4 / 2) answers') (take size bytes')) ≤ room
     print-room h k =
         let booked = booking-answers (words-of input) in
         let left = closing (words-of input) in

@@ -78,12 +78,12 @@ fn close(
 // Writes the image of a compact store, and answers how many bytes it has.
 fn print_image(
     counts: Counts,
-    nodes: & [u32],
-    edges: & [u32],
-    live_nodes: & [u64],
-    live_edges: & [u64],
-    outgoing: & [u32],
-    incoming: & [u32],
+    nodes: &[u32],
+    edges: &[u32],
+    live_nodes: &[u64],
+    live_edges: &[u64],
+    outgoing: &[u32],
+    incoming: &[u32],
     bytes: &mut [u8],
 ) -> usize
     requires { ⌜ Printable (store counts (now nodes) (now edges) (now «live_nodes») (now «live_edges») (now outgoing) (now incoming)) (now bytes) ⌝ }

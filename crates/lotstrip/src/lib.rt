@@ -9,9 +9,9 @@ ghost use lib.ListN.{length};
 ghost use Rattle.plain.specs.Calls.{fresh-state};
 ghost use Rattle.plain.specs.Lotstrip.{words-of, lotstrip-run};
 ghost use Rattle.lotstrip.specs.Put.{Appended};
-ghost use Rattle.lotstrip.specs.Printing.{printed, Runnable, LotstripOf};
+ghost use Rattle.lotstrip.specs.Printing.{printed, text-room, Runnable, LotstripOf};
 
-// The bytes of text that no output is longer than.
+// Bytes that hold any text: `text-room` of specs/Printing.antt.
 pub const TEXT: usize = 280073;
 
 // Prints a strip's answers and its image to the start of the text, and answers where they end.
@@ -42,7 +42,7 @@ fn run(input: &[u8], text: &mut [u8]) -> usize
 
 // What the program prints for an input, to the start of the text. It helps a program: the text's room is required.
 pub fn lotstrip(input: &[u8], text: &mut [u8]) -> usize
-    requires { ⌜ 280073 ≤ length (now text) ⌝ }
+    requires { ⌜ text-room ≤ length (now text) ⌝ }
     ensures { λ r. ⌜ LotstripOf (now (input .entry)) (now (text .entry)) r (now (text .exit)) ⌝ }
 {
     if 65536 < input.len() {
