@@ -3,7 +3,7 @@ use Prim.Native.Nat.{ℕ, _+_, _*_, _/_, _%_, _≤_, _<_}
 use mathlib.Core.Path.{_≡_, refl, sym, ap, subst, _∙_}
 use mathlib.Core.List.{List, [], _∷_, _++_}
 use native.Mathlib.Omega.{arith}
-use lib.ListN.{length, take, drop, length-append, length-take}
+use lib.ListN.{length, take, drop, length-append}
 use lib.Seq.{take-at}
 use borrow.Author.Tests.{lt-ltb, le-ltb, eq-eqb, ne-eqb}
 use Rattle.plain.specs.Lists.{written}
@@ -11,7 +11,7 @@ use Rattle.plain.specs.Operations.{operations}
 use Rattle.plain.specs.Calls.{fresh-state}
 use Rattle.plain.specs.Lotstrip.{lotstrip-capacities, words-of, codes, newline, answer-lines, hexadecimal, lotstrip-run, lotstrip}
 use Rattle.plain.specs.Laws.Strips.{length-operations, length-answers}
-use Rattle.lotstrip.specs.Put.{Appended, put-written}
+use Rattle.lotstrip.specs.Put.{Appended, put-length, put-written}
 use Rattle.lotstrip.specs.Lines.{lines-most, length-hex}
 use Rattle.lotstrip.specs.Input.{WordsRead, length-words}
 use Rattle.lotstrip.specs.Booking.{booking-answers, closing, Closing}
@@ -19,6 +19,7 @@ use Rattle.lotstrip.specs.Booking.{booking-answers, closing, Closing}
 -- What the program's function comes to: how long the text is, and the text.
 pub record LotstripOf (input entry : List ℕ) (size : ℕ) (exit : List ℕ) : Type 0 where
   pub sized : size ≡ length (lotstrip input)
+  pub within : size ≤ length exit
   pub shown : exit ≡ written (lotstrip input) entry
 
 -- a line for each operation, and the image on one line
@@ -43,7 +44,7 @@ pub record Runnable (input text : List ℕ) : Type 0 where
 pub told : {input entry exit text : List ℕ} {size : ℕ} → Appended entry 0 text exit size → text ≡ lotstrip input → LotstripOf input entry size exit
 told {input} {entry} {exit} {text} {size} a is =
     let b : Appended entry 0 (lotstrip input) exit size = rw is at a in
-    record { sized = omega (arith, b .ended); shown = put-written (b .put) }
+    record { sized = omega (arith, b .ended); within = omega (arith, b .ended, b .put .within, put-length (b .put)); shown = put-written (b .put) }
 
 module _ (input : List ℕ) where
   -- "more prints only `strip 2`"
@@ -104,9 +105,6 @@ module _ {input zeros words : List ℕ} (read : WordsRead input zeros words) (wh
 
     pub image-part : length (take size bytes') ≡ size
     image-part = ap length image-is ∙ sym (comes .sized)
-
-    pub image-within : size ≤ length bytes'
-    image-within = omega (arith, image-part, length-take size bytes')
 
     pub print-room : {room : ℕ} → length input ≤ 65_536 → text-room ≤ room → length (printed (take (length input / 4 / 2) answers') (take size bytes')) ≤ room
     print-room h k =
