@@ -65,11 +65,11 @@ pub fn write_answers(text: &mut [u8], at: usize, answers: &[u32]) -> usize
 {
     let count = answers.len() / 2;
     let mut to = at;
-    let mut i: usize = 0;
-    while i < count {
-        let word = 2 * i;
-        to = write_line(text, to, i as u64, answers[word], answers[word + 1]);
-        i += 1;
+    let mut position: usize = 0;
+    while position < count {
+        let word = 2 * position;
+        to = write_line(text, to, position as u64, answers[word], answers[word + 1]);
+        position += 1;
     }
     to
 }

@@ -11,26 +11,26 @@ use Rattle.lotstrip.proofs.text.write_answers.Statement.{statement}
 use Rattle.lotstrip.proofs.text.write_answers.Tie as tie
 
 abbrev Inv-loop : tie.InvT-loop
-Inv-loop text₀ at answers count to₀ i₀ text to i =
-    (count ≡ length answers / 2) × Writing text₀ at (answer-lines 0 answers) (answer-lines i (drop (2 * i) answers)) text to
+Inv-loop text₀ at answers count to₀ position₀ text to position =
+    (count ≡ length answers / 2) × Writing text₀ at (answer-lines 0 answers) (answer-lines position (drop (2 * position) answers)) text to
 
 abbrev μ-loop : tie.MeasureT-loop
-μ-loop text₀ at answers count to₀ i₀ text to i = count - i
+μ-loop text₀ at answers count to₀ position₀ text to position = count - position
 
 write-line-requires : tie.Need-write-line-requires Inv-loop μ-loop
 write-line-requires c κs =
     let l = c .before .before .before .before in
-    writing-room (l .loop .inv .1) (lines-next (l .before .before .before .args .answers .now) (l .loop .i) (omega arith))
+    writing-room (l .loop .inv .1) (lines-next (l .before .before .before .args .answers .now) (l .loop .position) (omega arith))
 
 loop-again : tie.Need-loop-again Inv-loop μ-loop
 loop-again c =
     let call = c .before .before in
     let l = call .before .before .before .before .before in
-    (refl, writing-more (l .loop .inv .1) (lines-next (l .before .before .before .args .answers .now) (l .loop .i) (omega arith)) (call .write-line .ensures))
+    (refl, writing-more (l .loop .inv .1) (lines-next (l .before .before .before .args .answers .now) (l .loop .position) (omega arith)) (call .write-line .ensures))
 
 returns : tie.Need-returns Inv-loop μ-loop
 returns c =
-    let l = c .before in writing-end (l .loop .inv .1) (lines-none (l .before .before .before .args .answers .now) (l .loop .i) (omega arith))
+    let l = c .before in writing-end (l .loop .inv .1) (lines-none (l .before .before .before .args .answers .now) (l .loop .position) (omega arith))
 
 pub write-answers-spec : {M : Type 1} → statement M
 write-answers-spec =
