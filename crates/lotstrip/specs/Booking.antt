@@ -1,6 +1,6 @@
 -- A strip on a fresh store of lotstrip's capacities, its compaction and its image: none of the calls is refused, and what they leave is that of the plain lists.
-use Prim.Native.Nat.{ℕ, _+_, _*_, _/_, _%_, _≤_}
-use mathlib.Core.Path.{_≡_, refl, sym, ap, ap₂, subst, _∙_}
+use Prim.Native.Nat.{ℕ, _*_, _/_, _%_, _≤_}
+use mathlib.Core.Path.{_≡_, refl, ap, ap₂, subst, _∙_}
 use mathlib.Core.Bool.{true}
 use mathlib.Core.Option.{none}
 use mathlib.Core.List.{List}
@@ -14,11 +14,11 @@ use Rattle.plain.specs.Operations.{operations}
 use Rattle.plain.specs.Plain.{Plain, EdgeSlot, edge-flags}
 use Rattle.plain.specs.Reads.{Reply, live-edges}
 use Rattle.plain.specs.Step.{Capacities, State, run, answers}
-use Rattle.plain.specs.Compaction.{Survivors, survivors, compacted}
+use Rattle.plain.specs.Compaction.{survivors, compacted}
 use Rattle.plain.specs.Bits.{least-width}
 use Rattle.plain.specs.Image.{image, record-width}
-use Rattle.plain.specs.Memory.{Lengths, first-short, exact, live-words}
-use Rattle.plain.specs.Calls.{Stripped, Compacted, strip, judged-strip, judged-compaction, judged-reply, compaction, compacting, write-image, fresh-state, within, fresh-within, fresh}
+use Rattle.plain.specs.Memory.{Lengths, first-short, exact}
+use Rattle.plain.specs.Calls.{Stripped, Compacted, strip, judged-strip, judged-compaction, judged-reply, compaction, compacting, fresh-state, within, fresh-within, fresh}
 use Rattle.plain.specs.Lotstrip.{lotstrip-capacities}
 use Rattle.plain.specs.Laws.WellFormed.{WellFormed}
 use Rattle.plain.specs.Laws.Width.{width-least}

@@ -1,8 +1,7 @@
 -- Decimal numbers digit by digit, from the last: how many there are, and what stands in the text as they are written.
-use Prim.Native.Nat.{ℕ, zero, suc, _+_, _*_, _/_, _%_, _^_, _≤_, _<_}
+use Prim.Native.Nat.{ℕ, zero, suc, _+_, _/_, _%_, _^_, _≤_, _<_}
 use mathlib.Core.Path.{_≡_, refl, sym, ap, _∙_}
-use mathlib.Core.Bool.{cond}
-use mathlib.Core.List.{List, [], _∷_, _++_}
+use mathlib.Core.List.{List, [], _∷_}
 use native.Mathlib.Omega.{arith}
 use native.Mathlib.Nat.{div-lt-iff-lt-mul, pow-suc}
 use lib.ListN.{length, set}
@@ -10,7 +9,7 @@ use lib.Dec.{ltb}
 use borrow.Author.Tests.{lt-ltb, le-ltb}
 use Rattle.plain.specs.Lotstrip.{digits-before, decimal}
 use Rattle.plain.specs.Laws.Booleans.{by-test}
-use Rattle.lotstrip.specs.Put.{Put, put-none, put-before, put-length}
+use Rattle.image.specs.Put.{Put, put-none, put-before, put-length}
 
 -- ---- the definition by its cases
 
@@ -77,52 +76,52 @@ taken-one {n} {left} {rest} k =
 -- ---- counting
 
 -- `left` has yet to be counted, and its last digit is among the `count`.
-pub record Counting (n left count : ℕ) : Type 0 where
+pub record CountingDigits (n left count : ℕ) : Type 0 where
   pub rest : List ℕ
   pub taken : Taken n left rest
   pub counted : count ≡ 1 + length rest
 
-pub counting-start : (n : ℕ) → n < 2 ^ 64 → Counting n n 1
+pub counting-start : (n : ℕ) → n < 2 ^ 64 → CountingDigits n n 1
 counting-start n h = record { rest = []; taken = taken-none n h; counted = refl }
 
-pub counting-more : {n left count : ℕ} → Counting n left count → 10 ≤ left → Counting n (left / 10) (count + 1)
+pub counting-more : {n left count : ℕ} → CountingDigits n left count → 10 ≤ left → CountingDigits n (left / 10) (count + 1)
 counting-more {n} {left} k h = record { rest = (48 + left % 10) ∷ k .rest; taken = taken-more (k .taken) h; counted = omega (arith, k .counted) }
 
-pub counting-few : {n left count : ℕ} → Counting n left count → count ≤ 20
+pub counting-few : {n left count : ℕ} → CountingDigits n left count → count ≤ 20
 counting-few {n} k = omega (arith, k .counted, taken-one (k .taken), decimal-most n)
 
-pub counting-end : {n left count : ℕ} → Counting n left count → left < 10 → count ≡ length (decimal n)
+pub counting-end : {n left count : ℕ} → CountingDigits n left count → left < 10 → count ≡ length (decimal n)
 counting-end k h = omega (arith, k .counted, ap length (taken-last (k .taken) h))
 
 -- ---- writing
 
 -- The digits of n are written from the last on, to stand from p on in s: those from `end` on are there, and `left` is left.
-pub record Lettering (s : List ℕ) (p n left : ℕ) (t : List ℕ) (end : ℕ) : Type 0 where
+pub record WritingDigits (s : List ℕ) (p n left : ℕ) (t : List ℕ) (end : ℕ) : Type 0 where
   pub rest : List ℕ
   pub taken : Taken n left rest
   pub put : Put s end rest t
   pub place : end + length rest ≡ p + length (decimal n)
   pub room : p + length (decimal n) ≤ length s
 
-pub lettering-start : (s : List ℕ) (p n : ℕ) {end : ℕ} → n < 2 ^ 64 → p + length (decimal n) ≤ length s → end ≡ p + length (decimal n) → Lettering s p n n s end
-lettering-start s p n {end} h room is =
+pub digits-start : (s : List ℕ) (p n : ℕ) {end : ℕ} → n < 2 ^ 64 → p + length (decimal n) ≤ length s → end ≡ p + length (decimal n) → WritingDigits s p n n s end
+digits-start s p n {end} h room is =
     record { rest = []; taken = taken-none n h; put = put-none s end (omega arith); place = omega arith; room = room }
 
-module _ {s t : List ℕ} {p n left end : ℕ} (w : Lettering s p n left t end) where
+module _ {s t : List ℕ} {p n left end : ℕ} (w : WritingDigits s p n left t end) where
   -- there is a place before
-  pub lettering-place : p < end
-  lettering-place = omega (arith, taken-one (w .taken), w .place)
+  pub digits-place : p < end
+  digits-place = omega (arith, taken-one (w .taken), w .place)
 
   -- and it is in the text
-  pub lettering-within : end ≤ length t
-  lettering-within = omega (arith, w .put .within, put-length (w .put))
+  pub digits-room : end ≤ length t
+  digits-room = omega (arith, w .put .within, put-length (w .put))
 
   -- another digit there
   earlier : (x : ℕ) {before : ℕ} → suc before ≡ end → Put s before (x ∷ w .rest) (set t before x)
   earlier x e = put-before x (rw (← e) at (w .put))
 
-  pub lettering-more : {before : ℕ} → suc before ≡ end → 10 ≤ left → Lettering s p n (left / 10) (set t before (48 + left % 10)) before
-  lettering-more e h = record {
+  pub digits-next : {before : ℕ} → suc before ≡ end → 10 ≤ left → WritingDigits s p n (left / 10) (set t before (48 + left % 10)) before
+  digits-next e h = record {
     rest = (48 + left % 10) ∷ w .rest;
     taken = taken-more (w .taken) h;
     put = earlier (48 + left % 10) e;
@@ -131,8 +130,8 @@ module _ {s t : List ℕ} {p n left end : ℕ} (w : Lettering s p n left t end) 
   }
 
   -- the first
-  pub lettering-end : {before : ℕ} → suc before ≡ end → left < 10 → Put s p (decimal n) (set t before (48 + left))
-  lettering-end {before} e h =
+  pub digits-end : {before : ℕ} → suc before ≡ end → left < 10 → Put s p (decimal n) (set t before (48 + left))
+  digits-end {before} e h =
       let all = taken-last (w .taken) h in
       let first : before ≡ p = omega (arith, w .place, ap length all) in
       rw (all, ← first) (earlier (48 + left) e)

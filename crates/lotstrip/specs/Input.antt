@@ -1,13 +1,13 @@
 -- The input's words, four bytes each, one by one.
-use Prim.Native.Nat.{ℕ, zero, suc, _+_, _*_, _/_, _≤_, _<_}
-use mathlib.Core.Path.{_≡_, refl, sym, ap, _∙_}
-use mathlib.Core.List.{List, [], _∷_, _++_}
+use Prim.Native.Nat.{ℕ, _+_, _*_, _/_, _≤_, _<_}
+use mathlib.Core.Path.{_≡_, refl, _∙_}
+use mathlib.Core.List.{List, [], _∷_}
 use native.Mathlib.Omega.{arith}
 use lib.ListN.{length, getD, drop, length-drop}
 use lib.Seq.{getD-drop, drop-drop}
 use Rattle.plain.specs.Lists.{written}
 use Rattle.plain.specs.Lotstrip.{words-of}
-use Rattle.lotstrip.specs.Put.{Next}
+use Rattle.lotstrip.specs.Appending.{Next}
 
 -- The words of the input were written to the start of a slice.
 pub record WordsRead (bytes entry exit : List ℕ) : Type 0 where

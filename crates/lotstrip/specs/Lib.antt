@@ -1,4 +1,4 @@
-pub mod Put
+pub mod Appending
 pub mod Digits
 pub mod Lines
 pub mod Input

@@ -1,14 +1,13 @@
 -- The printed text piece by piece: the line of an operation, the two digits of a byte, and how long they are.
-use Prim.Native.Nat.{ℕ, zero, suc, _+_, _*_, _/_, _%_, _≤_, _<_}
-use mathlib.Core.Path.{_≡_, refl, sym, ap, ap₂, _∙_}
-use mathlib.Core.Bool.{cond}
+use Prim.Native.Nat.{ℕ, suc, _+_, _*_, _/_, _%_, _≤_, _<_}
+use mathlib.Core.Path.{_≡_, refl, sym, ap, _∙_}
 use mathlib.Core.List.{List, [], _∷_, _++_, append-assoc}
 use native.Mathlib.Omega.{arith}
 use native.Mathlib.Numerals.{add-one}
 use lib.ListN.{length, getD, drop, length-append, length-drop, drop-of-length-le}
 use lib.Seq.{drop-cons}
 use Rattle.plain.specs.Lotstrip.{decimal, space, newline, answer-lines, hex-digit, hexadecimal}
-use Rattle.lotstrip.specs.Put.{Next}
+use Rattle.lotstrip.specs.Appending.{Next}
 use Rattle.lotstrip.specs.Digits.{decimal-most}
 
 -- a number and what stands behind it

@@ -1,6 +1,6 @@
 -- What the program prints: the pieces are those of its definition, and the text lent has room for any of it.
-use Prim.Native.Nat.{ℕ, _+_, _*_, _/_, _%_, _≤_, _<_}
-use mathlib.Core.Path.{_≡_, refl, sym, ap, subst, _∙_}
+use Prim.Native.Nat.{ℕ, _+_, _/_, _%_, _≤_, _<_}
+use mathlib.Core.Path.{_≡_, sym, ap, subst, _∙_}
 use mathlib.Core.List.{List, [], _∷_, _++_}
 use native.Mathlib.Omega.{arith}
 use lib.ListN.{length, take, drop, length-append}
@@ -11,7 +11,8 @@ use Rattle.plain.specs.Operations.{operations}
 use Rattle.plain.specs.Calls.{fresh-state}
 use Rattle.plain.specs.Lotstrip.{lotstrip-capacities, words-of, codes, newline, answer-lines, hexadecimal, lotstrip-run, lotstrip}
 use Rattle.plain.specs.Laws.Strips.{length-operations, length-answers}
-use Rattle.lotstrip.specs.Put.{Appended, put-length, put-written}
+use Rattle.image.specs.Put.{put-length, put-written}
+use Rattle.lotstrip.specs.Appending.{Appended}
 use Rattle.lotstrip.specs.Lines.{lines-most, length-hex}
 use Rattle.lotstrip.specs.Input.{WordsRead, length-words}
 use Rattle.lotstrip.specs.Booking.{booking-answers, closing, Closing}

@@ -8,7 +8,7 @@ ghost use Prim.Native.Nat.{_+_, _≤_};
 ghost use lib.ListN.{length};
 ghost use Rattle.plain.specs.Calls.{fresh-state};
 ghost use Rattle.plain.specs.Lotstrip.{words-of, lotstrip-run};
-ghost use Rattle.lotstrip.specs.Put.{Appended};
+ghost use Rattle.lotstrip.specs.Appending.{Appended};
 ghost use Rattle.lotstrip.specs.Printing.{printed, text-room, Runnable, LotstripOf};
 
 // Bytes that hold any text: `text-room` of specs/Printing.antt.

@@ -3,7 +3,8 @@ use Prim.Native.Nat.{_<_}
 use native.Mathlib.Omega.{arith}
 use lib.ListN.{length}
 use borrow.Author.Needs.{needs}
-use Rattle.lotstrip.specs.Put.{put-length, append-then, append-one}
+use Rattle.image.specs.Put.{put-length}
+use Rattle.lotstrip.specs.Appending.{append-then, append-one}
 use Rattle.lotstrip.specs.Printing.{length-printed}
 use Rattle.lotstrip.proofs.print.Statement.{statement}
 use Rattle.lotstrip.proofs.print.Tie as tie

@@ -1,6 +1,5 @@
 -- `lotstrip::run` meets its contract: the words are read, the strip is booked, and what it comes to is printed.
 use mathlib.Core.Path.{sym}
-use native.Mathlib.Omega.{arith}
 use borrow.Author.Needs.{needs}
 use Rattle.lotstrip.specs.Printing.{strip-length, strip-whole, answers-part, image-part, print-room, run-printed}
 use Rattle.lotstrip.proofs.run.Statement.{statement}

@@ -1,6 +1,5 @@
 -- `lotstrip::book::close` meets its contract: the compaction has room, and is done.
 use borrow.Author.Needs.{needs}
-use native.Mathlib.Omega.{arith}
 use Rattle.lotstrip.specs.Booking.{closes}
 use Rattle.lotstrip.proofs.book.close.Statement.{statement}
 use Rattle.lotstrip.proofs.book.close.Tie as tie

@@ -1,11 +1,12 @@
 -- `lotstrip::text::write_answers` meets its contract. The loop's invariant: the lines of the operations passed are written. The measure is the number of operations
 -- left.
-use Prim.Native.Nat.{_+_, _-_, _*_, _/_, _≤_}
+use Prim.Native.Nat.{_-_, _*_, _/_}
 use mathlib.Core.Path.{_≡_, refl}
 use native.Mathlib.Omega.{arith}
 use lib.ListN.{length, drop}
 use Rattle.plain.specs.Lotstrip.{answer-lines}
-use Rattle.lotstrip.specs.Put.{Writing, writing-start, writing-room, writing-more, writing-end, put-length}
+use Rattle.image.specs.Put.{put-length}
+use Rattle.lotstrip.specs.Appending.{Writing, writing-start, writing-room, writing-more, writing-end}
 use Rattle.lotstrip.specs.Lines.{lines-next, lines-none}
 use Rattle.lotstrip.proofs.text.write_answers.Statement.{statement}
 use Rattle.lotstrip.proofs.text.write_answers.Tie as tie

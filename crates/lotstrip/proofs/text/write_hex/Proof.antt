@@ -1,9 +1,10 @@
 -- `lotstrip::text::write_hex` meets its contract. The loop's invariant: the digits of the bytes passed are written. The measure is the number of bytes left.
-use Prim.Native.Nat.{_+_, _-_, _≤_}
+use Prim.Native.Nat.{_-_}
 use native.Mathlib.Omega.{arith}
 use lib.ListN.{length, drop}
 use Rattle.plain.specs.Lotstrip.{hexadecimal}
-use Rattle.lotstrip.specs.Put.{Writing, writing-start, writing-room, writing-more, writing-end, put-length}
+use Rattle.image.specs.Put.{put-length}
+use Rattle.lotstrip.specs.Appending.{Writing, writing-start, writing-room, writing-more, writing-end}
 use Rattle.lotstrip.specs.Lines.{hex-next, hex-none}
 use Rattle.lotstrip.proofs.text.write_hex.Statement.{statement}
 use Rattle.lotstrip.proofs.text.write_hex.Tie as tie
