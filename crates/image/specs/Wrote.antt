@@ -4,7 +4,7 @@ use Prim.Native.Nat.{ℕ, suc, _+_, _-_, _*_, _/_, _%_, _^_, _≤_, _<_}
 use mathlib.Core.Path.{_≡_, refl, sym, ap, ap₂, _∙_}
 use mathlib.Core.List.{List, [], _∷_, _++_, append-assoc}
 use native.Mathlib.Omega.{arith}
-use native.Mathlib.Nat.{add-zero, sub-self, sub-zero, div-one, mod-lt, mod-eq-of-lt}
+use native.Mathlib.Nat.{sub-self, sub-zero, div-one, mod-lt, mod-eq-of-lt}
 use lib.ListN.{length, take, drop, set, length-append, length-take, length-set, take-append-drop}
 use lib.Seq.{take-at, drop-at, take-add, drop-drop, set-split}
 use lib.Pow.{shr-shr, pow-pos}
@@ -13,6 +13,7 @@ use Rattle.plain.specs.Bits.{bits-of, bits, bytes-for, pack}
 use Rattle.plain.specs.Laws.Below.{Below, below-append, below-drop}
 use Rattle.plain.specs.Laws.Bits.{length-bits-of, bits-of-split, bits-of-ext, length-bits, bits-append, bits-injective}
 use Rattle.plain.specs.Laws.Packing.{Stands, length-pack, below-pack, bits-pack, padding}
+use Rattle.image.specs.Put.{Put, put-none, put-then, put-split, split-put}
 
 pub record Wrote (s : List ℕ) (p : ℕ) (f t : List ℕ) : Type 0 where
   pub long : length t ≡ length s
@@ -21,42 +22,20 @@ pub record Wrote (s : List ℕ) (p : ℕ) (f t : List ℕ) : Type 0 where
 
 -- ---- writes that follow each other
 
--- the bits in front of a write's end
-front : {s t f : List ℕ} {p : ℕ} → Wrote s p f t → take (p + length f) (bits t) ≡ take p (bits s) ++ f
-front {s} {t} {f} {p} a =
-    let l : length (take p (bits s) ++ f) ≡ p + length f = simp (length-append, length-take, length-bits) (omega arith) in
-    let r : List ℕ = drop (p + length f) (bits s) in
-    ap (take (p + length f)) (a .whole ∙ sym (append-assoc (take p (bits s)) f r)) ∙ take-at (take p (bits s) ++ f) r (p + length f) l
+-- a write of bits is one into the list of them
+as-put : {s t f : List ℕ} {p : ℕ} → Wrote s p f t → Put (bits s) p f (bits t)
+as-put {s} {f = f} {p} a = split-put (rw length-bits (a .within)) (a .whole)
 
--- the bits after it
-rest : {s t f : List ℕ} {p : ℕ} → Wrote s p f t → drop (p + length f) (bits t) ≡ drop (p + length f) (bits s)
-rest {s} {t} {f} {p} a =
-    let l : length (take p (bits s) ++ f) ≡ p + length f = simp (length-append, length-take, length-bits) (omega arith) in
-    let r : List ℕ = drop (p + length f) (bits s) in
-    ap (drop (p + length f)) (a .whole ∙ sym (append-assoc (take p (bits s)) f r)) ∙ drop-at (take p (bits s) ++ f) r (p + length f) l
+of-put : {s t f : List ℕ} {p : ℕ} → length t ≡ length s → Put (bits s) p f (bits t) → Wrote s p f t
+of-put {s} {f = f} {p} long a = record { long = long; within = rw length-bits at (a .within); whole = put-split a }
 
 -- nothing was written
 pub wrote-none : (s : List ℕ) (p : ℕ) → p ≤ 8 * length s → Wrote s p [] s
-wrote-none s p h =
-    record {
-      long = refl;
-      within = omega arith;
-      whole = rw add-zero (sym (take-append-drop p (bits s)));
-    }
+wrote-none s p h = of-put refl (put-none (bits s) p (rw length-bits h))
 
 -- f was written, and then g
 pub wrote-then : {s t u f g : List ℕ} {p q : ℕ} → Wrote s p f t → Wrote t q g u → q ≡ p + length f → Wrote s p (f ++ g) u
-wrote-then {s} {t} {u} {f} {g} {p} {q} a b e =
-    let n : ℕ = p + length f in
-    let c : Wrote t n g u = rw e at b in
-    let l : n + length g ≡ p + length (f ++ g) = rw length-append (omega arith) in
-    let d : drop (n + length g) (bits t) ≡ drop (p + length (f ++ g)) (bits s) =
-    sym (drop-drop (length g) n (bits t)) ∙ ap (drop (length g)) (rest a) ∙ drop-drop (length g) n (bits s) ∙ ap (λ (k : ℕ). drop k (bits s)) l in
-    record {
-      long = c .long ∙ a .long;
-      within = rw length-append (omega (arith, c .within, a .long));
-      whole = c .whole ∙ ap₂ (λ (x y : List ℕ). x ++ (g ++ y)) (front a) d ∙ simp append-assoc;
-    }
+wrote-then a b e = of-put (b .long ∙ a .long) (put-then (as-put a) (as-put b) e)
 
 -- ---- a field in parts
 

@@ -1,0 +1,219 @@
+-- A strip on a fresh store of lotstrip's capacities, its compaction and its image: none of the calls is refused, and what they leave is that of the plain lists.
+use Prim.Native.Nat.{ℕ, _*_, _/_, _%_, _≤_}
+use mathlib.Core.Path.{_≡_, refl, ap, ap₂, subst, _∙_}
+use mathlib.Core.Bool.{true}
+use mathlib.Core.Option.{none}
+use mathlib.Core.List.{List}
+use native.Mathlib.Omega.{arith}
+use native.Mathlib.Nat.{mul-le-mul}
+use lib.ListN.{length, length-map}
+use Rattle.plain.specs.declared.Counts.{Counts}
+use Rattle.plain.specs.declared.Answer.{Answer}
+use Rattle.plain.specs.Lists.{written}
+use Rattle.plain.specs.Operations.{operations}
+use Rattle.plain.specs.Plain.{Plain, EdgeSlot, edge-flags}
+use Rattle.plain.specs.Reads.{Reply, live-edges}
+use Rattle.plain.specs.Step.{Capacities, State, run, answers}
+use Rattle.plain.specs.Compaction.{survivors, compacted}
+use Rattle.plain.specs.Bits.{least-width}
+use Rattle.plain.specs.Image.{image, record-width}
+use Rattle.plain.specs.Memory.{Lengths, first-short, exact}
+use Rattle.plain.specs.Calls.{Stripped, Compacted, strip, judged-strip, judged-compaction, judged-reply, compaction, compacting, fresh-state, within, fresh-within, fresh}
+use Rattle.plain.specs.Lotstrip.{lotstrip-capacities}
+use Rattle.plain.specs.Laws.WellFormed.{WellFormed}
+use Rattle.plain.specs.Laws.Width.{width-least}
+use Rattle.plain.specs.Laws.ListLaws.{count-length}
+use Rattle.plain.specs.Laws.Strips.{length-operations}
+use Rattle.plain.specs.Laws.CallCases.{no-slice, slice-fits, strip-done, compaction-done, write-compact, lent-done}
+use Rattle.plain.specs.Laws.Compacting.{survivors-sound, survivors-of, surviving-nodes-within, surviving-edges-within}
+use Rattle.plain.specs.Laws.ImageLaws.{image-length}
+use Rattle.shape.specs.Shape.{Words, store, capacities, lengths-of, shape-of, plain-of, lists, is-compact}
+use Rattle.shape.specs.Checked.{Checked, Reached}
+use Rattle.shape.specs.Rules.{broken}
+use Rattle.shape.specs.Steps.{state-of}
+use Rattle.shape.specs.Laws.Judging.{checked-sound}
+use Rattle.shape.specs.Laws.CheckedShape.{checked-proper}
+use Rattle.shape.specs.Laws.Settling.{settled-is-plain}
+use Rattle.strip.specs.Fresh.{FreshOf}
+use Rattle.strip.specs.Strip.{StripOf, stripped}
+use Rattle.compact.specs.Calls.{CompactOf, seen, compacting-of}
+use Rattle.view.specs.Calls.{Replied}
+use Rattle.image.specs.Calls.{written-image}
+
+-- the plain lists of a strip booked on a fresh store, and what the strip answers
+abbrev pub booked : List ℕ → State
+booked words = run lotstrip-capacities fresh-state (operations words)
+
+abbrev pub booking-answers : List ℕ → List ℕ
+booking-answers words = answers lotstrip-capacities fresh-state (operations words)
+
+-- "prints the image": that of what survives the closing compaction
+abbrev pub closing : List ℕ → List ℕ
+closing words = image (survivors (booked words .lists))
+
+-- ---- the strip
+
+-- The memory lent has no word to spare, the strip is whole, and its answers have room.
+pub record Bookable (nodes edges live-nodes live-edges outgoing incoming words answers : List ℕ) : Type 0 where
+  pub nodes-long : length nodes ≡ 512
+  pub edges-long : length edges ≡ 1024
+  pub live-nodes-long : length live-nodes ≡ 8
+  pub live-edges-long : length live-edges ≡ 16
+  pub outgoing-long : length outgoing ≡ 7169
+  pub incoming-long : length incoming ≡ 7169
+  pub whole : length words % 4 ≡ 0
+  pub room : length words / 2 ≤ length answers
+
+-- A store that a strip led to.
+pub record Held (w : Words) : Type 0 where
+  pub checked : Checked w
+  pub reached : Reached (shape-of w)
+  pub sized : capacities w ≡ lotstrip-capacities
+
+pub record Booked (words entry : List ℕ) (v : Words) (exit : List ℕ) : Type 0 where
+  pub held : Held v
+  pub state : state-of (shape-of v) ≡ booked words
+  pub answered : exit ≡ written (booking-answers words) entry
+
+module _ {nodes edges live-nodes live-edges outgoing incoming words entry : List ℕ}
+    (b : Bookable nodes edges live-nodes live-edges outgoing incoming words entry) where
+  memory : (counts : Counts) → lengths-of (store counts nodes edges live-nodes live-edges outgoing incoming) ≡ exact lotstrip-capacities
+  memory counts = λ i. record {
+    capacities = record { nodes = b .nodes-long i; edges = b .edges-long i };
+    live-nodes = b .live-nodes-long i;
+    live-edges = b .live-edges-long i;
+    outgoing = b .outgoing-long i;
+    incoming = b .incoming-long i;
+  }
+
+  fresh-done : fresh (exact lotstrip-capacities) ≡ record { number = 0; value = 0 }
+  unfolding fresh fresh-within within first-short
+  fresh-done = refl
+
+  pub booking : {counts : Counts} {number value number' value' : ℕ} {v : Words} {exit : List ℕ}
+      → FreshOf (store counts nodes edges live-nodes live-edges outgoing incoming) number value
+      → StripOf (store counts nodes edges live-nodes live-edges outgoing incoming) words entry number' value' v exit
+      → Booked words entry v exit
+  booking {counts} made done =
+      let w = store counts nodes edges live-nodes live-edges outgoing incoming in
+      let s = state-of (shape-of w) in
+      let checked = made .checked (ap (λ (a : Answer). a .number) (made .answered ∙ ap fresh (memory counts) ∙ fresh-done)) in
+      let caps = ap (λ (l : Lengths). l .capacities) (memory counts) in
+      let room : 2 * length (operations words) ≤ length entry = rw length-operations (omega arith) in
+      let is : stripped w words (length entry) ≡ record { number = 0; value = 0; words = booking-answers words; after = booked words } =
+      ap (λ (rule : ℕ). judged-strip rule s (strip (capacities w) s words (length entry))) (checked-sound w checked)
+      ∙ ap₂ {C = Stripped} (λ (c : Capacities) (t : State). strip c t words (length entry)) caps (made .state)
+      ∙ strip-done lotstrip-capacities fresh-state words (length entry) (b .whole) room in
+      record {
+        held = record {
+          checked = done .checked (done .numbered ∙ ap (λ (o : Stripped). o .number) is);
+          reached = done .reached (made .reached);
+          sized = (λ i. record { nodes = done .lengths .nodes i; edges = done .lengths .edges i }) ∙ caps;
+        };
+        state = done .state ∙ ap (λ (o : Stripped). o .after) is;
+        answered = done .answered ∙ ap (λ (o : Stripped). written (o .words) entry) is;
+      }
+
+-- ---- the compaction
+
+-- What the closing compaction of store w leaves: v is compact, and has the same survivors.
+pub record Closed (w v : Words) : Type 0 where
+  pub checked : Checked v
+  pub compact : is-compact (shape-of v) ≡ true
+  pub same : survivors (plain-of (shape-of v)) ≡ survivors (plain-of (shape-of w))
+
+module _ {w : Words} (h : Held w) where
+  abbrev plain : Plain
+  plain = plain-of (shape-of w)
+
+  well : WellFormed lotstrip-capacities plain
+  well = subst (λ (caps : Capacities). WellFormed caps plain) (h .sized) (h .checked .walks)
+
+  seen-is : seen w ≡ state-of (shape-of w)
+  seen-is = ap (λ (p : Plain). record { lists = p; compact = is-compact (shape-of w) }) (settled-is-plain (checked-proper w (h .checked)) (h .reached))
+
+  compacting-is : (node-map edge-map work : ℕ) → 512 ≤ node-map → 1024 ≤ edge-map → 2048 ≤ work
+      → compacting-of w node-map edge-map work ≡ compacting none (state-of (shape-of w))
+  compacting-is node-map edge-map work a b c =
+      let few : live-edges plain ≤ 1024 = omega (arith, count-length (λ f. f) (edge-flags plain), length-map (plain .edges) (λ (e : EdgeSlot). e .live), well .edges-within) in
+      ap (λ (rule : ℕ). judged-compaction rule (seen w) (compaction (seen w) node-map edge-map work)) (checked-sound w (h .checked))
+      ∙ ap (λ (s : State). compaction s node-map edge-map work) seen-is
+      ∙ compaction-done (state-of (shape-of w)) node-map edge-map work
+      (slice-fits (omega (arith, well .nodes-within)) (slice-fits (omega (arith, well .edges-within)) (slice-fits (omega arith) no-slice)))
+
+  pub closes : {node-map edge-map work node-map' edge-map' work' : List ℕ} {number value : ℕ} {v : Words}
+      → CompactOf w node-map edge-map work number value v node-map' edge-map' work'
+      → 512 ≤ length node-map → 1024 ≤ length edge-map → 2048 ≤ length work → Closed w v
+  unfolding compacted
+  closes {node-map} {edge-map} {work} done a b c =
+      let is = compacting-is (length node-map) (length edge-map) (length work) a b c in
+      let zero = done .numbered ∙ ap (λ (o : Compacted). o .number) is in
+      let state = done .state zero ∙ ap (λ (o : Compacted). o .after) is in
+      record {
+        checked = done .checked zero;
+        compact = ap (λ (s : State). s .compact) state;
+        same = ap (λ (s : State). survivors (s .lists)) state
+            ∙ survivors-of (survivors plain) (survivors-sound lotstrip-capacities plain well (omega arith) (omega arith));
+      }
+
+  -- its image is never longer
+  pub image-short : length (image (survivors plain)) ≤ 11012
+  image-short =
+      let s = survivors plain in
+      let nodes : length (s .nodes) ≤ 512 = omega (arith, surviving-nodes-within plain, well .nodes-within) in
+      let edges : length (s .edges) ≤ 1024 = omega (arith, surviving-edges-within plain, well .edges-within) in
+      let narrow = width-least (length (s .nodes)) 9 nodes in
+      let wide = width-least (length (s .edges)) 10 edges in
+      let across : record-width (least-width (length (s .nodes))) ≤ 50 = omega arith in
+      let records : record-width (least-width (length (s .nodes))) * length (s .edges) ≤ 50 * 1024 = mul-le-mul across edges in
+      let entries : least-width (length (s .edges)) * length (s .edges) ≤ 10 * 1024 = mul-le-mul wide edges in
+      omega (arith, image-length s (survivors-sound lotstrip-capacities plain well (omega arith) (omega arith)))
+
+-- ---- the image
+
+-- A compact store whose image has room.
+pub record Printable (w : Words) (bytes : List ℕ) : Type 0 where
+  pub checked : Checked w
+  pub compact : is-compact (shape-of w) ≡ true
+  pub room : length (image (survivors (plain-of (shape-of w)))) ≤ length bytes
+
+pub record Printed (w : Words) (entry : List ℕ) (size : ℕ) (exit : List ℕ) : Type 0 where
+  pub sized : size ≡ length (image (survivors (plain-of (shape-of w))))
+  pub bytes : exit ≡ written (image (survivors (plain-of (shape-of w)))) entry
+
+pub prints : {w : Words} {entry exit : List ℕ} {answer : Answer} → Printable w entry → Replied w written-image entry answer exit
+    → Printed w entry (answer .value) exit
+prints {w} {entry} p replied =
+    let bytes = image (survivors (plain-of (shape-of w))) in
+    let is : judged-reply (broken w) (written-image w (length entry)) ≡ record { number = 0; value = length bytes; words = bytes } =
+    ap (λ (rule : ℕ). judged-reply rule (written-image w (length entry))) (checked-sound w (p .checked))
+    ∙ write-compact (state-of (shape-of w)) (length entry) (p .compact)
+    ∙ lent-done (length entry) (length bytes) bytes (p .room) in
+    record {
+      sized = replied .value ∙ ap (λ (r : Reply). r .value) is;
+      bytes = replied .writes ∙ ap (λ (r : Reply). written (r .words) entry) is;
+    }
+
+-- ---- all of it
+
+-- What a whole strip comes to: its answers, and the image of what survives it.
+pub record Closing (words answers bytes answers' : List ℕ) (size : ℕ) (bytes' : List ℕ) : Type 0 where
+  pub answered : answers' ≡ written (booking-answers words) answers
+  pub sized : size ≡ length (closing words)
+  pub short : length (closing words) ≤ 11012
+  pub printed : bytes' ≡ written (closing words) bytes
+
+pub closed-printable : {w v : Words} {bytes : List ℕ} → Held w → Closed w v → 11012 ≤ length bytes → Printable v bytes
+closed-printable h c room = record { checked = c .checked; compact = c .compact; room = rw (c .same) (omega (arith, image-short h)) }
+
+pub closing-of : {words answers answers' bytes bytes' : List ℕ} {w v : Words} {size : ℕ} → Booked words answers w answers' → Closed w v
+    → Printed v bytes size bytes' → Closing words answers bytes answers' size bytes'
+closing-of {words} {bytes = bytes} {w} {v} before closed after =
+    let same : image (survivors (plain-of (shape-of v))) ≡ closing words =
+    ap image (closed .same ∙ ap (λ (s : State). survivors (s .lists)) (before .state)) in
+    record {
+      answered = before .answered;
+      sized = after .sized ∙ ap length same;
+      short = subst (λ (s : State). length (image (survivors (s .lists))) ≤ 11012) (before .state) (image-short (before .held));
+      printed = after .bytes ∙ ap (λ (l : List ℕ). written l bytes) same;
+    }

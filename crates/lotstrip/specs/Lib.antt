@@ -1,0 +1,6 @@
+pub mod Appending
+pub mod Digits
+pub mod Lines
+pub mod Input
+pub mod Booking
+pub mod Printing
