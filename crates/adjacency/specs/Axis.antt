@@ -9,11 +9,13 @@ use denote.Ref.{now}
 use native.Mathlib.Omega.{arith}
 use borrow.Author.Tests.{ltb-true}
 use Rattle.plain.specs.Laws.Booleans.{by-test}
+use Rattle.liveness.specs.Flags.{live-flags}
 use Rattle.shape.specs.Columns.{Sized}
 use Rattle.adjacency.specs.declared.axis.Axis.{Axis}
 use Rattle.adjacency.specs.declared.cursor.AdjacencyCursor.{AdjacencyCursor}
 use Rattle.adjacency.specs.declared.cursor.Found.{Found}
 use Rattle.adjacency.specs.declared.cursor.Step.{Step}
+use Rattle.adjacency.specs.Cursor.{listed, Seekable, Sought}
 use Rattle.adjacency.specs.Index.{Based, base-bounds, bounds-at}
 use Rattle.adjacency.specs.Walk.{column, entries-column, next-column, ColumnsThere}
 use Rattle.adjacency.specs.WalkLaws.{column-length, column-word}
@@ -53,3 +55,23 @@ module _ (ws : List ℕ) (ce cn bn : ℕ) where
 -- "`advance` moves a lent cursor of four numbers": what it answers, and the cursor that it leaves, as one step
 abbrev pub stepped : AdjacencyCursor → Found → Step
 stepped c found = record { cursor = c; found = found }
+
+-- What it takes to advance along the columns of the words.
+pub record Advanceable (ws : List ℕ) (ce cn : ℕ) (linked : Bool) (live : List ℕ) (slots : ℕ) (c : AdjacencyCursor) : Type 0 where
+  pub sized : Sized ws ce cn
+  pub seekable : Seekable linked (entries-column ws ce linked) (next-column ws ce) live slots c
+
+-- The cursor that was lent as `c` is left as `after`, behind the next listed entry, `found`.
+abbrev pub Advanced : List ℕ → ℕ → Bool → Bool → List ℕ → ℕ → AdjacencyCursor → AdjacencyCursor → Found → Type 0
+Advanced ws ce linked tombstoned live slots c after found =
+    Sought (listed tombstoned (live-flags live slots)) linked (entries-column ws ce linked) (next-column ws ce) c (stepped after found)
+
+module _ {ws : List ℕ} {ce cn : ℕ} {linked : Bool} {x : Axis} (columns : Columns ws ce cn linked x) where
+  -- what it takes along the words is what it takes along their axis, and what is found there is found along the words
+  pub seekable-along : {live : List ℕ} {slots : ℕ} {c : AdjacencyCursor} → Advanceable ws ce cn linked live slots c
+      → Seekable linked (now (x .entries)) (now (x .next)) live slots c
+  seekable-along a = rw (columns .entries-are, columns .next-are) (a .seekable)
+
+  pub sought-along : {test : ℕ → Bool} {c : AdjacencyCursor} {s : Step} → Sought test linked (now (x .entries)) (now (x .next)) c s
+      → Sought test linked (entries-column ws ce linked) (next-column ws ce) c s
+  sought-along sought = rw (columns .entries-are, columns .next-are) at sought
