@@ -85,7 +85,8 @@ pub extern "C" fn lot_write_neighbors(
     adjacency::walk::write_neighbors(axis, far, edges, nodes, counts, live_edges, node, live, out);
 }
 
-// Where a walk starts that is read edge by edge, and whether it reads a run.
+// Where a walk starts that is read edge by edge, and whether it reads a run. `lot_advance` then gives one entry after the other: what it leaves is ready to be
+// advanced again.
 #[no_mangle]
 pub extern "C" fn lot_start(
     axis: &[u32],

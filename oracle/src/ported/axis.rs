@@ -1,6 +1,8 @@
 //! One direction of the port's memory: its packed words, the tests of what the
 //! contracts require of them, and the proved functions over them.
 
+use std::iter;
+
 use super::columns::{Column, Columns, Layout};
 use super::exports::{self, AdjacencyCursor, Counts, Slots};
 use super::live::{self, Live};
@@ -318,8 +320,7 @@ impl Readable<'_> {
         kept(out)
     }
 
-    /// The walk edge by edge, by a cursor that is lent for every step. At the end
-    /// it stays where it is.
+    /// The walk edge by edge, by a cursor that is lent for every step.
     pub fn steps(&self, node: usize, live: bool) -> Vec<u32> {
         let Axis { words, layout } = self.asked(node);
         // SAFETY: the words are borrowed and as long as stated; `Readable` was
@@ -336,16 +337,11 @@ impl Readable<'_> {
             )
         };
         let mut cursor = start.cursor;
-        let mut walk = Vec::new();
-        loop {
-            let edge = self.advance(start.linked, &mut cursor);
-            if edge == NONE {
-                let end = cursor;
-                assert_eq!((self.advance(start.linked, &mut cursor), cursor), (NONE, end));
-                return walk;
-            }
-            walk.push(edge);
-        }
+        let mut next =
+            || Some(self.advance(start.linked, &mut cursor)).filter(|&edge| edge != NONE);
+        let walk = iter::from_fn(&mut next).collect();
+        assert_eq!(next(), None, "a walk that is done stays done");
+        walk
     }
 
     /// The next edge of a walk by its cursor, which `lot_start` gave and no one
