@@ -305,8 +305,12 @@ impl Ported {
             let place = || format!("node {slot}, {direction:?}");
             let node = slot as usize;
             let expected = rust_store::walk(graph, direction, slot);
-            let expected = (expected.len(), expected);
-            let given = (side.count(node, live), side.walk(node, live));
+            let expected = (expected.len(), expected.clone(), expected);
+            let given = (
+                side.count(node, live),
+                side.walk(node, live),
+                side.steps(node, live),
+            );
             tally.same(Thing::PortWalk, place, expected, given)?;
             let expected = rust_store::degree(graph, direction, slot) as usize;
             let given = side.degree(node, live);

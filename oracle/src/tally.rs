@@ -102,7 +102,7 @@ things! {
         "Adding an edge appends it to its source's out-list and target's in-list.";
     PortIndex: "port: offsets and joined lists",
         "the out-lists of nodes 0 up to n−1 joined, then the in-lists";
-    PortWalk: "port: walks, and counted",
+    PortWalk: "port: walks, whole and edge by edge, and counted",
         "A walk is the list";
     PortDegree: "port: degrees",
         "a degree its length";

@@ -7,6 +7,7 @@ pub mod Reading
 pub mod Finding
 pub mod Walk
 pub mod WalkLaws
+pub mod Axis
 pub mod StoreWalks
 pub mod Clear
 pub mod ClearLaws

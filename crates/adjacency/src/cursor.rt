@@ -15,6 +15,7 @@ use plain::NONE;
 
 // Where a walk stands. Of a base part `base` and `base_end` are positions in the adjacency column. Of a run `base` is the entry to read next
 // and `base_end` how many are left. `delta` is the ring's entry to read next, NONE where none is left, and `delta_last` the ring's last.
+#[repr(C)]
 pub struct AdjacencyCursor {
     pub base: u32,
     pub base_end: u32,
@@ -35,6 +36,7 @@ pub struct Step {
 }
 
 // Where a walk starts, and whether it reads a run.
+#[repr(C)]
 pub struct Start {
     pub linked: bool,
     pub cursor: AdjacencyCursor,

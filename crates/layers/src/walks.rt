@@ -1,13 +1,21 @@
 // Walks, degrees and far ends of one direction, over its packed axis. `edges` and `nodes` are the capacities of the axis; `live` says whether the node is live.
 
+use adjacency::axis;
+use adjacency::axis::Axis;
+use adjacency::cursor::AdjacencyCursor;
+use adjacency::cursor::Found;
+use adjacency::cursor::Start;
 use plain::Counts;
+use plain::NONE;
 ghost use mathlib.Core.Path.{_≡_};
 ghost use mathlib.Core.List.{map};
 ghost use Prim.Native.Nat.{_≤_};
 ghost use lib.ListN.{length};
 ghost use Rattle.plain.specs.Lists.{written};
 ghost use Rattle.shape.specs.Columns.{end-at};
-ghost use Rattle.adjacency.specs.Walk.{walk-in, Walkable, WalkFits};
+ghost use Rattle.adjacency.specs.Walk.{walk-in, Readable, Walkable, WalkFits, Started};
+ghost use Rattle.adjacency.specs.Axis.{Advanceable, Advanced};
+ghost use Rattle.layers.specs.Words.{found-as, Told};
 
 #[no_mangle]
 pub extern "C" fn lot_count_walk(
@@ -77,4 +85,50 @@ pub extern "C" fn lot_write_neighbors(
     adjacency::walk::write_neighbors(axis, far, edges, nodes, counts, live_edges, node, live, out);
 }
 
-// The edges of the walk are made dead; how many were live is returned.
+// Where a walk starts that is read edge by edge, and whether it reads a run. `lot_advance` then gives one entry after the other: what it leaves is ready to be
+// advanced again.
+#[no_mangle]
+pub extern "C" fn lot_start(
+    axis: &[u32],
+    edges: usize,
+    nodes: usize,
+    counts: Counts,
+    node: usize,
+    live: bool,
+) -> Start
+    requires { ⌜ Readable (now axis) edges nodes counts node ⌝ }
+    ensures { λ r. ⌜ Started (now (axis .entry)) edges nodes counts node live r ⌝ }
+{
+    adjacency::walk::start(axis, edges, nodes, counts, node, live)
+}
+
+// The edge found, NONE where none was.
+fn word_of(found: Found) -> u32
+    requires { ⌜ Told found ⌝ }
+    ensures { λ r. ⌜ found-as r ≡ found ⌝ }
+{
+    match found {
+        Found::Edge(edge) => edge,
+        Found::Done => NONE,
+    }
+}
+
+// Moves the lent cursor to behind the next listed entry, which is returned; NONE where none is left.
+#[no_mangle]
+pub extern "C" fn lot_advance(
+    cursor: &mut AdjacencyCursor,
+    axis: &[u32],
+    edges: usize,
+    nodes: usize,
+    linked: bool,
+    tombstoned: bool,
+    live_edges: &[u64],
+    slots: usize,
+) -> u32
+    requires { ⌜ Advanceable (now axis) edges nodes linked (now «live_edges») slots (now cursor) ⌝ }
+    ensures { λ r. ⌜ Advanced (now (axis .entry)) edges linked tombstoned (now («live_edges» .entry)) slots (now (cursor .entry)) (now (cursor .exit)) (found-as r) ⌝ }
+{
+    let along = Axis::of(axis, edges, nodes, linked);
+    let found = axis::advance(cursor, along, linked, tombstoned, live_edges, slots);
+    word_of(found)
+}

@@ -1,8 +1,10 @@
 //! One direction of the port's memory: its packed words, the tests of what the
 //! contracts require of them, and the proved functions over them.
 
+use std::iter;
+
 use super::columns::{Column, Columns, Layout};
-use super::exports::{self, Counts, Slots};
+use super::exports::{self, AdjacencyCursor, Counts, Slots};
 use super::live::{self, Live};
 use super::{kept, lent};
 use crate::model::{LIMIT, NONE};
@@ -316,6 +318,54 @@ impl Readable<'_> {
         let mut out = lent(self.count(node, live));
         self.write(node, live, &mut out);
         kept(out)
+    }
+
+    /// The walk edge by edge, by a cursor that is lent for every step.
+    pub fn steps(&self, node: usize, live: bool) -> Vec<u32> {
+        let Axis { words, layout } = self.asked(node);
+        // SAFETY: the words are borrowed and as long as stated; `Readable` was
+        // tested.
+        let start = unsafe {
+            exports::lot_start(
+                words.as_ptr(),
+                words.len(),
+                layout.edges,
+                layout.nodes,
+                self.counts,
+                node,
+                live,
+            )
+        };
+        let mut cursor = start.cursor;
+        let mut next =
+            || Some(self.advance(start.linked, &mut cursor)).filter(|&edge| edge != NONE);
+        let walk = iter::from_fn(&mut next).collect();
+        assert_eq!(next(), None, "a walk that is done stays done");
+        walk
+    }
+
+    /// The next edge of a walk by its cursor, which `lot_start` gave and no one
+    /// else moved.
+    fn advance(&self, linked: bool, cursor: &mut AdjacencyCursor) -> u32 {
+        let Axis { words, layout } = self.axis;
+        let Slots { live, bound, .. } = self.counts.edges;
+        // SAFETY: the slices are borrowed and as long as stated, the cursor is
+        // borrowed mutably; `Advanceable`, since what `lot_start` gives and what
+        // `lot_advance` leaves is proved to be `Ready`.
+        unsafe {
+            exports::lot_advance(
+                cursor,
+                words.as_ptr(),
+                words.len(),
+                layout.edges,
+                layout.nodes,
+                linked,
+                live != bound,
+                self.live_edges.as_ptr(),
+                self.live_edges.len(),
+                bound as usize,
+            )
+        }
     }
 
     /// The far ends of the walk, by the other direction's axis.

@@ -3,6 +3,24 @@
 
 pub use crate::lots::{Counts, Slots};
 
+/// `AdjacencyCursor` of crate `adjacency`.
+#[repr(C)]
+#[derive(Debug, Clone, Copy, PartialEq, Eq)]
+pub struct AdjacencyCursor {
+    pub base: u32,
+    pub base_end: u32,
+    pub delta: u32,
+    pub delta_last: u32,
+}
+
+/// `Start` of crate `adjacency`.
+#[repr(C)]
+#[derive(Clone, Copy)]
+pub struct Start {
+    pub linked: bool,
+    pub cursor: AdjacencyCursor,
+}
+
 unsafe extern "C" {
     #[cfg(feature = "serde")]
     pub fn lot_push_live(words: *mut u64, length: usize, slots: usize);
@@ -110,4 +128,26 @@ unsafe extern "C" {
         out: *mut u32,
         out_length: usize,
     );
+
+    pub fn lot_start(
+        axis: *const u32,
+        length: usize,
+        edges: usize,
+        nodes: usize,
+        counts: Counts,
+        node: usize,
+        live: bool,
+    ) -> Start;
+    pub fn lot_advance(
+        cursor: *mut AdjacencyCursor,
+        axis: *const u32,
+        length: usize,
+        edges: usize,
+        nodes: usize,
+        linked: bool,
+        tombstoned: bool,
+        live_edges: *const u64,
+        live_edges_length: usize,
+        slots: usize,
+    ) -> u32;
 }

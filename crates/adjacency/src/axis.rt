@@ -1,0 +1,81 @@
+// One direction's columns as slices of their own, resolved once for a walk (`Axis` of the Rust), and the lent cursor that moves along them (`advance`). Both
+// are thin: what reads the columns is by value and over plain slices, in the other files.
+
+ghost use mathlib.Core.Path.{_≡_};
+ghost use Prim.Native.Nat.{_<_};
+ghost use lib.ListN.{length};
+ghost use Rattle.liveness.specs.Flags.{live-flags};
+ghost use Rattle.shape.specs.Columns.{Sized};
+ghost use Rattle.adjacency.specs.Cursor.{listed, Seekable, Sought};
+ghost use Rattle.adjacency.specs.Index.{bounds-at};
+ghost use Rattle.adjacency.specs.Axis.{offsets-column, Columns, stepped};
+use crate::cursor::AdjacencyCursor;
+use crate::cursor::Found;
+use crate::index;
+use crate::index::BaseBounds;
+use crate::walk;
+
+// `entries` is what a walk reads before the ring: the compressed index's edge numbers, or in their place the run links, where the walk is linked. `next` is the
+// ring links.
+pub struct Axis<'a> {
+    pub offsets: &'a [u32],
+    pub entries: &'a [u32],
+    pub next: &'a [u32],
+}
+
+// The column of the compressed index's offsets.
+pub fn offsets_of(axis: &[u32], edges: usize, nodes: usize) -> &[u32]
+    requires { ⌜ Sized (now axis) edges nodes ⌝ }
+    ensures { λ r. ⌜ now r ≡ offsets-column (now (axis .entry)) edges nodes ⌝ }
+{
+    let from = 4 * edges + 5 * nodes;
+    let to = from + nodes + 1;
+    &axis[from..to]
+}
+
+impl<'a> Axis<'a> {
+    // Of the parts of one packed slice.
+    pub fn of(words: &'a [u32], edges: usize, nodes: usize, linked: bool) -> Axis<'a>
+        requires { ⌜ Sized (now words) edges nodes ⌝ }
+        ensures { λ r. ⌜ Columns (now (words .entry)) edges nodes linked r ⌝ }
+    {
+        Axis {
+            offsets: offsets_of(words, edges, nodes),
+            entries: walk::entries_of(words, edges, linked),
+            next: walk::next_of(words, edges),
+        }
+    }
+
+    // Where the base part of a node begins and ends among the adjacency words.
+    pub fn bounds(self, base: usize, node: usize) -> BaseBounds
+        requires { ⌜ base < length (now (self .offsets)) ⌝ }
+        ensures { λ r. ⌜ r ≡ bounds-at (now (self .entry .offsets)) base node ⌝ }
+    {
+        index::bounds_at(self.offsets, base, node)
+    }
+}
+
+// Moves the lent cursor to behind the next listed entry, and answers that.
+pub fn advance<'s, 'a, 'l>(
+    cursor: &'s mut AdjacencyCursor,
+    axis: Axis<'a>,
+    linked: bool,
+    tombstoned: bool,
+    live: &'l [u64],
+    slots: usize,
+) -> Found
+    requires { ⌜ Seekable linked (now (axis .entries)) (now (axis .next)) (now live) slots (now cursor) ⌝ }
+    ensures { λ r. ⌜ Sought (listed tombstoned (live-flags (now (live .entry)) slots)) linked (now (axis .entry .entries)) (now (axis .entry .next)) (now (cursor .entry)) (stepped (now (cursor .exit)) r) ⌝ }
+{
+    let step = AdjacencyCursor::seek(
+        *cursor,
+        linked,
+        axis.entries,
+        axis.next,
+        tombstoned,
+        live,
+        slots,
+    );
+    *cursor = step.cursor;
+    step.found
+}
