@@ -108,6 +108,8 @@ things! {
         "a degree its length";
     PortNeighbors: "port: successors and predecessors",
         "A walk is the list; Removed edges keep their last ends.";
+    PortText: "port: texts of lotstrip",
+        "It prints a line per operation with position from 0, number and value in decimal, compacts, and prints the image on one line in lower-case hexadecimal.";
     PortLookup: "port: map lookups",
         "the slot a map lookup gives or NONE";
     PortIdentity: "port: yes or no: identity",

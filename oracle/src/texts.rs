@@ -1,5 +1,10 @@
-//! What `lotstrip` prints, from the model and from the Rust, for random strips
-//! and for inputs of every length around the limits.
+//! What `lotstrip` prints, from the model, from the Rust and from the port's own
+//! program, for random strips and for inputs of every length around the limits.
+
+use std::env;
+use std::io::Write;
+use std::path::PathBuf;
+use std::process::{Command, Stdio};
 
 use crate::calls::{LOTSTRIP, lotstrip};
 use crate::examples::strip_bytes;
@@ -45,5 +50,23 @@ pub fn compare(inputs: usize, seed: u64, tally: &mut Tally) -> Result<(), Differ
 fn compare_input(input: &[u8], tally: &mut Tally) -> Result<(), Difference> {
     let place = || format!("an input of {} bytes", input.len());
     let (expected, given) = (lotstrip::<Model>(input), lotstrip::<RustStore>(input));
-    tally.same(Thing::Text, place, expected, given)
+    tally.same(Thing::Text, place, &expected, &given)?;
+    match printed(input) {
+        Some(text) => tally.same(Thing::PortText, place, given, text),
+        None => Ok(()),
+    }
+}
+
+/// What the port's program prints, where there is one.
+fn printed(input: &[u8]) -> Option<String> {
+    let program = PathBuf::from(env::var_os("ORACLE_PORT")?).join("lotstrip");
+    let mut child = Command::new(program)
+        .stdin(Stdio::piped())
+        .stdout(Stdio::piped())
+        .spawn()
+        .expect("the script put the program there");
+    // It reads no more than it needs, and prints after it has read.
+    let _ = child.stdin.take().expect("piped").write_all(input);
+    let output = child.wait_with_output().expect("a child that was started");
+    Some(String::from_utf8_lossy(&output.stdout).into_owned())
 }
