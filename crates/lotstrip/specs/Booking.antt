@@ -51,6 +51,10 @@ booking-answers words = answers lotstrip-capacities fresh-state (operations word
 abbrev pub closing : List ℕ → List ℕ
 closing words = image (survivors (booked words .lists))
 
+-- Bytes that hold any such image: two counts, 512 payloads, 1,024 records of 9, 9 and 32 bits, and twice 1,024 entries of 10 bits.
+abbrev pub image-room : ℕ
+image-room = 11_012
+
 -- ---- the strip
 
 -- The memory lent has no word to spare, the strip is whole, and its answers have room.
@@ -157,7 +161,7 @@ module _ {w : Words} (h : Held w) where
       }
 
   -- its image is never longer
-  pub image-short : length (image (survivors plain)) ≤ 11012
+  pub image-short : length (image (survivors plain)) ≤ image-room
   image-short =
       let s = survivors plain in
       let nodes : length (s .nodes) ≤ 512 = omega (arith, surviving-nodes-within plain, well .nodes-within) in
@@ -200,10 +204,10 @@ prints {w} {entry} p replied =
 pub record Closing (words answers bytes answers' : List ℕ) (size : ℕ) (bytes' : List ℕ) : Type 0 where
   pub answered : answers' ≡ written (booking-answers words) answers
   pub sized : size ≡ length (closing words)
-  pub short : length (closing words) ≤ 11012
+  pub short : length (closing words) ≤ image-room
   pub printed : bytes' ≡ written (closing words) bytes
 
-pub closed-printable : {w v : Words} {bytes : List ℕ} → Held w → Closed w v → 11012 ≤ length bytes → Printable v bytes
+pub closed-printable : {w v : Words} {bytes : List ℕ} → Held w → Closed w v → image-room ≤ length bytes → Printable v bytes
 closed-printable h c room = record { checked = c .checked; compact = c .compact; room = rw (c .same) (omega (arith, image-short h)) }
 
 pub closing-of : {words answers answers' bytes bytes' : List ℕ} {w v : Words} {size : ℕ} → Booked words answers w answers' → Closed w v
@@ -214,6 +218,6 @@ closing-of {words} {bytes = bytes} {w} {v} before closed after =
     record {
       answered = before .answered;
       sized = after .sized ∙ ap length same;
-      short = subst (λ (s : State). length (image (survivors (s .lists))) ≤ 11012) (before .state) (image-short (before .held));
+      short = subst (λ (s : State). length (image (survivors (s .lists))) ≤ image-room) (before .state) (image-short (before .held));
       printed = after .bytes ∙ ap (λ (l : List ℕ). written l bytes) same;
     }

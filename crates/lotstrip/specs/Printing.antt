@@ -30,7 +30,7 @@ printed answers bytes = answer-lines 0 answers ++ (hexadecimal bytes ++ (newline
 pub length-printed : (answers bytes : List ℕ) → length (printed answers bytes) ≡ length (answer-lines 0 answers) + length (hexadecimal bytes) + 1
 length-printed answers bytes = simp length-append (omega arith)
 
--- Bytes that hold any text: 4,096 lines of 63 bytes, two digits for each of the 11,012 bytes of the largest image, and a newline.
+-- Bytes that hold any text: 4,096 lines of 63 bytes, two digits for each of the `image-room` bytes of an image, and a newline.
 abbrev pub text-room : ℕ
 text-room = 280_073
 

@@ -9,7 +9,7 @@ ghost use Prim.Native.Nat.{_≤_, _%_, _/_};
 ghost use mathlib.Core.Path.{_≡_};
 ghost use lib.ListN.{length};
 ghost use Rattle.shape.specs.Shape.{store};
-ghost use Rattle.lotstrip.specs.Booking.{Bookable, Booked, Held, Closed, Printable, Printed, Closing};
+ghost use Rattle.lotstrip.specs.Booking.{image-room, Bookable, Booked, Held, Closed, Printable, Printed, Closing};
 
 // Runs a strip on a fresh store.
 fn run_strip(
@@ -106,7 +106,7 @@ fn print_image(
 
 // Books a strip: its answers to the start of `answers`, the image of what survives it to the start of `bytes`. Answers how many bytes the image has.
 pub fn book(words: &[u32], answers: &mut [u32], bytes: &mut [u8]) -> usize
-    requires { ⌜ (length (now words) % 4 ≡ 0) × ((length (now words) / 2 ≤ length (now answers)) × (11012 ≤ length (now bytes))) ⌝ }
+    requires { ⌜ (length (now words) % 4 ≡ 0) × ((length (now words) / 2 ≤ length (now answers)) × (image-room ≤ length (now bytes))) ⌝ }
     ensures { λ r. ⌜ Closing (now (words .entry)) (now (answers .entry)) (now (bytes .entry)) (now (answers .exit)) r (now (bytes .exit)) ⌝ }
 {
     let mut nodes: [u32; 512] = [0; 512];
