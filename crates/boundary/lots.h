@@ -81,7 +81,7 @@ typedef struct {
  *   live_edges  LOT_LIVE_WORDS(E)
  *   outgoing    LOT_AXIS_WORDS(N, E)
  *   incoming    LOT_AXIS_WORDS(N, E)
- * Longer ones are taken; words past these lengths are never written. */
+ * Longer ones are taken. What words past these lengths hold after a call that changed the store is not promised; a call that refuses leaves every word. */
 #define LOT_STORE_READ                                                                                                                               \
     const uint32_t *nodes, size_t nodes_length, const uint32_t *edges, size_t edges_length, const uint64_t *live_nodes, size_t live_nodes_length,     \
         const uint64_t *live_edges, size_t live_edges_length, const uint32_t *outgoing, size_t outgoing_length, const uint32_t *incoming,             \
