@@ -44,6 +44,12 @@ module _ {ws : List ℕ} {ce cn nb be node e : ℕ} (pre : Appendable ws ce cn n
           let room = pre .room in
           same i (omega arith) ne (omega arith) (λ some. let low = last-below some in omega arith)
 
+      -- and the ring links past the new edge's
+      past : (i : ℕ) → 2 * ce + e < i → i < 3 * ce → getD vs i 0 ≡ getD ws i 0
+      past i l h =
+          let room = pre .room in
+          same i (omega arith) (omega arith) (omega arith) (λ some. let low = last-below some in omega arith)
+
       -- every entry of the longer ring ends at the node
       own : (x : ℕ) → In x (ring-of ws ce be e node ++ (e ∷ [])) → end-at vs x ≡ node
       own x m = ⊎-elim before (λ q. rw q end) (in-snoc x (ring-of ws ce be e node) e m)
@@ -89,6 +95,7 @@ module _ {ws : List ℕ} {ce cn nb be node e : ℕ} (pre : Appendable ws ce cn n
             others = ring-others vs nb (e + 1) node xs rise small (pre .rings) here own others;
             rings = rings-new vs nb (e + 1) node xs rise small (pre .rings) here own others;
             below = below;
+            next = past;
             above = above;
           }
 

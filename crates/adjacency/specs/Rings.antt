@@ -31,7 +31,8 @@ pub record Appended (ws vs : List ℕ) (ce nb be node e : ℕ) : Type 0 where
   pub rings : Rings vs ce nb be (e + 1)
   -- the other ends and the adjacency column are as they were
   pub below : (i : ℕ) → i < 2 * ce → i ≢ e → getD vs i 0 ≡ getD ws i 0
-  -- so is everything past the ring links but the node's last edge
+  -- so are the ring links past the edge's, and everything past the ring links but the node's last edge
+  pub next : (i : ℕ) → 2 * ce + e < i → i < 3 * ce → getD vs i 0 ≡ getD ws i 0
   pub above : (i : ℕ) → 3 * ce ≤ i → i ≢ 4 * ce + node → getD vs i 0 ≡ getD ws i 0
 
 -- What it takes to open a node slot.

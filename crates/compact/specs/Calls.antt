@@ -14,6 +14,7 @@ use Rattle.liveness.specs.Calls.{Reset}
 use Rattle.shape.specs.Columns.{cell, offset-at, last-at, mark-at}
 use Rattle.shape.specs.Shape.{Words, axis-words, shape-of, lists, settled, is-compact}
 use Rattle.shape.specs.Checked.{Checked, Reached}
+use Rattle.shape.specs.Kept.{Renewed, Spared}
 use Rattle.shape.specs.Rules.{broken}
 use Rattle.shape.specs.Steps.{state-of}
 use Rattle.shape.specs.Laws.Indexing.{before, ends-of}
@@ -64,3 +65,6 @@ pub record CompactOf (w : Words) (node-map edge-map work : List ℕ) (number val
   pub again : number ≡ 0 → Canonical w → v ≡ w
   pub lengths : SameLengths w v
   pub refused-keeps : (number ≡ 0 → ⊥) → v ≡ w
+  -- of the words that are no field: none past the bounds, no link, no first, tail or count, and no spare one is written
+  pub renewed : Renewed w v
+  pub spared : Spared w v

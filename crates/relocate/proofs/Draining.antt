@@ -4,7 +4,7 @@ use native.Mathlib.Nat.{le-trans, le-refl}
 use native.Mathlib.Omega.{arith}
 use mathlib.Core.Path.{_≡_, refl, sym, ap, _∙_, subst}
 use mathlib.Core.Bool.{Bool, true}
-use mathlib.Core.Logic.{_⊎_, ⊎-elim, _≢_}
+use mathlib.Core.Logic.{_⊎_, inl, ⊎-elim, _≢_}
 use mathlib.Core.List.{List, [], _∷_, _++_, append-nil, append-assoc}
 use lib.ListN.{length, getD, length-append}
 use lib.Seq.{append-snoc}
@@ -20,13 +20,14 @@ use Rattle.shape.specs.Steps.{live-entries}
 use Rattle.shape.specs.Laws.Chains.{line-stop, line-step, line-first, line-short, ring-once, until-is}
 use Rattle.shape.specs.Laws.Frames.{base-kept, index-kept, run-kept, runs-kept, ring-of-none}
 use Rattle.shape.specs.Checked.{Rings, Index}
+use Rattle.shape.specs.Kept.{AxisKept, axis-kept-again}
 use Rattle.shape.specs.Laws.Taking.{keep-append}
 use Rattle.shape.specs.Laws.Keeping.{in-keep, in-either, in-second}
 use Rattle.adjacency.specs.declared.rings.RingEnds.{RingEnds}
 use Rattle.adjacency.specs.Rings.{EndsReadable, ring-ends, Detached}
 use Rattle.adjacency.specs.Rings.Laws.{ends-readable, ends-ring}
 use Rattle.relocate.specs.Runs.{Edited, Grown, Keepable}
-use Rattle.relocate.specs.Runs.Laws.{run-of-marked, edited-none, edited-again, edited-list, edited-mark, edited-new, edited-rings}
+use Rattle.relocate.specs.Runs.Laws.{run-of-marked, edited-none, edited-again, edited-list, edited-mark, edited-new, edited-rings, edited-kept, edited-writes}
 use Rattle.relocate.specs.Overlay.{flags-of, Ready, Remade, Drainable, Drained}
 use Rattle.relocate.specs.Overlay.Laws.{node-same, edited-base, edited-index, edited-node, remade-run}
 
@@ -94,6 +95,26 @@ module _
     run-same : (x : ℕ) → x < counts .nodes .bound → run-of vs ce cn x ≡ run-of us ce cn x
     run-same = run-kept vs (pre .editable .nodes-within) (pre .editable .edges-within) (done .editable .runs) links columns
 
+    -- of the words that no operation writes none is
+    detached-kept : AxisKept us vs ce cn (counts .nodes .bound) (counts .edges .bound)
+    detached-kept =
+        let low = pre .editable .node-below in
+        let within = pre .editable .nodes-within in
+        let few = pre .editable .edges-within in
+        record {
+          ends = λ i l h. gone .kept i (omega arith);
+          adjacency = λ i l h. gone .kept i (omega arith);
+          next = λ i l h. gone .kept i (omega arith);
+          links = λ i l h. gone .kept i (omega arith);
+          last = λ i l h. gone .kept i (omega arith);
+          first = λ i l h. gone .kept i (omega arith);
+          tail = λ i l h. gone .kept i (omega arith);
+          count = λ i l h. gone .kept i (omega arith);
+          mark = λ i l h. gone .kept i (omega arith);
+          marks = λ i l h. inl (gone .kept i (omega arith));
+          offsets = λ i l. gone .kept i (omega arith);
+        }
+
     -- the node is remade
     pub detached-remade : Remade ws vs ce cn counts node ys
     detached-remade =
@@ -118,6 +139,8 @@ module _
           index =
               index-kept vs (le-trans (pre .nodes-based) (e .nodes-within)) (le-trans (pre .edges-based) (e .edges-within)) index adjacency offsets;
           below = λ i h. gone .kept i (omega arith) ∙ done .below i h;
+          frame = axis-kept-again (edited-kept done) detached-kept;
+          writes = λ i l o. gone .kept i (λ q. o (inl q)) ∙ edited-writes done i l o;
         }
 
 module _ {ws : List ℕ} {ce cn : ℕ} {counts : Counts} {live : List ℕ} {node : ℕ} (pre : Drainable ws ce cn counts live node) where

@@ -18,6 +18,7 @@ use Rattle.shape.specs.Chains.{In, chain}
 use Rattle.shape.specs.Shape.{adjacency-in, Adjacency, Axis, live-in, run-list, ring-of, axis-of, no-adjacency}
 use Rattle.shape.specs.Steps.{live-entries, taken, swept, with-run, moved-axis}
 use Rattle.shape.specs.Laws.Chains.{in-front, in-none, in-last, in-snoc, chain-none, chain-some, run-is}
+use Rattle.shape.specs.Kept.{axis-kept-again}
 use Rattle.shape.specs.Laws.Frames.{run-list-below}
 use Rattle.shape.specs.Laws.Taking.{keep-passing}
 use Rattle.shape.specs.Laws.Keeping.{in-keep, in-taken, in-second}
@@ -27,7 +28,7 @@ use Rattle.relocate.specs.Runs.Laws.{list-of-run, mark-of-run}
 use Rattle.relocate.specs.Overlay.{flags-of, Remade, TakenOver, Preparable}
 use Rattle.relocate.specs.Overlay.Laws.{remade-edited, remade-run, remade-list, remade-mark}
 use Rattle.relocate.specs.Redirects.{Linked, Relabelled, Relocated}
-use Rattle.relocate.specs.Redirects.Laws.{placed-ready, remade-linked, remade-axis, remade-placed, relocated-axis, relocated-checked, relabelled-node, relabelled-linked}
+use Rattle.relocate.specs.Redirects.Laws.{placed-ready, remade-linked, remade-axis, remade-placed, relocated-axis, relocated-checked, relabelled-node, relabelled-linked, relabelled-kept}
 use Rattle.relocate.specs.Moves.{Gathered, RunRelabelled, HandableOver, HandedOver, Movable, Met, Moved}
 use Rattle.relocate.proofs.Pushing.{run-before}
 
@@ -275,6 +276,13 @@ module _ {ws : List ℕ} {ce cn : ℕ} {counts : Counts} {live : List ℕ} {tomb
                   ∙ named .relabelled .kept e (λ m. out (rw gathered-list at m)) ∙ met .prepared .below e (omega (arith, pre .axis .linked .edges-within))
                   ∙ met .gathered .below e (omega (arith, pre .axis .linked .edges-within));
               linked = remade-linked (remade-linked named-linked emptied) joined;
+              frame =
+                  axis-kept-again (met .gathered .frame)
+                  (axis-kept-again (met .prepared .frame)
+                  (axis-kept-again (relabelled-kept linked edges (named .relabelled)) (axis-kept-again (emptied .frame) (joined .frame))));
+              writes = λ i out link o n.
+                  joined .writes i link n ∙ emptied .writes i link o ∙ named .relabelled .kept i (λ m. out (rw gathered-list at m))
+                  ∙ met .prepared .writes i link n ∙ met .gathered .writes i link o;
             }
 
         -- the move is done
@@ -288,4 +296,6 @@ module _ {ws : List ℕ} {ce cn : ℕ} {counts : Counts} {live : List ℕ} {tomb
                   ∙ sym (moved-is flags old new (axis-of ws ce cn counts) (adjacency-in ws ce cn counts old) (adjacency-in ws ce cn counts new)
                   (axis-adjacency ws ce cn counts old (pre .old-placed .below)) (axis-adjacency ws ce cn counts new (pre .new-placed .below)));
               checked = λ nodes. relocated-checked (pre .old-placed .below) (pre .new-placed .below) (pre .apart) below relocated nodes flags;
+              frame = relocated .frame;
+              writes = λ i past. relocated .writes i (λ m. let low = below i m in omega arith);
             }

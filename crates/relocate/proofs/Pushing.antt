@@ -3,7 +3,7 @@ use Prim.Native.Nat.{ℕ, _+_, _*_, _≤_, _<_, zero-le}
 use native.Mathlib.Omega.{arith}
 use mathlib.Core.Path.{_≡_, refl, sym, _∙_}
 use mathlib.Core.Bool.{Bool, true, false}
-use mathlib.Core.Logic.{_⊎_, inr, ⊎-elim, _≢_}
+use mathlib.Core.Logic.{_⊎_, inl, inr, ⊎-elim, _≢_}
 use mathlib.Core.List.{List, [], _∷_, _++_, append-nil}
 use lib.ListN.{length, getD, set, length-set, length-append}
 use lib.Seq.{getD-set-same, getD-set-other}
@@ -97,7 +97,9 @@ module _ {ws : List ℕ} {ce cn : ℕ} {counts : Counts} {node e : ℕ} (pre : P
                 edited (pre .editable) vs (run ++ (e ∷ [])) long (λ q. pre .marked (sym (same (4 * ce + 4 * cn + node) (omega arith) (omega arith) (omega arith) linked) ∙ q))
                 (record { counted = counted ∙ simp length-append (omega arith); line = inr line }) alone elsewhere
                 (λ i h. same i (omega arith) (omega arith) (omega arith) (λ full. omega arith))
-                (λ i h f l c m. same i f l c (λ full. let at = push-last full in omega arith));
+                (λ i l h. same i (omega arith) (omega arith) (omega arith) (λ full. let at = before full .below t (line-last (before full)) in omega arith))
+                (λ i h f l c m. same i f l c (λ full. let at = push-last full in omega arith))
+                (inl (same (4 * ce + 4 * cn + node) (omega arith) (omega arith) (omega arith) linked));
             links = links;
           }
         where

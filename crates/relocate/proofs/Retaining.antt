@@ -66,7 +66,7 @@ module _ {ws : List ℕ} {ce cn : ℕ} {counts : Counts} {node : ℕ} {live : Li
             edited (pre .editable) vs [] (length-set ws (4 * ce + 3 * cn + node) 0) (λ q. pre .marked (sym (other (4 * ce + 4 * cn + node) (omega arith)) ∙ q))
             (record { counted = getD-set-same ws (4 * ce + 3 * cn + node) 0 0 (omega arith); line = inl refl }) (λ x e h ne m k. in-none e m)
             (λ x e h ne m. let e-low = run-list-below (pre .editable .runs) x e h m in other (3 * ce + e) (omega (arith, pre .editable .edges-within)))
-            (λ i h. other i (omega arith)) (λ i h f t c m. other i c);
+            (λ i h. other i (omega arith)) (λ i l h. other i (omega arith)) (λ i h f t c m. other i c) (inl (other (4 * ce + 4 * cn + node) (omega arith)));
         long = length-set ws (4 * ce + 3 * cn + node) 0;
       }
     where

@@ -3,7 +3,7 @@ use Prim.Native.Nat.{ℕ, suc, _+_, _-_, _*_, _≤_, _<_}
 use native.Mathlib.Omega.{arith}
 use mathlib.Core.Path.{_≡_, refl, sym, ap, _∙_, subst}
 use mathlib.Core.Bool.{Bool, true}
-use mathlib.Core.Logic.{_⊎_, inl, ⊎-elim, _≢_}
+use mathlib.Core.Logic.{_⊎_, inl, inr, ⊎-elim, _≢_}
 use mathlib.Core.Option.{Option, none, some}
 use mathlib.Core.List.{List, [], _∷_, _++_, append-nil}
 use lib.ListN.{length, getD, set, length-set}
@@ -194,7 +194,7 @@ module _ {ws : List ℕ} {ce cn : ℕ} {counts : Counts} {live : List ℕ} {node
         (λ x f h ne m k. in-none f m)
         (λ x f h ne m. let low = run-list-below (e .runs) x f h m in
         other (3 * ce + f) (omega (arith, e .edges-within)) (omega (arith, e .edges-within)))
-        (λ i h. other i (omega arith) (omega arith)) (λ i h f t c m. other i m c)
+        (λ i h. other i (omega arith) (omega arith)) (λ i l h. other i (omega arith) (omega arith)) (λ i h f t c m. other i m c) (inr (inr mark-set))
 
     -- the base part is as before
     same-base : base-of us ce cn (counts .nodes .base) node ≡ base-before

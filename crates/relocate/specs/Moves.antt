@@ -1,5 +1,5 @@
 -- What a move of a node's edges to another node asks and promises, of the words of one axis at entry, `ws`, and at exit, `vs`.
-use Prim.Native.Nat.{ℕ, _+_, _<_}
+use Prim.Native.Nat.{ℕ, _+_, _≤_, _<_}
 use mathlib.Core.Path.{_≡_}
 use mathlib.Core.Bool.{Bool, true, false}
 use mathlib.Core.Logic.{_≢_}
@@ -10,6 +10,8 @@ use Rattle.shape.specs.Columns.{mark-at}
 use Rattle.shape.specs.Shape.{adjacency-in, live-in, run-list, axis-of}
 use Rattle.shape.specs.Steps.{live-entries, taken, moved-axis}
 use Rattle.shape.specs.Checked.{AxisChecked}
+use Rattle.shape.specs.Kept.{AxisKept}
+use Rattle.shape.specs.Writes.{OfLinks, OfNode}
 use Rattle.relocate.specs.Runs.{Editable, Edited}
 use Rattle.relocate.specs.Overlay.{flags-of, Remade, Prepared}
 use Rattle.relocate.specs.Redirects.{Relocatable, Placed, Relabelled}
@@ -60,3 +62,7 @@ pub record Moved (ws vs : List ℕ) (ce cn : ℕ) (counts : Counts) (live : List
   -- rules 3 to 6 are kept
   pub checked : (nodes : List Bool) → getD nodes old false ≡ true → getD nodes new false ≡ true
       → AxisChecked ws ce cn counts nodes (flags-of live counts) → AxisChecked vs ce cn counts nodes (flags-of live counts)
+  -- and the words that no operation writes
+  pub frame : AxisKept ws vs ce cn (counts .nodes .bound) (counts .edges .bound)
+  pub writes : (i : ℕ) → counts .edges .bound ≤ i → (OfLinks ce (counts .edges .bound) i → ⊥) → (OfNode ce cn old i → ⊥) → (OfNode ce cn new i → ⊥)
+      → getD vs i 0 ≡ getD ws i 0

@@ -18,6 +18,7 @@ use Rattle.shape.specs.Chains.{In, chain}
 use Rattle.shape.specs.Shape.{live-in, run-list, run-of}
 use Rattle.shape.specs.Steps.{live-entries, swept}
 use Rattle.shape.specs.Checked.{Runs}
+use Rattle.shape.specs.Kept.{Mark}
 
 -- What it takes to edit the run of a node.
 pub record Editable (ws : List ℕ) (ce cn : ℕ) (counts : Counts) (node : ℕ) : Type 0 where
@@ -34,9 +35,13 @@ pub record Edited (ws vs : List ℕ) (ce cn : ℕ) (counts : Counts) (node : ℕ
   pub editable : Editable vs ce cn counts node
   -- ends, adjacency and ring links are as before
   pub below : (i : ℕ) → i < 3 * ce → getD vs i 0 ≡ getD ws i 0
-  -- so is everything past the run links but first, tail, count and mark of the node
+  -- so are the run links past the bound
+  pub past : (i : ℕ) → 3 * ce + counts .edges .bound ≤ i → i < 4 * ce → getD vs i 0 ≡ getD ws i 0
+  -- and everything past the run links but first, tail, count and mark of the node
   pub above : (i : ℕ) → 4 * ce ≤ i → i ≢ 4 * ce + cn + node → i ≢ 4 * ce + 2 * cn + node → i ≢ 4 * ce + 3 * cn + node → i ≢ 4 * ce + 4 * cn + node
       → getD vs i 0 ≡ getD ws i 0
+  -- the mark is as before, or 1
+  pub mark : Mark (mark-at ws ce cn node) (mark-at vs ce cn node)
 
 -- More entries stand at the end of the node's run; only links of its entries are written.
 pub record Grown (ws vs : List ℕ) (ce cn : ℕ) (counts : Counts) (node : ℕ) (more : List ℕ) : Type 0 where

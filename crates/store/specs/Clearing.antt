@@ -22,11 +22,13 @@ use Rattle.liveness.specs.Calls.{Cleared}
 use Rattle.liveness.specs.FlagLaws.{length-flags}
 use Rattle.shape.specs.Shape.{Words, node-live, edge-live, axis-words, axis-of, shape-of, plain-of, store}
 use Rattle.shape.specs.Checked.{AxisChecked, Checked}
+use Rattle.shape.specs.Kept.{AxisKept, axis-kept-none}
 use Rattle.shape.specs.Steps.{acted, walk-in as walk-of-shape}
 use Rattle.shape.specs.Laws.Reading.{made-at, node-flags-are}
 use Rattle.adjacency.specs.Walk.{walk-in}
 use Rattle.adjacency.specs.Clear.{Retired, Clearable}
 use Rattle.adjacency.specs.StoreClears.{checked-clearable, retired-slots, retired-within, retired-right, node-retired, node-dead}
+use Rattle.store.specs.Keeping.{cleared-word, cleared-other, retired-word}
 use Rattle.store.specs.Made.{slots-set}
 use Rattle.store.specs.Operations.{SameLengths, Acted, RemovedNode, fewer}
 use Rattle.store.specs.Acting.{shape-ext, acted-walks, live-within, some-live, cleared-right}
@@ -117,8 +119,33 @@ module _ {w : Words} (checked : Checked w) (node : ℕ) (live : getD (node-live 
           walks = acted-walks checked (RemoveNode node) (comes-to (remove-node (rw (node-flags-are w) live))) refl without-node tt clear-lengths clear-shape;
         };
         lengths = clear-lengths;
+        kept = record {
+          nodes-grow = omega arith;
+          edges-grow = omega arith;
+          nodes = λ i h. refl;
+          edges = λ i h. refl;
+          live-nodes = cleared-word cleared node-below;
+          live-edges = retired-word gone;
+          axis = kept;
+        };
+        writes = record {
+          nodes = λ x off. refl;
+          edges = λ e off. refl;
+          live-nodes = cleared-other cleared;
+          live-edges = λ i off. retired-word gone i (omega arith);
+          axis = written;
+        };
       }
         where
+          written : (d : TraversalDirection) (i : ℕ) → (⊥ → ⊥) → getD (axis-words d without-node) i 0 ≡ getD (axis-words d w) i 0
+          written Outgoing i off = refl
+          written Incoming i off = refl
+
+          kept : (d : TraversalDirection)
+              → AxisKept (axis-words d w) (axis-words d without-node) (length (w .edges)) (length (w .nodes)) (w .counts .nodes .bound) (w .counts .edges .bound)
+          kept Outgoing = axis-kept-none (w .outgoing) (length (w .edges)) (length (w .nodes)) (w .counts .nodes .bound) (w .counts .edges .bound)
+          kept Incoming = axis-kept-none (w .incoming) (length (w .edges)) (length (w .nodes)) (w .counts .nodes .bound) (w .counts .edges .bound)
+
           directions : (d : TraversalDirection)
               → AxisChecked (axis-words d without-node) (length (w .edges)) (length (w .nodes)) (without-node .counts) (node-live without-node) (edge-live without-node)
           directions Outgoing = clear-direction Outgoing

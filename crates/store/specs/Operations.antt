@@ -17,6 +17,8 @@ use Rattle.plain.specs.Numbers.{LIMIT}
 use Rattle.shape.specs.Columns.{end-at}
 use Rattle.shape.specs.Shape.{Words, node-live, edge-live, axis-words, shape-of, lists}
 use Rattle.shape.specs.Checked.{Checked}
+use Rattle.shape.specs.Kept.{Kept}
+use Rattle.shape.specs.Writes.{Writes}
 use Rattle.shape.specs.Steps.{acted}
 
 -- Every slice is as long as it was.
@@ -36,6 +38,10 @@ pub record Acted (operation : Operation) (w v : Words) : Type 0 where
   pub shape : shape-of v ≡ acted operation (shape-of w)
   pub checked : Checked v
   pub lengths : SameLengths w v
+  -- no index word, no word past the bounds, no spare word was written
+  pub kept : Kept w v
+  -- nor any other word than the operation's own
+  pub writes : Writes operation w v
 
 -- The operation was done if something live was there, which is the answer; else nothing changed.
 pub record Removing (operation : Operation) (live : Bool) (w : Words) (answer : Bool) (v : Words) : Type 0 where

@@ -18,6 +18,7 @@ use Rattle.plain.specs.Laws.Strips.{run-snoc, answers-snoc, length-answers, len
 use Rattle.shape.specs.Shape.{Words, Shape, capacities, shape-of}
 use Rattle.shape.specs.Checked.{Checked, Reached}
 use Rattle.shape.specs.Rules.{broken}
+use Rattle.shape.specs.Kept.{Kept, Spared, kept-none, kept-through, kept-spared, nothing-spared}
 use Rattle.shape.specs.Steps.{shape-step, shape-run, state-of}
 use Rattle.shape.specs.Laws.Running.{shape-run-snoc}
 use Rattle.adjacency.specs.Reading.{write-one}
@@ -42,6 +43,7 @@ pub record Ran (w : Words) (ops : List Operation) (entry : List ℕ) (v : Words)
   pub checked : Checked v
   pub reached : Reached (shape-of w) → Reached (shape-of v)
   pub lengths : SameLengths w v
+  pub kept : Kept w v
   pub steps : Steps w ops v
   -- "words past an answer's end keep their content"
   pub answered : exit ≡ written (answers (capacities w) (state-of (shape-of w)) ops) entry
@@ -66,6 +68,9 @@ pub record StripOf (w : Words) (words entry : List ℕ) (number value : ℕ) (v 
   pub steps : number ≡ 0 → Steps w (operations words) v
   -- "a lent slice too short .. everything": not a word of the store changes
   pub refused-keeps : (number ≡ 0 → ⊥) → v ≡ w
+  -- of the words that are no field: none of the index, none past the bounds and no spare one is written, and marks are 0, 1 or as they were
+  pub kept : Kept w v
+  pub spared : Spared w v
 
 -- ---- the words
 
@@ -105,7 +110,7 @@ same-capacities same = ap₂ {C = Capacities} (λ (n e : ℕ). record { nodes = 
 -- before the first operation
 ran-none : {w : Words} {entry : List ℕ} → Checked w → Ran w [] entry w entry
 unfolding shape-run run answers
-ran-none {w} c = record { shape = refl; state = refl; checked = c; reached = λ r. r; lengths = same-lengths w; steps = no-step; answered = refl }
+ran-none {w} c = record { shape = refl; state = refl; checked = c; reached = λ r. r; lengths = same-lengths w; kept = kept-none w; steps = no-step; answered = refl }
 
 steps-more : {w v u : Words} {ops : List Operation} {x : Operation} {number value : ℕ} → Steps w ops v → StepOf x v u number value → Steps w (ops ++ (x ∷ [])) u
 steps-more no-step does = one-step does no-step
@@ -128,6 +133,7 @@ module _ {w v u : Words} {ops : List Operation} {entry exit : List ℕ} {x : Ope
     checked = does .checked;
     reached = λ r. step-keeps (ran .checked) does (ran .reached r);
     lengths = same-through (ran .lengths) (does .lengths);
+    kept = kept-through (ran .lengths .nodes) (ran .lengths .edges) (ran .kept) (does .kept);
     steps = steps-more (ran .steps) does;
     answered = ap (λ (l : List ℕ). set (set l at number) (at + 1) value) (ran .answered)
         ∙ two-more before entry at number value (is ∙ sym (length-answers (capacities w) (state-of (shape-of w)) ops)) room
@@ -207,6 +213,8 @@ module _ (w : Words) (words entry : List ℕ) where
         lengths = same-lengths w;
         steps = λ h. absurd (refused h);
         refused-keeps = λ h. refl;
+        kept = kept-none w;
+        spared = nothing-spared w;
       }
 
   -- "words are no store: 1, rule 1 to 7"
@@ -264,4 +272,7 @@ module _ (w : Words) (words entry : List ℕ) where
               lengths = ran .lengths;
               steps = λ h. ran .steps;
               refused-keeps = λ h. absurd (h refl);
+              kept = ran .kept;
+              spared = let c = ran .checked in
+                  kept-spared (omega (arith, c .nodes .bound-within, ran .lengths .nodes)) (omega (arith, c .edges .bound-within, ran .lengths .edges)) (ran .kept);
             }

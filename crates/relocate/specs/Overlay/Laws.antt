@@ -16,9 +16,10 @@ use Rattle.shape.specs.Columns.{mark-at}
 use Rattle.shape.specs.Chains.{In}
 use Rattle.shape.specs.Shape.{adjacency-in, Adjacency, base-of, run-list, run-of, ring-of}
 use Rattle.shape.specs.Checked.{Index, Rings}
+use Rattle.shape.specs.Kept.{axis-kept-again}
 use Rattle.shape.specs.Laws.Frames.{base-kept, index-kept}
 use Rattle.relocate.specs.Runs.{Edited}
-use Rattle.relocate.specs.Runs.Laws.{same-entries, list-of-run, mark-of-run, edited-ring, edited-rings}
+use Rattle.relocate.specs.Runs.Laws.{same-entries, list-of-run, mark-of-run, edited-ring, edited-rings, edited-kept, edited-writes}
 use Rattle.relocate.specs.Overlay.{Ready, Remade}
 
 -- equal parts make equal adjacencies
@@ -72,6 +73,8 @@ remade-run {counts = counts} {node = node} nodes-based edges-based index rings e
       rings = edited-rings done (counts .edges .base) rings;
       index = edited-index done nodes-based edges-based index;
       below = done .below;
+      frame = edited-kept done;
+      writes = edited-writes done;
     }
 
 module _ {ws vs : List ℕ} {ce cn : ℕ} {counts : Counts} {live : List ℕ} {node : ℕ} where
@@ -86,6 +89,8 @@ module _ {ws vs : List ℕ} {ce cn : ℕ} {counts : Counts} {live : List ℕ} {n
         rings = made .rings;
         index = made .index;
         below = λ i h. made .below i h ∙ done .below i h;
+        frame = axis-kept-again (edited-kept done) (made .frame);
+        writes = λ i l o. made .writes i l o ∙ edited-writes done i l o;
       }
 
 -- an edit after it
@@ -101,6 +106,8 @@ remade-edited {ws} {us} {vs} {ce = ce} {cn = cn} {counts = counts} {node = node}
       rings = edited-rings done (counts .edges .base) (made .rings);
       index = edited-index done nodes-based edges-based (made .index);
       below = λ i h. done .below i h ∙ made .below i h;
+      frame = axis-kept-again (made .frame) (edited-kept done);
+      writes = λ i l o. edited-writes done i l o ∙ made .writes i l o;
     }
 
 module _ {ws vs : List ℕ} {ce cn : ℕ} {counts : Counts} {node : ℕ} {ys : List ℕ} (made : Remade ws vs ce cn counts node ys) where

@@ -2,18 +2,20 @@
 use Prim.Native.Nat.{ℕ, _+_, _*_, _≤_, _<_}
 use native.Mathlib.Omega.{arith}
 use mathlib.Core.Path.{_≡_, refl, sym, ap, _∙_}
-use mathlib.Core.Logic.{_≢_}
+use mathlib.Core.Logic.{_≢_, inl, inr, ⊎-elim}
 use mathlib.Core.Option.{Option, none, some}
 use mathlib.Core.List.{List, []}
 use lib.ListN.{length, getD}
 use lib.Dec.{eqb}
 use borrow.Author.Tests.{ne-eqb, eqb-true, eqb-false}
 use Rattle.plain.specs.declared.Counts.{Counts}
-use Rattle.plain.specs.Laws.Booleans.{by-test}
+use Rattle.plain.specs.Laws.Booleans.{by-test, below-or-not}
 use Rattle.shape.specs.Columns.{cell, link-at, first-at, tail-at, count-at, mark-at}
 use Rattle.shape.specs.Chains.{In, Run}
 use Rattle.shape.specs.Shape.{run-list, run-of, ring-of}
 use Rattle.shape.specs.Checked.{Runs, Rings}
+use Rattle.shape.specs.Writes.{OnlyNode}
+use Rattle.shape.specs.Kept.{Mark, AxisKept, mark-through}
 use Rattle.shape.specs.Laws.Chains.{run-is, run-agree}
 use Rattle.shape.specs.Laws.Frames.{SameRun, run-list-agree, run-of-agree, run-list-unmarked, run-of-unmarked, ring-kept, rings-kept}
 use Rattle.relocate.specs.Runs.{Editable, Edited}
@@ -67,8 +69,10 @@ module _
     (alone : (x e : ℕ) → x < counts .nodes .bound → x ≢ node → In e ys → In e (run-list ws ce cn x) → ⊥)
     (links : (x e : ℕ) → x < counts .nodes .bound → x ≢ node → In e (run-list ws ce cn x) → link-at vs ce e ≡ link-at ws ce e)
     (below : (i : ℕ) → i < 3 * ce → getD vs i 0 ≡ getD ws i 0)
+    (past : (i : ℕ) → 3 * ce + counts .edges .bound ≤ i → i < 4 * ce → getD vs i 0 ≡ getD ws i 0)
     (above : (i : ℕ) → 4 * ce ≤ i → i ≢ 4 * ce + cn + node → i ≢ 4 * ce + 2 * cn + node → i ≢ 4 * ce + 3 * cn + node → i ≢ 4 * ce + 4 * cn + node
     → getD vs i 0 ≡ getD ws i 0)
+    (mark : Mark (mark-at ws ce cn node) (mark-at vs ce cn node))
   where
     -- the node's entries
     listed : run-list vs ce cn node ≡ ys
@@ -138,7 +142,9 @@ module _
                 edges-within = pre .edges-within;
               };
           below = below;
+          past = past;
           above = above;
+          mark = mark;
         }
 
 -- ---- one edit after another
@@ -152,7 +158,9 @@ module _ {ws : List ℕ} {ce cn : ℕ} {counts : Counts} {node : ℕ} where
         others = λ x h ne. refl;
         editable = pre;
         below = λ i h. refl;
+        past = λ i l h. refl;
         above = λ i h f t c m. refl;
+        mark = inl refl;
       }
 
   -- two edits of one node are one
@@ -163,7 +171,9 @@ module _ {ws : List ℕ} {ce cn : ℕ} {counts : Counts} {node : ℕ} where
         others = λ x h ne. b .others x h ne ∙ a .others x h ne;
         editable = b .editable;
         below = λ i h. b .below i h ∙ a .below i h;
+        past = λ i l h. b .past i l h ∙ a .past i l h;
         above = λ i h f t c m. b .above i h f t c m ∙ a .above i h f t c m;
+        mark = mark-through (a .mark) (b .mark);
       }
 
 -- ---- what an edit leaves
@@ -201,3 +211,39 @@ module _ {ws vs : List ℕ} {ce cn : ℕ} {counts : Counts} {node : ℕ} {ys : L
       rings-kept vs (e .edges-within) (e .sized .edges-within) old (λ i h. done .below i (omega arith)) (λ i l h. done .below i h)
       (λ i l h. done .above i l (omega (arith, e .node-below, e .nodes-within)) (omega (arith, e .node-below, e .nodes-within))
       (omega (arith, e .node-below, e .nodes-within)) (omega (arith, e .node-below, e .nodes-within)))
+
+  -- the words that an operation of a strip leaves
+  pub edited-kept : AxisKept ws vs ce cn (counts .nodes .bound) (counts .edges .bound)
+  edited-kept =
+      let low = done .editable .node-below in
+      let within = done .editable .nodes-within in
+      record {
+        ends = λ i l h. done .below i (omega arith);
+        adjacency = λ i l h. done .below i (omega arith);
+        next = λ i l h. done .below i (omega arith);
+        links = λ i l h. done .past i l h;
+        last = λ i l h. above i (omega arith) (omega arith) (omega arith) (omega arith) (omega arith);
+        first = λ i l h. above i (omega arith) (omega arith) (omega arith) (omega arith) (omega arith);
+        tail = λ i l h. above i (omega arith) (omega arith) (omega arith) (omega arith) (omega arith);
+        count = λ i l h. above i (omega arith) (omega arith) (omega arith) (omega arith) (omega arith);
+        mark = λ i l h. above i (omega arith) (omega arith) (omega arith) (omega arith) (omega arith);
+        marks = λ i l h.
+            by-test (eqb i (4 * ce + 4 * cn + node)) (λ t. rw (eqb-true i (4 * ce + 4 * cn + node) t) (done .mark))
+            (λ t. let ne = eqb-false i (4 * ce + 4 * cn + node) t in inl (above i (omega arith) (omega arith) (omega arith) (omega arith) ne));
+        offsets = λ i l. above i (omega arith) (omega arith) (omega arith) (omega arith) (omega arith);
+      }
+    where
+      above : (i : ℕ) → 4 * ce ≤ i → i ≢ 4 * ce + cn + node → i ≢ 4 * ce + 2 * cn + node → i ≢ 4 * ce + 3 * cn + node → i ≢ 4 * ce + 4 * cn + node
+          → getD vs i 0 ≡ getD ws i 0
+      above = done .above
+
+  -- no word is written but run links and the node's own
+  pub edited-writes : OnlyNode ws vs ce cn (counts .edges .bound) node
+  edited-writes i no-link out =
+      ⊎-elim (λ h. done .below i h)
+      (λ l. ⊎-elim (λ h. absurd (no-link (l, h)))
+      (λ k. ⊎-elim (λ h. done .past i k h)
+      (λ h. done .above i h (λ q. out (inr (inl q))) (λ q. out (inr (inr (inl q)))) (λ q. out (inr (inr (inr (inl q))))) (λ q. out (inr (inr (inr (inr q))))))
+      (below-or-not i (4 * ce)))
+      (below-or-not i (3 * ce + counts .edges .bound)))
+      (below-or-not i (3 * ce))
