@@ -250,7 +250,7 @@ module _
       fields-agree first x f = line-same x (f .0) (f .1) (f .2) .1
       fields-agree tail x f = line-same x (f .0) (f .1) (f .2) .0
       fields-agree count x f = count-same x (f .0) (f .1)
-      fields-agree marks x h = marked-same x h
+      fields-agree marks x h = marked-same x (omega arith)
       fields-agree offsets x f = offset-same (f .1) x (f .0)
 
 -- ---- the store
