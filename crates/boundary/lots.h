@@ -6,6 +6,7 @@
  * pointer is not const); no written slice overlaps another slice of the call. Nothing else: counts, words and lengths may be anything.
  *
  * What every function answers: number 0 and a value, or the number of a refusal. A call that refuses writes nothing.
+ * Words past the length that a slice needs (LOT_AXIS_WORDS, LOT_LIVE_WORDS) are never written, nor those past an answer's end.
  *
  *   number  cause                                        value
  *   0       done                                         as each function says

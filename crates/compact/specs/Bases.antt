@@ -16,6 +16,7 @@ use Rattle.plain.specs.Laws.WellFormed.{Fitted}
 use Rattle.liveness.specs.Flags.{live-flags}
 use Rattle.liveness.specs.FlagLaws.{length-flags}
 use Rattle.shape.specs.Columns.{Sized, cell, end-at}
+use Rattle.shape.specs.Kept.{AxisRenewed}
 use Rattle.shape.specs.Laws.Indexing.{Rewritten, before, ends-of, ends-same, length-ends, map-from-same}
 use Rattle.shape.specs.Laws.NewBase.{NewBase, built-by}
 use Rattle.adjacency.specs.Index.{Compressible, Copyable}
@@ -85,6 +86,27 @@ module _ {ws : List ℕ} {ce cn n m : ℕ} {entries ws' : List ℕ} (pre : Rebui
         rings = λ x h. let low : x < n = (let b = bound in omega arith) in r .marks .below (4 * ce + x) (omega arith) ∙ r .rings .within x low;
         marks = λ x h. let low : x < n = (let b = bound in omega arith) in r .marks .within x low;
       }
+
+  -- of the other words each is as it was
+  pub rebuilt-renewed : (vs : List ℕ) → ((i : ℕ) → m ≤ i → getD ws i 0 ≡ getD vs i 0) → AxisRenewed vs ws' ce cn n m
+  rebuilt-renewed vs was =
+      let nodes-fit = pre .compressible .nodes-fit in
+      let edges-fit = pre .compressible .edges-fit in
+      record {
+        ends = λ i l h. low i (omega arith) ∙ r .lists .below i h ∙ r .offsets .below i (omega arith) ∙ was i l;
+        adjacency = λ i l h. low i (omega arith) ∙ r .lists .above i l ∙ r .offsets .below i (omega arith) ∙ was i (omega arith);
+        links = λ i l h. low i h ∙ r .lists .above i (omega arith) ∙ r .offsets .below i (omega arith) ∙ was i (omega arith);
+        last = λ i l h. r .marks .below i (omega arith) ∙ high i l ∙ r .offsets .below i (omega arith) ∙ was i (omega arith);
+        runs = λ i l h. r .marks .below i (omega arith) ∙ high i (omega arith) ∙ r .offsets .below i (omega arith) ∙ was i (omega arith);
+        mark = λ i l h. r .marks .above i l ∙ high i (omega arith) ∙ r .offsets .below i (omega arith) ∙ was i (omega arith);
+        offsets = λ i l. r .marks .above i (omega arith) ∙ high i (omega arith) ∙ r .offsets .above i (omega arith) ∙ was i (omega arith);
+      }
+    where
+      low : (i : ℕ) → i < 4 * ce → getD ws' i 0 ≡ getD (r .copied) i 0
+      low i h = r .marks .below i (omega arith) ∙ r .rings .below i h
+
+      high : (i : ℕ) → 4 * ce + n ≤ i → getD (r .emptied) i 0 ≡ getD (r .counted) i 0
+      high i h = let edges-fit = pre .compressible .edges-fit in r .rings .above i h ∙ r .lists .above i (omega arith)
 
 -- ---- a direction compacted
 

@@ -14,6 +14,7 @@ use Rattle.liveness.specs.Calls.{Reset}
 use Rattle.shape.specs.Columns.{cell, offset-at, last-at, mark-at}
 use Rattle.shape.specs.Shape.{Words, axis-words, shape-of, lists, settled, is-compact}
 use Rattle.shape.specs.Checked.{Checked, Reached}
+use Rattle.shape.specs.Kept.{Renewed, Spared}
 use Rattle.shape.specs.Rules.{broken}
 use Rattle.shape.specs.Steps.{state-of}
 use Rattle.shape.specs.Laws.Indexing.{before, ends-of}
@@ -60,7 +61,10 @@ pub record CompactOf (w : Words) (node-map edge-map work : List ℕ) (number val
   pub checked : number ≡ 0 → Checked v
   pub reached : number ≡ 0 → Reached (shape-of v)
   pub canonical : number ≡ 0 → Canonical v
-  -- "compacting again changes no field": not a word
+  -- compacting again changes no word and no count, field or not
   pub again : number ≡ 0 → Canonical w → v ≡ w
   pub lengths : SameLengths w v
   pub refused-keeps : (number ≡ 0 → ⊥) → v ≡ w
+  -- of the words that are no field: none past the bounds, no link, no first, tail or count, and no spare one is written; every field is fixed (Agreeing)
+  pub renewed : Renewed w v
+  pub spared : Spared w v

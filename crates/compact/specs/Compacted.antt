@@ -25,16 +25,17 @@ use Rattle.liveness.specs.Calls.{Reset}
 use Rattle.liveness.specs.FlagLaws.{length-flags}
 use Rattle.shape.specs.Columns.{Sized, end-at}
 use Rattle.shape.specs.Shape.{Words, capacities, node-live, edge-live, axis-words, shape-of, plain-of, settled}
+use Rattle.shape.specs.Kept.{AxisRenewed, Renewed}
 use Rattle.shape.specs.Laws.Indexing.{Rewritten, ends-of}
 use Rattle.shape.specs.Laws.NewBase.{NewBase}
 use Rattle.shape.specs.Laws.CheckedShape.{checked-proper}
 use Rattle.shape.specs.Laws.Reading.{plain-end}
 use Rattle.relocate.specs.Stores.{checked-end}
 use Rattle.store.specs.Reads.{node-at, edge-at}
-use Rattle.compact.specs.Holding.{based, front, Holding, reset-same, sized-as}
+use Rattle.compact.specs.Holding.{based, front, Holding, reset-same, reset-word, sized-as}
 use Rattle.compact.specs.Slots.{kept-word, rewritten-through}
 use Rattle.compact.specs.ListsStore.{settled-well-formed, settled-node-flags, settled-edge-flags}
-use Rattle.compact.specs.Bases.{Compactable, AxisCompacted, rebuildable, rebuilt-base}
+use Rattle.compact.specs.Bases.{Compactable, AxisCompacted, rebuildable, rebuilt-base, rebuilt-renewed}
 use Rattle.compact.specs.Dropping.{node-count, edge-count, Droppable, Dropped, axis-compactable, first-half, drop-room}
 
 -- a function of the live slots, slot by slot
@@ -80,6 +81,12 @@ module _ {ws : List ℕ} {ce cn : ℕ} {live : List ℕ} {bound : ℕ} {node-map
       let t = subst (λ (k : ℕ). Rewritten ws (r .moved) 0 k (kept-word ws (live-flags live bound))) (pre .counted) (r .moves) in
       subst (λ (l : List ℕ). NewBase ws' ce cn counts l lists) same
       (rebuilt-base (rebuildable pre t (r .renumbers)) (r .rebuilds) counts lists a b c d lined (subst (λ (l : List ℕ). Fitted n l lists) (sym same) fitted))
+
+  -- the words that are left
+  axis-renewed : AxisRenewed ws ws' ce cn n m
+  axis-renewed =
+      let t = subst (λ (k : ℕ). Rewritten ws (r .moved) 0 k (kept-word ws (live-flags live bound))) (pre .counted) (r .moves) in
+      rebuilt-renewed (rebuildable pre t (r .renumbers)) (r .rebuilds) ws (λ i h. r .renumbers .above i (omega arith) ∙ r .moves .above i (omega arith))
 
 -- ---- the store
 
@@ -190,3 +197,20 @@ module _ {w : Words} {node-map work : List ℕ} {v : Words} (pre : Droppable w n
         sized-left : (d : TraversalDirection) → Sized (axis-words d v) (length (v .edges)) (length (v .nodes))
         sized-left Outgoing = subst₂ (Sized (v .outgoing)) (sym (r .lengths .edges)) (sym (r .lengths .nodes)) (sized-as (r .lengths .outgoing) (pre .checked .axis Outgoing .sized))
         sized-left Incoming = subst₂ (Sized (v .incoming)) (sym (r .lengths .edges)) (sym (r .lengths .nodes)) (sized-as (r .lengths .incoming) (pre .checked .axis Incoming .sized))
+
+  -- ---- the words that are left
+
+  axis-left : (d : TraversalDirection)
+      → AxisRenewed (axis-words d w) (axis-words d v) (length (w .edges)) (length (w .nodes)) (w .counts .nodes .live) (w .counts .edges .live)
+  axis-left Outgoing = axis-renewed (axis-compactable pre Outgoing work (first-half pre)) (r .outgoing)
+  axis-left Incoming = axis-renewed (axis-compactable pre Incoming (drop (w .counts .edges .live) work) (drop-room pre)) (r .incoming)
+
+  pub dropped-renewed : Renewed w v
+  dropped-renewed = record {
+    nodes = λ i h. r .nodes .above i (omega (arith, nodes-bound, pre .checked .nodes-live .live-right));
+    edges = λ i h. r .edges .above i (omega (arith, edges-bound, pre .checked .edges-live .live-right));
+    live-nodes = λ i h. reset-word (r .live-nodes) i (omega (arith, nodes-bound));
+    live-edges = λ i h. reset-word (r .live-edges) i (omega (arith, edges-bound));
+    axis = λ d. subst₂ (λ (n m : ℕ). AxisRenewed (axis-words d w) (axis-words d v) (length (w .edges)) (length (w .nodes)) n m) (sym nodes-bound) (sym edges-bound)
+        (axis-left d);
+  }

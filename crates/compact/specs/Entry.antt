@@ -17,6 +17,7 @@ use Rattle.plain.specs.Laws.WellFormed.{Sound}
 use Rattle.plain.specs.Laws.Compacting.{survivors-sound, length-surviving-edges}
 use Rattle.plain.specs.Calls.{Compacted, compaction, judged-compaction}
 use Rattle.shape.specs.Shape.{Words, capacities, shape-of, settled}
+use Rattle.shape.specs.Kept.{nothing-spared, renewed-none, renewed-spared}
 use Rattle.shape.specs.Rules.{broken}
 use Rattle.shape.specs.Laws.CheckedShape.{checked-proper}
 use Rattle.shape.specs.Laws.NewBase.{fitted-total}
@@ -26,7 +27,7 @@ use Rattle.store.specs.Operations.{same-lengths}
 use Rattle.compact.specs.ListsStore.{settled-well-formed, settled-node-flags, settled-edge-flags}
 use Rattle.compact.specs.Settling.{Settleable, Settling, droppable}
 use Rattle.compact.specs.Holding.{holding-shape, holding-state, holding-reached, holding-checked, holding-canonical}
-use Rattle.compact.specs.Compacted.{dropped-holding}
+use Rattle.compact.specs.Compacted.{dropped-holding, dropped-renewed}
 use Rattle.compact.specs.Calls.{seen, compacting-of, CompactOf}
 use Rattle.compact.specs.Again.{dropped-again}
 
@@ -48,9 +49,11 @@ module _ (w : Words) (node-map edge-map work : List ℕ) where
     again = λ h. absurd (refused h);
     lengths = same-lengths w;
     refused-keeps = λ h. refl;
+    renewed = renewed-none w;
+    spared = nothing-spared w;
   }
 
-  -- "words are no store: 1, rule 1 to 7"
+  -- "words are no store | 1 | rule 1 to 7 | everything"
   pub compact-judged : {rule : ℕ} → Judged w rule → (rule ≡ 0 → ⊥) → CompactOf w node-map edge-map work 1 rule w node-map edge-map work
   compact-judged {rule} j broke = by rule (j .first) broke
     where
@@ -77,7 +80,7 @@ module _ (w : Words) (node-map edge-map work : List ℕ) where
     many-edges : live-edges (settled (shape-of w)) ≡ w .counts .edges .live
     many-edges = ap live-count (settled-edge-flags w) ∙ sym (j .checked sound .edges-live .live-right)
 
-    -- "a lent slice too short: 2, length needed"
+    -- "a lent slice too short | 2 | length needed | everything"
     abbrev short : ℕ → Compacted
     short needed = record { number = 2; value = needed; node-map = []; edge-map = []; work = []; after = seen w }
 
@@ -198,4 +201,8 @@ module _ (w : Words) (node-map edge-map work : List ℕ) where
                 again = λ h s. dropped-again pre r outs ins s;
                 lengths = r .lengths;
                 refused-keeps = λ h. absurd (h refl);
+                renewed = dropped-renewed pre r;
+                spared = let c = holding-checked holding in
+                    renewed-spared (omega (arith, c .nodes .bound-within, r .lengths .nodes)) (omega (arith, c .edges .bound-within, r .lengths .edges))
+                    (dropped-renewed pre r);
               }

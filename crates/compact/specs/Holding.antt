@@ -1,13 +1,14 @@
 -- A store that holds survivors and nothing else, which is what compaction and image reading leave: "the result equals what compaction leaves". Its shape and its
 -- plain lists are the survivors', it is checked, compact and reached, and its words are canonical.
-use Prim.Native.Nat.{ℕ, _≤_}
+use Prim.Native.Nat.{ℕ, _+_, _-_, _*_, _/_, _%_, _^_, _≤_}
 use mathlib.Core.Path.{_≡_, sym, ap, ap₂, subst, _∙_}
-use mathlib.Core.Bool.{Bool, true, false}
-use mathlib.Core.List.{List, [], map, map-map, _++_}
+use mathlib.Core.Bool.{Bool, true, false, cond}
+use mathlib.Core.List.{List, [], _∷_, map, map-map, _++_}
 use native.Mathlib.Omega.{arith}
-use lib.ListN.{length, getD, drop, replicate}
-use lib.Seq.{drop-append-seam}
-use borrow.Author.Tests.{lt-ltb, ltb-true}
+use lib.ListN.{length, getD, drop, replicate, length-append, length-replicate}
+use lib.Seq.{drop-append-seam, getD-append-add, getD-drop}
+use lib.Dec.{eqb}
+use borrow.Author.Tests.{lt-ltb, ltb-true, eqb-false}
 use Rattle.plain.specs.declared.TraversalDirection.{TraversalDirection}
 use Rattle.plain.specs.declared.TraversalDirection.the-variants.{Outgoing, Incoming}
 use Rattle.plain.specs.declared.Slots.{Slots}
@@ -17,6 +18,7 @@ use Rattle.plain.specs.Plain.{Plain, NodeSlot, EdgeSlot, list-of}
 use Rattle.plain.specs.Reads.{live-count}
 use Rattle.plain.specs.Memory.{live-words}
 use Rattle.plain.specs.Compaction.{Survivors, kept-node, kept-edge, source-of, target-of, of-survivors}
+use Rattle.plain.specs.Laws.Booleans.{by-test}
 use Rattle.plain.specs.Laws.ListLaws.{map-same, map-getD, member-below}
 use Rattle.plain.specs.Laws.Rank.{live-all-live, live-count-all-live}
 use Rattle.plain.specs.Laws.WellFormed.{Sound, WellFormed}
@@ -69,6 +71,25 @@ reset-same {entry} {exit} {slots} p = record {
   words = p .words ∙ ap (λ (l : List ℕ). all-live slots ++ l) (sym (drop-append-seam (all-live slots) (drop (length (all-live slots)) entry)))
       ∙ sym (ap (λ (l : List ℕ). all-live slots ++ drop (length (all-live slots)) l) (p .words));
 }
+
+-- they are as many as the slots need
+length-all-live : (slots : ℕ) → length (all-live slots) ≤ live-words slots
+unfolding all-live
+length-all-live slots =
+    rw (length-append (replicate (slots / 64) (2 ^ 64 - 1)) (cond (eqb (slots % 64) 0) [] ((2 ^ (slots % 64) - 1) ∷ [])), length-replicate (slots / 64) (2 ^ 64 - 1))
+    (by-test (eqb (slots % 64) 0) (λ t. rw t (omega arith)) (λ t. let ne = eqb-false (slots % 64) 0 t in rw t (omega arith)))
+
+-- and the words past theirs are as they were
+pub reset-word : {entry exit : List ℕ} {slots : ℕ} → Reset entry slots exit → (i : ℕ) → slots ≤ 64 * i → getD exit i 0 ≡ getD entry i 0
+reset-word {entry} {exit} {slots} p i h =
+    let few = length-all-live slots in
+    let front = length (all-live slots) in
+    let place : front + (i - front) ≡ i = omega arith in
+    ap (λ (l : List ℕ). getD l i 0) (p .words)
+    ∙ ap (λ (k : ℕ). getD (all-live slots ++ drop front entry) k 0) (sym place)
+    ∙ getD-append-add (all-live slots) (drop front entry) (i - front) 0
+    ∙ getD-drop front entry (i - front) 0
+    ∙ ap (λ (k : ℕ). getD entry k 0) place
 
 pub sized-as : {ws ws' : List ℕ} {ce cn : ℕ} → length ws' ≡ length ws → Sized ws ce cn → Sized ws' ce cn
 sized-as same sized = record { edges-within = sized .edges-within; nodes-within = sized .nodes-within; room = rw same (sized .room) }

@@ -1,14 +1,19 @@
 -- The two ways that a reading ends: refused, or with what the bytes hold in place of all.
 use Prim.Native.Nat.{ℕ}
+use native.Mathlib.Omega.{arith}
 use mathlib.Core.Path.{_≡_, refl, sym, ap, _∙_}
 use mathlib.Core.List.{List}
+use lib.ListN.{length}
+use Rattle.plain.specs.declared.TraversalDirection.{TraversalDirection}
+use Rattle.plain.specs.declared.TraversalDirection.the-variants.{Outgoing, Incoming}
 use Rattle.plain.specs.declared.Answer.{Answer}
 use Rattle.plain.specs.declared.Counts.{Counts}
 use Rattle.plain.specs.Calls.{read-image}
-use Rattle.shape.specs.Shape.{Words, store, lengths-of}
+use Rattle.shape.specs.Shape.{Words, store, lengths-of, axis-words}
+use Rattle.shape.specs.Kept.{AxisRenewed, Renewed, nothing-spared, renewed-none, renewed-spared}
 use Rattle.store.specs.Operations.{same-lengths}
 use Rattle.compact.specs.Holding.{holding-shape, holding-state, holding-reached, holding-checked, holding-canonical}
-use Rattle.image.specs.Reading.{Accepted, Placed, placed-holding}
+use Rattle.image.specs.Reading.{Accepted, Placed, placed-holding, placed-renewed}
 use Rattle.image.specs.Answering.{read-accepted}
 use Rattle.image.specs.Calls.{ReadOf}
 
@@ -24,6 +29,8 @@ module _ (w : Words) (bytes : List ℕ) (answer : Answer) (told : answer ≡ rea
     canonical = λ h. absurd (refused h);
     lengths = same-lengths w;
     refused-keeps = λ h. refl;
+    renewed = renewed-none w;
+    spared = nothing-spared w;
   }
 
   module _ (done : answer .number ≡ 0) where
@@ -33,9 +40,17 @@ module _ (w : Words) (bytes : List ℕ) (answer : Answer) (told : answer ≡ rea
     -- "the result equals what compaction leaves"
     pub read-done : (counts : Counts) {v : Words} → Placed (store counts (w .nodes) (w .edges) (w .live-nodes) (w .live-edges) (w .outgoing) (w .incoming)) bytes v
         → ReadOf w bytes (answer .number) (answer .value) v
-    read-done counts placed =
+    read-done counts {v} placed =
         let holding = placed-holding accepted placed in
         let same = placed .lengths in
+        let left = placed-renewed accepted placed in
+        let renewed : Renewed w v = record {
+          nodes = left .nodes;
+          edges = left .edges;
+          live-nodes = left .live-nodes;
+          live-edges = left .live-edges;
+          axis = axis-left placed;
+        } in
         record {
           answered = told;
           state = λ h. holding-state holding;
@@ -52,4 +67,12 @@ module _ (w : Words) (bytes : List ℕ) (answer : Answer) (told : answer ≡ rea
             incoming = same .incoming;
           };
           refused-keeps = λ h. absurd (h done);
+          renewed = renewed;
+          spared = let c = holding-checked holding in
+              renewed-spared (omega (arith, c .nodes .bound-within, same .nodes)) (omega (arith, c .edges .bound-within, same .edges)) renewed;
         }
+      where
+        axis-left : {v : Words} → Placed (store counts (w .nodes) (w .edges) (w .live-nodes) (w .live-edges) (w .outgoing) (w .incoming)) bytes v → (d : TraversalDirection)
+            → AxisRenewed (axis-words d w) (axis-words d v) (length (w .edges)) (length (w .nodes)) (v .counts .nodes .bound) (v .counts .edges .bound)
+        axis-left placed Outgoing = placed-renewed accepted placed .axis Outgoing
+        axis-left placed Incoming = placed-renewed accepted placed .axis Incoming

@@ -24,15 +24,17 @@ use Rattle.plain.specs.Laws.ImageLaws.{nodes-length, edges-length, parsed-sound
 use Rattle.liveness.specs.Calls.{Reset}
 use Rattle.shape.specs.Columns.{Sized}
 use Rattle.shape.specs.Shape.{Words, lengths-of, axis-words as words-of}
+use Rattle.shape.specs.Kept.{AxisRenewed, Renewed}
 use Rattle.shape.specs.Laws.Indexing.{Rewritten}
 use Rattle.shape.specs.Laws.NewBase.{NewBase}
 use Rattle.store.specs.Operations.{SameLengths}
 use Rattle.compact.specs.Slots.{rewritten-range}
-use Rattle.compact.specs.Holding.{based, front, Holding, reset-same, sized-as}
+use Rattle.compact.specs.Bases.{rebuilt-renewed}
+use Rattle.compact.specs.Holding.{based, front, Holding, reset-same, reset-word, sized-as}
 use Rattle.image.specs.Fields.{Room}
 use Rattle.image.specs.Places.{records-small, entries-small}
 use Rattle.image.specs.Spread.{spread, SpreadFits, spread-in, fields-spread, spread-at, sources-spread, targets-spread, payloads-spread}
-use Rattle.image.specs.Directions.{AxisReadable, AxisRead, read-base}
+use Rattle.image.specs.Directions.{AxisReadable, AxisRead, base-readable, read-base}
 
 -- ---- what is asked
 
@@ -244,4 +246,32 @@ module _ {w : Words} {bytes : List ℕ} {v : Words} (a : Accepted (lengths-of w)
             (sym (same .nodes)) out-base;
         incoming = subst₂ (λ (ce cn : ℕ). NewBase (v .incoming) ce cn (v .counts) (map target-of (parsed bytes .edges)) (parsed bytes .ins)) (sym (same .edges))
             (sym (same .nodes)) in-base;
+      }
+
+  -- ---- the words that are left
+
+  axis-renewed : {ws ws' : List ℕ} {ends lists : ℕ} → AxisReadable ws (length (w .edges)) (length (w .nodes)) (nodes-in bytes) (edges-in bytes) bytes ends lists
+      → AxisRead ws (length (w .edges)) (length (w .nodes)) (nodes-in bytes) (edges-in bytes) bytes ends lists ws'
+      → AxisRenewed ws ws' (length (w .edges)) (length (w .nodes)) (nodes-in bytes) (edges-in bytes)
+  axis-renewed {ws} {lists = lists} ready read =
+      let long = length-fields-at bytes lists (least-width (edges-in bytes)) (edges-in bytes) in
+      rebuilt-renewed (record { compressible = base-readable ready (read .places) .compressible; there = omega arith }) (read .rebuilds) ws
+      (λ i h. read .places .above i (omega arith))
+
+  axis-left : (d : TraversalDirection)
+      → AxisRenewed (words-of d w) (words-of d v) (length (w .edges)) (length (w .nodes)) (nodes-in bytes) (edges-in bytes)
+  axis-left Outgoing = axis-renewed (ready .sources) (r .axes .sources)
+  axis-left Incoming = axis-renewed (ready .targets) (r .axes .targets)
+
+  pub placed-renewed : Renewed w v
+  placed-renewed =
+      let nodes-bound = ap (λ (c : Counts). c .nodes .bound) (r .counts) in
+      let edges-bound = ap (λ (c : Counts). c .edges .bound) (r .counts) in
+      record {
+        nodes = λ i h. r .payloads .nodes-read .above i (omega arith);
+        edges = λ i h. r .payloads .edges-read .above i (omega arith);
+        live-nodes = λ i h. reset-word (r .live-nodes) i (omega arith);
+        live-edges = λ i h. reset-word (r .live-edges) i (omega arith);
+        axis = λ d. subst₂ (λ (n m : ℕ). AxisRenewed (words-of d w) (words-of d v) (length (w .edges)) (length (w .nodes)) n m) (sym nodes-bound) (sym edges-bound)
+            (axis-left d);
       }

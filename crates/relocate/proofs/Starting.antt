@@ -1,30 +1,32 @@
 -- The loop that copies the live entries of a base part to an empty run, and the start of a run.
-use Prim.Native.Nat.{ℕ, suc, _+_, _-_, _*_, _≤_, _<_}
+use Prim.Native.Nat.{ℕ, _+_, _-_, _*_, _≤_, _<_}
 use native.Mathlib.Omega.{arith}
 use mathlib.Core.Path.{_≡_, refl, sym, ap, _∙_, subst}
 use mathlib.Core.Bool.{Bool, true}
-use mathlib.Core.Logic.{_⊎_, inl, ⊎-elim, _≢_}
+use mathlib.Core.Logic.{_⊎_, inl, inr, ⊎-elim, _≢_}
 use mathlib.Core.Option.{Option, none, some}
 use mathlib.Core.List.{List, [], _∷_, _++_, append-nil}
 use lib.ListN.{length, getD, set, length-set}
 use lib.Seq.{getD-set-same, getD-set-other, append-snoc}
-use borrow.Author.Tests.{lt-ltb, le-ltb}
 use Rattle.plain.specs.declared.Counts.{Counts}
 use Rattle.plain.specs.Lists.{keep}
 use Rattle.plain.specs.Laws.Booleans.{true-false, both-true}
 use Rattle.plain.specs.Laws.ListLaws.{member-first, member-keep, distinct-left, distinct-apart}
-use Rattle.shape.specs.Columns.{cell, adjacency-at, offset-at, mark-at}
+use Rattle.shape.specs.Columns.{cell, adjacency-at, mark-at}
 use Rattle.shape.specs.Chains.{In}
-use Rattle.shape.specs.Shape.{adjacency-in, raw, hiding, live-in, between, base-of, run-of, ring-of}
+use Rattle.shape.specs.Shape.{adjacency-in, raw, hiding, live-in, between, base-of, run-list, run-of, ring-of}
 use Rattle.shape.specs.Steps.{live-entries, run-or-base, taken}
 use Rattle.shape.specs.Checked.{Indexed}
 use Rattle.shape.specs.Laws.Chains.{in-front, in-none}
-use Rattle.shape.specs.Laws.Frames.{run-list-below, run-of-unmarked, offset-within}
+use Rattle.shape.specs.Laws.Frames.{run-list-below, run-of-unmarked}
+use Rattle.shape.specs.Laws.NewBase.{base-between, base-range}
 use Rattle.shape.specs.Laws.Walking.{between-none, between-some}
 use Rattle.shape.specs.Laws.Taking.{keep-append, keep-again}
 use Rattle.shape.specs.Laws.Keeping.{in-keep, in-either, in-second}
+use Rattle.adjacency.specs.Index.{Based, base-bounds}
+use Rattle.adjacency.specs.declared.index.BaseBounds.{BaseBounds}
 use Rattle.relocate.specs.Runs.{Edited, Grown, Keepable}
-use Rattle.relocate.specs.Runs.Laws.{run-of-marked, edited, edited-none, edited-again, edited-list, edited-mark, edited-new, edited-other, edited-ring, edited-rings}
+use Rattle.relocate.specs.Runs.Laws.{run-of-marked, edited, edited-none, edited-again, edited-wider, edited-list, edited-mark, edited-new, edited-other, edited-ring, edited-rings}
 use Rattle.relocate.specs.Overlay.{flags-of, Ready, Remade, Copyable, Copied, Started, Drainable, Drained, TakenOver}
 use Rattle.relocate.specs.Overlay.Laws.{edited-base, edited-index, edited-remade}
 
@@ -34,7 +36,7 @@ use Rattle.relocate.specs.Overlay.Laws.{edited-base, edited-index, edite
 pub record Copying (ws vs : List ℕ) (ce cn : ℕ) (counts : Counts) (live : List ℕ) (node at end : ℕ) : Type 0 where
   pub done : List ℕ
   pub whole : base-of ws ce cn (counts .nodes .base) node ≡ done ++ between (cell ws ce) at end
-  pub now : Edited ws vs ce cn counts node (live-entries (flags-of live counts) done)
+  pub now : Edited ws vs ce cn counts node (live-entries (flags-of live counts) done) (base-of ws ce cn (counts .nodes .base) node)
   pub long : length vs ≡ length ws
   pub within : end ≤ counts .edges .base
 
@@ -46,38 +48,37 @@ module _ {ws : List ℕ} {ce cn : ℕ} {counts : Counts} {live : List ℕ} {node
   base = base-of ws ce cn (counts .nodes .base) node
 
   -- nothing is done yet
-  start : Edited ws ws ce cn counts node []
-  start = rw (← pre .empty) (edited-none (pre .editable) (pre .marked))
+  start : Edited ws ws ce cn counts node [] base
+  start = subst (λ (l : List ℕ). Edited ws ws ce cn counts node l base) (pre .empty) (edited-none (pre .editable) (pre .marked))
 
-  -- a node past the base has no base part
-  pub copy-none : counts .nodes .base ≤ node → Copied ws ws ce cn counts live node
-  unfolding base-of keep
-  copy-none h = rw (le-ltb node (counts .nodes .base) h) start
+  -- the words have the index's offsets
+  pub copy-based : Based ws ce cn (counts .nodes .base)
+  copy-based = let e = pre .editable in record { sized = e .sized; within = omega (arith, pre .nodes-based, e .nodes-within) }
 
-  -- the index of a node with a base part
-  indexed : node < counts .nodes .base → Indexed ws ce cn (counts .nodes .base) (counts .edges .base)
-  indexed h = ⊎-elim (λ q. absurd (omega (arith, q .0))) (λ ok. ok) (pre .index)
-
-  pub copy-start : node < counts .nodes .base → Copying ws ws ce cn counts live node (offset-at ws ce cn node) (getD ws (4 * ce + 5 * cn + node + 1) 0)
-  unfolding base-of keep
-  copy-start h =
-      let place : 4 * ce + 5 * cn + node + 1 ≡ 4 * ce + 5 * cn + suc node = omega arith in
-      rw place
+  pub copy-start : {bounds : BaseBounds} → bounds ≡ base-bounds ws ce cn (counts .nodes .base) node
+      → Copying ws ws ce cn counts live node (bounds .start) (bounds .end)
+  unfolding base-bounds keep
+  copy-start is =
+      rw is
       (record {
         done = [];
-        whole = rw (lt-ltb node (counts .nodes .base) h);
+        whole = base-between ws ce cn (counts .nodes .base) node;
         now = start;
         long = refl;
-        within = offset-within (indexed h) (suc node) h;
+        within = base-range ws ce cn (counts .nodes .base) (pre .index) node .1;
       })
 
   -- a turn
-  module _ {vs : List ℕ} {at end : ℕ} (some-left : at < end) (low : node < counts .nodes .base) (s : Copying ws vs ce cn counts live node at end) where
+  module _ {vs : List ℕ} {at end : ℕ} (some-left : at < end) (s : Copying ws vs ce cn counts live node at end) where
     abbrev entry : ℕ
     entry = adjacency-at vs ce at
 
     abbrev rest : List ℕ
     rest = between (cell ws ce) (at + 1) end
+
+    -- there is an index
+    indexed : Indexed ws ce cn (counts .nodes .base) (counts .edges .base)
+    indexed = ⊎-elim (λ q. absurd (omega (arith, q .1, s .within))) (λ ok. ok) (pre .index)
 
     -- the adjacency column is as it was
     read : adjacency-at vs ce at ≡ adjacency-at ws ce at
@@ -88,7 +89,7 @@ module _ {ws : List ℕ} {ce cn : ℕ} {counts : Counts} {live : List ℕ} {node
     split = s .whole ∙ ap (λ (l : List ℕ). s .done ++ l) (between-some (cell ws ce) at end some-left ∙ ap (λ (z : ℕ). z ∷ rest) (sym read))
 
     pub copy-below : entry < counts .edges .bound
-    copy-below = rw read (let few = indexed low .entries at (omega (arith, s .within)) in omega (arith, pre .edges-based))
+    copy-below = rw read (let few = indexed .entries at (omega (arith, s .within)) in omega (arith, pre .edges-based))
 
     -- the entry is in the base part
     here : In entry base
@@ -117,16 +118,20 @@ module _ {ws : List ℕ} {ce cn : ℕ} {counts : Counts} {live : List ℕ} {node
         record {
           done = s .done ++ (entry ∷ []);
           whole = split ∙ sym (append-snoc (s .done) entry rest);
-          now = edited-again (s .now) (rw (keep-append (live-in flags) (s .done) (entry ∷ []), ← edited-list (s .now)) (grown .edited));
+          now = edited-again (s .now) (rw (keep-append (live-in flags) (s .done) (entry ∷ []), ← edited-list (s .now)) (edited-wider kept grown));
           long = len ∙ s .long;
           within = s .within;
         }
+      where
+        -- what was kept is of the base part
+        kept : (e : ℕ) → In e (run-list vs ce cn node) → In e base
+        kept e m = rw split (in-front e (s .done) (entry ∷ rest) (in-keep (live-in flags) e (s .done) (rw (edited-list (s .now)) at m)))
 
   -- at the end all has been looked at
   pub copy-end : {vs : List ℕ} {at end : ℕ} → end ≤ at → Copying ws vs ce cn counts live node at end → Copied ws vs ce cn counts live node
   copy-end {vs} {at} {end} h s =
       let all : base ≡ s .done = s .whole ∙ ap (λ (l : List ℕ). s .done ++ l) (between-none (cell ws ce) at end h) ∙ append-nil (s .done) in
-      rw all (s .now)
+      subst (λ (l : List ℕ). Edited ws vs ce cn counts node (live-entries flags l) base) (sym all) (s .now)
 
 -- ---- starting
 
@@ -187,14 +192,15 @@ module _ {ws : List ℕ} {ce cn : ℕ} {counts : Counts} {live : List ℕ} {node
         getD-set-same (set ws mark 1) count 0 0 (simp length-set (omega (arith, e .node-below, e .nodes-within, e .sized .room)))
 
     -- the node has the empty run
-    opened : Edited ws us ce cn counts node []
+    opened : Edited ws us ce cn counts node [] (raw (adjacency-in ws ce cn counts node))
     opened =
         let e = pre .editable in
         edited e us [] (simp length-set) (λ q. let z : 1 ≡ 0 = sym mark-set ∙ q in omega arith) (record { counted = count-set; line = inl refl })
         (λ x f h ne m k. in-none f m)
         (λ x f h ne m. let low = run-list-below (e .runs) x f h m in
         other (3 * ce + f) (omega (arith, e .edges-within)) (omega (arith, e .edges-within)))
-        (λ i h. other i (omega arith) (omega arith)) (λ i h f t c m. other i m c)
+        (λ i h. other i (omega arith) (omega arith)) (λ i l h. other i (omega arith) (omega arith)) (λ i h f t c m. other i m c) (inr (unmarked, mark-set))
+        (λ f h out. other (3 * ce + f) (omega arith) (omega arith))
 
     -- the base part is as before
     same-base : base-of us ce cn (counts .nodes .base) node ≡ base-before
@@ -224,7 +230,8 @@ module _ {ws : List ℕ} {ce cn : ℕ} {counts : Counts} {live : List ℕ} {node
 
     pub start-end : {vs : List ℕ} → Copied us vs ce cn counts live node → Started ws vs ce cn counts live node
     start-end copied =
-        rw (ap (λ r. run-or-base signs r base-before) (run-of-unmarked ws ce cn node unmarked)) (edited-again opened (rw same-base at copied))
+        rw (ap (λ r. run-or-base signs r base-before) (run-of-unmarked ws ce cn node unmarked))
+        (edited-again opened (edited-wider (λ e m. rw based (in-front e base-before ring-before m)) (rw same-base at copied)))
 
   -- ---- taking over
 
@@ -265,7 +272,7 @@ module _ {ws : List ℕ} {ce cn : ℕ} {counts : Counts} {live : List ℕ} {node
     pub take-end : {vs : List ℕ} → Drained us vs ce cn counts live node → TakenOver ws vs ce cn counts live node
     unfolding taken
     take-end {vs} drained =
-        edited-remade pre started
+        edited-remade pre (λ e m. m) (λ e m. started-in signs (run-of ws ce cn node) base-before ring-before e (rw now-raw at m)) started
         (subst (λ (l : List ℕ). Remade us vs ce cn counts node l)
         (ap (λ (l : List ℕ). l ++ live-entries signs (ring-of us ce (counts .edges .base) (counts .edges .bound) node)) (edited-list started)
         ∙ ap (λ (l : List ℕ). first ++ live-entries signs l) same-ring) drained)

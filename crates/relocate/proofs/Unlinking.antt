@@ -244,7 +244,12 @@ module _ {ws : List ℕ} {ce cn : ℕ} {counts : Counts} {node : ℕ} (pre : Cut
           same (3 * ce + f) (omega (arith, e-pre .edges-within)) (omega (arith, e-pre .edges-within)) (omega (arith, e-pre .edges-within))
           (λ y m q. let at : f ≡ y = omega arith in ne (e-pre .runs .apart x node f h (e-pre .node-below) k (rw at m))))
           (λ i h. same i (omega arith) (omega arith) (omega arith) (λ x m. omega arith))
+          (λ i l h. same i (omega arith) (omega arith) (omega arith)
+          (λ x m. let low = run-list-below (e-pre .runs) node x (e-pre .node-below) m in omega arith))
           (λ i h nf nt nc nm. same i nf nt nc (λ x m. let low = small x m in omega arith))
+          (inl (same (4 * ce + 4 * cn + node) (omega (arith, e-pre .node-below, e-pre .nodes-within)) (omega (arith, e-pre .node-below, e-pre .nodes-within))
+          (omega (arith, e-pre .node-below, e-pre .nodes-within)) (λ x m. let low = small x m in omega arith)))
+          (λ f h away. same (3 * ce + f) (omega arith) (omega arith) (omega arith) (λ x m q. let at : f ≡ x = omega arith in away (rw at m)))
 
   -- the length is stored
   abbrev shortened : List ℕ

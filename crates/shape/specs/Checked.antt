@@ -1,7 +1,5 @@
 -- What a store is that passes the check, `Checked`, and what holds besides of every store that a fresh one or an image led to, `Reached`.
--- "A field is a count of the record or a word of the store's own memory (no map, work or answer word) whose content can change an answer of the check or of a read
--- of the store": the counts, and the words that `shape-of` and the rules below read. No fields are, for instance, words past the bounds, links of no entry, the
--- link of a run's last entry, first and tail of an empty run, and every index word where both base counts are 0.
+-- Which words of a checked store are fields, and that no other changes what is read of it or the check, is said in Fields and Laws.Fields.
 use Prim.Native.Nat.{ℕ, suc, _*_, _≤_, _<_}
 use mathlib.Core.Path.{_≡_}
 use mathlib.Core.Bool.{Bool, true, false}

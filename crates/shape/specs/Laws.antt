@@ -16,3 +16,5 @@ pub mod Reading
 pub mod Judging
 pub mod CheckedShape
 pub mod Running
+pub mod Fields
+pub mod Agreeing

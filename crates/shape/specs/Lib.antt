@@ -4,4 +4,7 @@ pub mod Shape
 pub mod Checked
 pub mod Steps
 pub mod Rules
+pub mod Kept
+pub mod Fields
+pub mod Writes
 pub mod Laws

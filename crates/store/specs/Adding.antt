@@ -1,10 +1,12 @@
 -- A store after a node or an edge was added: from what the liveness words and the two directions became, the shape and the check of the whole.
-use Prim.Native.Nat.{ℕ, _<_, _^_}
+use Prim.Native.Nat.{ℕ, _+_, _<_, _^_}
 use native.Mathlib.Omega.{arith}
 use mathlib.Core.Path.{_≡_, refl, sym, ap, _∙_}
 use mathlib.Core.Bool.{true, false}
+use mathlib.Core.Logic.{inl, inr}
 use mathlib.Core.List.{List}
 use lib.ListN.{length, getD, set, length-set}
+use lib.Seq.{getD-set-other}
 use Rattle.plain.specs.declared.TraversalDirection.{TraversalDirection}
 use Rattle.plain.specs.declared.TraversalDirection.the-variants.{Outgoing, Incoming}
 use Rattle.plain.specs.declared.Operation.the-variants.{AddNode, AddEdge}
@@ -16,9 +18,12 @@ use Rattle.liveness.specs.Calls.{Pushed}
 use Rattle.liveness.specs.FlagLaws.{length-flags}
 use Rattle.shape.specs.Shape.{Words, capacities, node-live, edge-live, axis-words, axis-of, shape-of, plain-of, store, lists}
 use Rattle.shape.specs.Checked.{AxisChecked}
+use Rattle.shape.specs.Kept.{AxisKept}
+use Rattle.shape.specs.Writes.{WritesAxis}
 use Rattle.shape.specs.Steps.{appended, acted}
 use Rattle.shape.specs.Laws.Reading.{node-bound-is, edge-bound-is, node-flags-are}
 use Rattle.adjacency.specs.Rings.{Openable, Opened, Appendable, Appended}
+use Rattle.store.specs.Keeping.{pushed-word, pushed-other, opened-kept, appended-kept, appended-writes}
 use Rattle.store.specs.Made.{slots-more}
 use Rattle.store.specs.Operations.{SameLengths, Acted, one-more, with-nodes, with-edges, Raisable, NodeAddable, EdgeAddable}
 use Rattle.store.specs.Axes.{opened-axis, opened-checked, appended-axis, appended-checked}
@@ -98,8 +103,33 @@ module _ {w : Words} (pre : NodeAddable w) where
           walks = acted-walks (pre .checked) (AddNode payload) (node-comes payload) refl with-node fits node-lengths node-shape;
         };
         lengths = node-lengths;
+        kept = record {
+          nodes-grow = omega arith;
+          edges-grow = omega arith;
+          nodes = λ i h. getD-set-other (w .nodes) (w .counts .nodes .bound) i payload 0 (omega arith);
+          edges = λ i h. refl;
+          live-nodes = pushed-word pushed;
+          live-edges = λ i h. refl;
+          axis = kept;
+        };
+        writes = record {
+          nodes = λ x off. getD-set-other (w .nodes) (w .counts .nodes .bound) x payload 0 off;
+          edges = λ e off. refl;
+          live-nodes = pushed-other pushed;
+          live-edges = λ i off. refl;
+          axis = written;
+        };
       }
         where
+          written : (d : TraversalDirection) (i : ℕ) → (WritesAxis (AddNode payload) w d i → ⊥) → getD (axis-words d with-node) i 0 ≡ getD (axis-words d w) i 0
+          written Outgoing i off = out .kept i (λ q. off (inl q)) (λ q. off (inr q))
+          written Incoming i off = inc .kept i (λ q. off (inl q)) (λ q. off (inr q))
+
+          kept : (d : TraversalDirection)
+              → AxisKept (axis-words d w) (axis-words d with-node) (length (w .edges)) (length (w .nodes)) (w .counts .nodes .bound) (w .counts .nodes .bound + 1) (w .counts .edges .bound)
+          kept Outgoing = opened-kept (w .counts .edges .bound) out (pre .room)
+          kept Incoming = opened-kept (w .counts .edges .bound) inc (pre .room)
+
           directions : (d : TraversalDirection)
               → AxisChecked (axis-words d with-node) (length (w .edges)) (length (with-node .nodes)) (with-node .counts) (node-live with-node) (edge-live w)
           directions Outgoing = rw (node-lengths .nodes, pushed .flags) (opened-checked (pre .checked) Outgoing outgoing out-long out (pre .room))
@@ -196,8 +226,33 @@ module _ {w : Words} {source target : ℕ} (pre : EdgeAddable w source target) w
           walks = acted-walks (pre .checked) (AddEdge source target payload) (edge-comes payload) refl with-edge fits edge-lengths edge-shape;
         };
         lengths = edge-lengths;
+        kept = record {
+          nodes-grow = omega arith;
+          edges-grow = omega arith;
+          nodes = λ i h. refl;
+          edges = λ i h. getD-set-other (w .edges) (w .counts .edges .bound) i payload 0 (omega arith);
+          live-nodes = λ i h. refl;
+          live-edges = pushed-word pushed;
+          axis = kept;
+        };
+        writes = record {
+          nodes = λ x off. refl;
+          edges = λ e off. getD-set-other (w .edges) (w .counts .edges .bound) e payload 0 off;
+          live-nodes = λ i off. refl;
+          live-edges = pushed-other pushed;
+          axis = written;
+        };
       }
         where
+          written : (d : TraversalDirection) (i : ℕ) → (WritesAxis (AddEdge source target payload) w d i → ⊥) → getD (axis-words d with-edge) i 0 ≡ getD (axis-words d w) i 0
+          written Outgoing i off = appended-writes out i off
+          written Incoming i off = appended-writes inc i off
+
+          kept : (d : TraversalDirection)
+              → AxisKept (axis-words d w) (axis-words d with-edge) (length (w .edges)) (length (w .nodes)) (w .counts .nodes .bound) (w .counts .nodes .bound) (w .counts .edges .bound + 1)
+          kept Outgoing = appended-kept out (end-below source (pre .source-live)) (pre .checked .nodes .bound-within) (pre .room)
+          kept Incoming = appended-kept inc (end-below target (pre .target-live)) (pre .checked .nodes .bound-within) (pre .room)
+
           directions : (d : TraversalDirection)
               → AxisChecked (axis-words d with-edge) (length (with-edge .edges)) (length (w .nodes)) (with-edge .counts) (node-live w) (edge-live with-edge)
           directions Outgoing =

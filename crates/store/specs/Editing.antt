@@ -1,10 +1,11 @@
 -- A store after an edge was removed or given another payload: no list is edited, so the directions are as they were.
 use Prim.Native.Nat.{ℕ, _<_, _^_}
+use native.Mathlib.Omega.{arith}
 use mathlib.Core.Path.{_≡_, refl, sym, ap, _∙_}
 use mathlib.Core.Bool.{Bool, true, false, cond}
 use mathlib.Core.List.{List, map}
 use lib.ListN.{length, getD, set, length-set, List·getD-eq-default}
-use lib.Seq.{set-getD}
+use lib.Seq.{set-getD, getD-set-other}
 use lib.Dec.{eqb}
 use Rattle.plain.specs.declared.TraversalDirection.{TraversalDirection}
 use Rattle.plain.specs.declared.TraversalDirection.the-variants.{Outgoing, Incoming}
@@ -20,8 +21,10 @@ use Rattle.liveness.specs.Calls.{Cleared}
 use Rattle.liveness.specs.FlagLaws.{length-flags}
 use Rattle.shape.specs.Shape.{Words, capacities, node-live, edge-live, axis-words, axis-of, shape-of, plain-of, store, lists}
 use Rattle.shape.specs.Checked.{AxisChecked, Checked}
+use Rattle.shape.specs.Kept.{AxisKept, axis-kept-none}
 use Rattle.shape.specs.Steps.{retired, acted}
 use Rattle.shape.specs.Laws.Reading.{made-at, edge-bound-is, edge-flags-are}
+use Rattle.store.specs.Keeping.{cleared-word, cleared-other}
 use Rattle.store.specs.Made.{slots-set}
 use Rattle.store.specs.Operations.{SameLengths, Acted, RemovedEdge, fewer, with-edges, PayloadSettable}
 use Rattle.store.specs.Acting.{shape-ext, acted-walks, some-live, cleared-right}
@@ -114,8 +117,27 @@ module _ {w : Words} (checked : Checked w) (edge : ℕ) (live : getD (edge-live 
           walks = acted-walks checked (RemoveEdge edge) (rw live at (remove-comes w edge)) refl without-edge tt remove-lengths remove-shape;
         };
         lengths = remove-lengths;
+        kept = record {
+          nodes-grow = omega arith;
+          edges-grow = omega arith;
+          nodes = λ i h. refl;
+          edges = λ i h. refl;
+          live-nodes = λ i h. refl;
+          live-edges = cleared-word cleared removed-below;
+          axis = kept;
+        };
+        writes = record { nodes = λ x off. refl; edges = λ e off. refl; live-nodes = λ i off. refl; live-edges = cleared-other cleared; axis = written };
       }
         where
+          kept : (d : TraversalDirection)
+              → AxisKept (axis-words d w) (axis-words d without-edge) (length (w .edges)) (length (w .nodes)) (w .counts .nodes .bound) (w .counts .nodes .bound) (w .counts .edges .bound)
+          kept Outgoing = axis-kept-none (w .outgoing) (length (w .edges)) (length (w .nodes)) (w .counts .nodes .bound) (w .counts .edges .bound)
+          kept Incoming = axis-kept-none (w .incoming) (length (w .edges)) (length (w .nodes)) (w .counts .nodes .bound) (w .counts .edges .bound)
+
+          written : (d : TraversalDirection) (i : ℕ) → (⊥ → ⊥) → getD (axis-words d without-edge) i 0 ≡ getD (axis-words d w) i 0
+          written Outgoing i off = refl
+          written Incoming i off = refl
+
           directions : (d : TraversalDirection)
               → AxisChecked (axis-words d without-edge) (length (w .edges)) (length (w .nodes)) (without-edge .counts) (node-live w) (edge-live without-edge)
           directions Outgoing = rw (cleared .flags) (remove-direction Outgoing)
@@ -205,8 +227,33 @@ module _ {w : Words} {edge : ℕ} (pre : PayloadSettable w edge) (payload : ℕ)
       walks = acted-walks (pre .checked) (SetPayload edge payload) payload-comes refl with-payload fits payload-lengths payload-shape;
     };
     lengths = payload-lengths;
+    kept = record {
+      nodes-grow = omega arith;
+      edges-grow = omega arith;
+      nodes = λ i h. refl;
+      edges = λ i h. let low = pre .below in getD-set-other (w .edges) edge i payload 0 (omega arith);
+      live-nodes = λ i h. refl;
+      live-edges = λ i h. refl;
+      axis = kept;
+    };
+    writes = record {
+      nodes = λ x off. refl;
+      edges = λ e off. getD-set-other (w .edges) edge e payload 0 off;
+      live-nodes = λ i off. refl;
+      live-edges = λ i off. refl;
+      axis = written;
+    };
   }
     where
+      written : (d : TraversalDirection) (i : ℕ) → (⊥ → ⊥) → getD (axis-words d with-payload) i 0 ≡ getD (axis-words d w) i 0
+      written Outgoing i off = refl
+      written Incoming i off = refl
+
+      kept : (d : TraversalDirection)
+          → AxisKept (axis-words d w) (axis-words d with-payload) (length (w .edges)) (length (w .nodes)) (w .counts .nodes .bound) (w .counts .nodes .bound) (w .counts .edges .bound)
+      kept Outgoing = axis-kept-none (w .outgoing) (length (w .edges)) (length (w .nodes)) (w .counts .nodes .bound) (w .counts .edges .bound)
+      kept Incoming = axis-kept-none (w .incoming) (length (w .edges)) (length (w .nodes)) (w .counts .nodes .bound) (w .counts .edges .bound)
+
       directions : (d : TraversalDirection)
           → AxisChecked (axis-words d with-payload) (length (with-payload .edges)) (length (w .nodes)) (w .counts) (node-live w) (edge-live w)
       directions Outgoing = rw (payload-lengths .edges) (pre .checked .axis Outgoing)

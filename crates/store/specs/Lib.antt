@@ -1,6 +1,7 @@
 pub mod Made
 pub mod Operations
 pub mod Axes
+pub mod Keeping
 pub mod Acting
 pub mod Adding
 pub mod Editing

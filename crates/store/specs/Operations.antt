@@ -15,8 +15,10 @@ use Rattle.plain.specs.declared.Counts.{Counts}
 use Rattle.plain.specs.Plain.{list-of}
 use Rattle.plain.specs.Numbers.{LIMIT}
 use Rattle.shape.specs.Columns.{end-at}
-use Rattle.shape.specs.Shape.{Words, node-live, edge-live, axis-words, shape-of, lists}
+use Rattle.shape.specs.Shape.{Words, lengths-of, node-live, edge-live, axis-words, shape-of, lists}
 use Rattle.shape.specs.Checked.{Checked}
+use Rattle.shape.specs.Kept.{Kept}
+use Rattle.shape.specs.Writes.{Writes}
 use Rattle.shape.specs.Steps.{acted}
 
 -- Every slice is as long as it was.
@@ -31,11 +33,25 @@ pub record SameLengths (w v : Words) : Type 0 where
 pub same-lengths : (w : Words) → SameLengths w w
 same-lengths w = record { nodes = refl; edges = refl; live-nodes = refl; live-edges = refl; outgoing = refl; incoming = refl }
 
+pub lengths-same : {w v : Words} → SameLengths w v → lengths-of v ≡ lengths-of w
+lengths-same same =
+    let n = same .nodes in
+    let e = same .edges in
+    let ln = same .live-nodes in
+    let le = same .live-edges in
+    let out = same .outgoing in
+    let inc = same .incoming in
+    λ i. record { capacities = record { nodes = n i; edges = e i }; live-nodes = ln i; live-edges = le i; outgoing = out i; incoming = inc i }
+
 -- The operation was done.
 pub record Acted (operation : Operation) (w v : Words) : Type 0 where
   pub shape : shape-of v ≡ acted operation (shape-of w)
   pub checked : Checked v
   pub lengths : SameLengths w v
+  -- no index word, no word past the bounds, no spare word was written
+  pub kept : Kept w v
+  -- nor any other word than the operation's own
+  pub writes : Writes operation w v
 
 -- The operation was done if something live was there, which is the answer; else nothing changed.
 pub record Removing (operation : Operation) (live : Bool) (w : Words) (answer : Bool) (v : Words) : Type 0 where

@@ -1,10 +1,11 @@
 -- A store whose edges are relocated on one axis: a checked store has what crate `relocate` asks of the axis, and is checked afterwards.
 use Prim.Native.Nat.{ℕ, _<_}
+use native.Mathlib.Omega.{arith}
 use mathlib.Core.Path.{_≡_, refl, sym, ap, subst, _∙_}
 use mathlib.Core.Bool.{Bool, true, false, not}
-use mathlib.Core.Logic.{_≢_}
+use mathlib.Core.Logic.{_≢_, inl, inr}
 use mathlib.Core.List.{List}
-use lib.ListN.{length}
+use lib.ListN.{length, getD}
 use lib.Dec.{eqb}
 use borrow.Author.Tests.{eqb-true, ne-eqb}
 use Rattle.plain.specs.declared.TraversalDirection.{TraversalDirection}
@@ -20,8 +21,11 @@ use Rattle.plain.specs.Laws.Rank.{live-below}
 use Rattle.plain.specs.Laws.Stepping.{Fitting}
 use Rattle.liveness.specs.FlagLaws.{length-flags}
 use Rattle.shape.specs.Columns.{end-at}
+use Rattle.shape.specs.Chains.{In}
 use Rattle.shape.specs.Shape.{Words, Axis, capacities, node-live, edge-live, axis-words, axis-of, axis-in, edge-flags-of, live-in, raw, walk-of, adjacency-in, shape-of, plain-of, lists}
 use Rattle.shape.specs.Checked.{AxisChecked, Checked}
+use Rattle.shape.specs.Kept.{AxisKept, Kept, axis-kept-none}
+use Rattle.shape.specs.Writes.{WritesAxis, Writes}
 use Rattle.shape.specs.Steps.{live-entries, acted, acts, with-axis, redirected-axis, moved-axis}
 use Rattle.shape.specs.Laws.Reading.{node-bound-is, node-flags-are, edge-flags-are, plain-end}
 use Rattle.shape.specs.Laws.Taking.{live-taken}
@@ -83,6 +87,63 @@ axis-lengths : (w : Words) (d : TraversalDirection) (vs : List ℕ) → length v
 axis-lengths w Outgoing vs long = record { nodes = refl; edges = refl; live-nodes = refl; live-edges = refl; outgoing = long; incoming = refl }
 axis-lengths w Incoming vs long = record { nodes = refl; edges = refl; live-nodes = refl; live-edges = refl; outgoing = refl; incoming = long }
 
+-- the words that an operation leaves
+axis-kept : (w : Words) (d : TraversalDirection) (vs : List ℕ)
+    → AxisKept (axis-words d w) vs (length (w .edges)) (length (w .nodes)) (w .counts .nodes .bound) (w .counts .nodes .bound) (w .counts .edges .bound) → Kept w (with-axis-words d vs w)
+axis-kept w Outgoing vs frame = record {
+  nodes-grow = omega arith;
+  edges-grow = omega arith;
+  nodes = λ i h. refl;
+  edges = λ i h. refl;
+  live-nodes = λ i h. refl;
+  live-edges = λ i h. refl;
+  axis = directions;
+}
+  where
+    directions : (d : TraversalDirection) → AxisKept (axis-words d w) (axis-words d (with-axis-words Outgoing vs w)) (length (w .edges)) (length (w .nodes))
+        (w .counts .nodes .bound) (w .counts .nodes .bound) (w .counts .edges .bound)
+    directions Outgoing = frame
+    directions Incoming = axis-kept-none (w .incoming) (length (w .edges)) (length (w .nodes)) (w .counts .nodes .bound) (w .counts .edges .bound)
+axis-kept w Incoming vs frame = record {
+  nodes-grow = omega arith;
+  edges-grow = omega arith;
+  nodes = λ i h. refl;
+  edges = λ i h. refl;
+  live-nodes = λ i h. refl;
+  live-edges = λ i h. refl;
+  axis = directions;
+}
+  where
+    directions : (d : TraversalDirection) → AxisKept (axis-words d w) (axis-words d (with-axis-words Incoming vs w)) (length (w .edges)) (length (w .nodes))
+        (w .counts .nodes .bound) (w .counts .nodes .bound) (w .counts .edges .bound)
+    directions Outgoing = axis-kept-none (w .outgoing) (length (w .edges)) (length (w .nodes)) (w .counts .nodes .bound) (w .counts .edges .bound)
+    directions Incoming = frame
+
+axis-writes : (w : Words) (d : TraversalDirection) (vs : List ℕ) (operation : Operation)
+    → ((i : ℕ) → (WritesAxis operation w d i → ⊥) → getD vs i 0 ≡ getD (axis-words d w) i 0) → Writes operation w (with-axis-words d vs w)
+axis-writes w Outgoing vs operation words = record {
+  nodes = λ x off. refl;
+  edges = λ e off. refl;
+  live-nodes = λ i off. refl;
+  live-edges = λ i off. refl;
+  axis = directions;
+}
+  where
+    directions : (d : TraversalDirection) (i : ℕ) → (WritesAxis operation w d i → ⊥) → getD (axis-words d (with-axis-words Outgoing vs w)) i 0 ≡ getD (axis-words d w) i 0
+    directions Outgoing i off = words i off
+    directions Incoming i off = refl
+axis-writes w Incoming vs operation words = record {
+  nodes = λ x off. refl;
+  edges = λ e off. refl;
+  live-nodes = λ i off. refl;
+  live-edges = λ i off. refl;
+  axis = directions;
+}
+  where
+    directions : (d : TraversalDirection) (i : ℕ) → (WritesAxis operation w d i → ⊥) → getD (axis-words d (with-axis-words Incoming vs w)) i 0 ≡ getD (axis-words d w) i 0
+    directions Outgoing i off = refl
+    directions Incoming i off = words i off
+
 -- where the axis is what an edit makes of it, the shape is the one with the edited axis
 axis-shape : (w : Words) (d : TraversalDirection) (vs : List ℕ) (edit : List Bool → Axis → Axis) → axis-of vs (length (w .edges)) (length (w .nodes)) (w .counts)
     ≡ edit (edge-live w) (axis-of (axis-words d w) (length (w .edges)) (length (w .nodes)) (w .counts))
@@ -99,8 +160,10 @@ axis-shape w Incoming vs edit is =
 relocated-acted : {w : Words} → Checked w → (d : TraversalDirection) (vs : List ℕ) (operation : Operation) {o : Outcome}
     → step (capacities w) (lists w) operation ≡ o → acts operation o ≡ true → Fitting operation → length vs ≡ length (axis-words d w)
     → shape-of (with-axis-words d vs w) ≡ acted operation (shape-of w)
-    → AxisChecked vs (length (w .edges)) (length (w .nodes)) (w .counts) (node-live w) (edge-live w) → Acted operation w (with-axis-words d vs w)
-relocated-acted {w} k Outgoing vs operation comes acting fits long shape axis = record {
+    → AxisChecked vs (length (w .edges)) (length (w .nodes)) (w .counts) (node-live w) (edge-live w)
+    → AxisKept (axis-words d w) vs (length (w .edges)) (length (w .nodes)) (w .counts .nodes .bound) (w .counts .nodes .bound) (w .counts .edges .bound)
+    → ((i : ℕ) → (WritesAxis operation w d i → ⊥) → getD vs i 0 ≡ getD (axis-words d w) i 0) → Acted operation w (with-axis-words d vs w)
+relocated-acted {w} k Outgoing vs operation comes acting fits long shape axis frame words = record {
   shape = shape;
   checked = record {
     nodes = k .nodes;
@@ -113,13 +176,15 @@ relocated-acted {w} k Outgoing vs operation comes acting fits long shape axis = 
     walks = acted-walks k operation comes acting (with-axis-words Outgoing vs w) fits (axis-lengths w Outgoing vs long) shape;
   };
   lengths = axis-lengths w Outgoing vs long;
+  kept = axis-kept w Outgoing vs frame;
+  writes = axis-writes w Outgoing vs operation words;
 }
   where
     directions : (d : TraversalDirection)
         → AxisChecked (axis-words d (with-axis-words Outgoing vs w)) (length (w .edges)) (length (w .nodes)) (w .counts) (node-live w) (edge-live w)
     directions Outgoing = axis
     directions Incoming = k .axis Incoming
-relocated-acted {w} k Incoming vs operation comes acting fits long shape axis = record {
+relocated-acted {w} k Incoming vs operation comes acting fits long shape axis frame words = record {
   shape = shape;
   checked = record {
     nodes = k .nodes;
@@ -132,6 +197,8 @@ relocated-acted {w} k Incoming vs operation comes acting fits long shape axis = 
     walks = acted-walks k operation comes acting (with-axis-words Incoming vs w) fits (axis-lengths w Incoming vs long) shape;
   };
   lengths = axis-lengths w Incoming vs long;
+  kept = axis-kept w Incoming vs frame;
+  writes = axis-writes w Incoming vs operation words;
 }
   where
     directions : (d : TraversalDirection)
@@ -156,7 +223,9 @@ redirecting {w} {edge} {new} pre d vs done long =
           let away : end-of d (lists w) edge ≢ new = λ q. moved (sym (plain-end w d edge (alive-below (w .live-edges) (w .counts) edge (pre .alive))) ∙ q) in
           relocated-acted k d vs (Redirect d edge new) (comes-to (redirect (rw (edge-flags-are w) (pre .alive)) (rw (node-flags-are w) (pre .new-live)) away))
           (rw (ne-eqb (end-of d (lists w) edge) new away)) tt long (axis-shape w d vs (λ f a. redirected-axis f edge new a) (done .changed moved))
-          (done .checked (node-live w) (checked-end k d edge (pre .alive)) (pre .new-live) (k .axis d));
+          (done .checked (node-live w) (checked-end k d edge (pre .alive)) (pre .new-live) (k .axis d)) (done .frame)
+          (λ i off. done .writes i (λ q. off (refl, inl q)) (λ l. off (refl, inr (inl (inl l)))) (λ l. off (refl, inr (inr (inl l))))
+          (λ o. off (refl, inr (inl (inr o)))) (λ n. off (refl, inr (inr (inr n)))));
       keeps = λ same. same-words w d vs (done .unchanged (sym (done .previous) ∙ same));
     }
 
@@ -175,5 +244,8 @@ moving {w} {old} {new} d pre vs done long =
       counted = done .counted ∙ ap length (live-taken (edge-live w) adjacency ∙ sym walked);
       acts = relocated-acted k d vs (Move d old new) (comes-to (move (pre .apart) (rw (node-bound-is w) below) (pre .some) (rw (node-flags-are w) (pre .new-live))))
           (rw (ne-eqb (length (list-of d (lists w) old)) 0 (λ q. pre .some (no-entries (list-of d (lists w) old) q)))) tt long
-          (axis-shape w d vs (λ f a. moved-axis f old new a) (done .axis)) (done .checked (node-live w) (pre .old-live) (pre .new-live) (k .axis d));
+          (axis-shape w d vs (λ f a. moved-axis f old new a) (done .axis)) (done .checked (node-live w) (pre .old-live) (pre .new-live) (k .axis d))
+          (done .frame)
+          (λ i off. done .writes i (λ q. off (refl, inl (subst (λ (l : List ℕ). In i l) (sym walked) q))) (λ l. off (refl, inr (inl (inl l))))
+          (λ l. off (refl, inr (inr (inl l)))) (λ o. off (refl, inr (inl (inr o)))) (λ n. off (refl, inr (inr (inr n)))));
     }

@@ -4,15 +4,19 @@ use Prim.Native.Nat.{ℕ, _≤_, _<_}
 use mathlib.Core.Path.{_≡_, refl, sym, ap, subst, _∙_}
 use mathlib.Core.Bool.{Bool, true, false, cond}
 use lib.ListN.{getD}
+use lib.Dec.{eqb}
 use Rattle.plain.specs.declared.Operation.{Operation}
 use Rattle.plain.specs.Plain.{node-flags, edge-flags, node-bound, edge-bound}
 use Rattle.plain.specs.Step.{Outcome, step, stepped}
-use Rattle.plain.specs.declared.Operation.the-variants.{Unknown}
+use Rattle.plain.specs.declared.Operation.the-variants.{RemoveEdge, RemoveNode, Unknown}
 use Rattle.plain.specs.Numbers.{NONE}
+use Rattle.plain.specs.Laws.Booleans.{true-false}
 use Rattle.plain.specs.Laws.Cases.{Absent, Removed, Live, Case, comes-to, unknown as unknown-code}
 use Rattle.liveness.specs.FlagLaws.{length-flags}
 use Rattle.shape.specs.Shape.{Words, capacities, node-live, edge-live, shape-of, plain-of, lists}
 use Rattle.shape.specs.Checked.{Checked, Reached}
+use Rattle.shape.specs.Kept.{Kept, kept-none}
+use Rattle.shape.specs.Writes.{Writes, nothing-written}
 use Rattle.shape.specs.Steps.{acted, acts, shape-step, state-of}
 use Rattle.shape.specs.Laws.CheckedShape.{checked-proper, checked-based}
 use Rattle.shape.specs.Laws.Reaching.{step-reached}
@@ -33,6 +37,12 @@ pub record StepOf (operation : Operation) (w v : Words) (number value : ℕ) : T
   pub lengths : SameLengths w v
   -- "A refused operation changes nothing": not a word
   pub refused-keeps : (number ≡ 0 → ⊥) → v ≡ w
+  -- nor does one that is done with nothing to change: a removal with value 0, a redirect to the present end, a move of an empty walk
+  pub idle-keeps : acts operation (outcome w operation) ≡ false → v ≡ w
+  -- and any other writes no index word, no word past the bounds and no spare word
+  pub kept : Kept w v
+  -- nor any other word than the operation's own
+  pub writes : Writes operation w v
 
 -- the plain lists and the compact flag afterwards are document 01's
 pub step-lists : {operation : Operation} {w v : Words} {number value : ℕ} → Checked w → StepOf operation w v number value
@@ -43,6 +53,13 @@ step-lists {operation} {w} c does = ap state-of (does .shaped) ∙ step-state (c
 pub step-keeps : {operation : Operation} {w v : Words} {number value : ℕ} → Checked w → StepOf operation w v number value → Reached (shape-of w)
     → Reached (shape-of v)
 step-keeps {operation} {w} c does r = subst Reached (sym (does .shaped)) (step-reached (checked-proper w c) r operation)
+
+-- a removal with value 0 leaves every word
+pub no-edge-kept : {e : ℕ} {w v : Words} {number : ℕ} → StepOf (RemoveEdge e) w v number 0 → v ≡ w
+no-edge-kept does = does .idle-keeps (ap (λ (n : ℕ). eqb n 1) (sym (does .valued)))
+
+pub no-node-kept : {x : ℕ} {w v : Words} {number : ℕ} → StepOf (RemoveNode x) w v number 0 → v ≡ w
+no-node-kept does = does .idle-keeps (ap (λ (n : ℕ). eqb n 1) (sym (does .valued)))
 
 -- ---- what the words tell of the plain lists
 
@@ -94,6 +111,9 @@ stays {operation} {w} c case idle =
       checked = c;
       lengths = same-lengths w;
       refused-keeps = λ h. refl;
+      idle-keeps = λ h. refl;
+      kept = kept-none w;
+      writes = nothing-written operation w;
     }
 
 -- it is done and changes the store
@@ -109,6 +129,9 @@ done {operation} {w} case busy zero a =
       checked = a .checked;
       lengths = a .lengths;
       refused-keeps = λ h. absurd (h zero);
+      idle-keeps = λ h. true-false (ap (acts operation) same ∙ busy) h;
+      kept = a .kept;
+      writes = a .writes;
     }
 
 -- ---- unknown codes

@@ -18,6 +18,7 @@ use Rattle.plain.specs.Laws.Strips.{run-snoc, answers-snoc, length-answers, len
 use Rattle.shape.specs.Shape.{Words, Shape, capacities, shape-of}
 use Rattle.shape.specs.Checked.{Checked, Reached}
 use Rattle.shape.specs.Rules.{broken}
+use Rattle.shape.specs.Kept.{Kept, Spared, kept-none, kept-through, kept-spared, nothing-spared}
 use Rattle.shape.specs.Steps.{shape-step, shape-run, state-of}
 use Rattle.shape.specs.Laws.Running.{shape-run-snoc}
 use Rattle.adjacency.specs.Reading.{write-one}
@@ -42,6 +43,7 @@ pub record Ran (w : Words) (ops : List Operation) (entry : List ℕ) (v : Words)
   pub checked : Checked v
   pub reached : Reached (shape-of w) → Reached (shape-of v)
   pub lengths : SameLengths w v
+  pub kept : Kept w v
   pub steps : Steps w ops v
   -- "words past an answer's end keep their content"
   pub answered : exit ≡ written (answers (capacities w) (state-of (shape-of w)) ops) entry
@@ -66,6 +68,10 @@ pub record StripOf (w : Words) (words entry : List ℕ) (number value : ℕ) (v 
   pub steps : number ≡ 0 → Steps w (operations words) v
   -- "a lent slice too short .. everything": not a word of the store changes
   pub refused-keeps : (number ≡ 0 → ⊥) → v ≡ w
+  -- of the words that are no field: none of the index, none past the bounds and no spare one is written; and a mark is as it was, or 1 where it was 0, so that
+  -- every field is fixed (Agreeing)
+  pub kept : Kept w v
+  pub spared : Spared w v
 
 -- ---- the words
 
@@ -105,7 +111,7 @@ same-capacities same = ap₂ {C = Capacities} (λ (n e : ℕ). record { nodes = 
 -- before the first operation
 ran-none : {w : Words} {entry : List ℕ} → Checked w → Ran w [] entry w entry
 unfolding shape-run run answers
-ran-none {w} c = record { shape = refl; state = refl; checked = c; reached = λ r. r; lengths = same-lengths w; steps = no-step; answered = refl }
+ran-none {w} c = record { shape = refl; state = refl; checked = c; reached = λ r. r; lengths = same-lengths w; kept = kept-none w; steps = no-step; answered = refl }
 
 steps-more : {w v u : Words} {ops : List Operation} {x : Operation} {number value : ℕ} → Steps w ops v → StepOf x v u number value → Steps w (ops ++ (x ∷ [])) u
 steps-more no-step does = one-step does no-step
@@ -128,6 +134,7 @@ module _ {w v u : Words} {ops : List Operation} {entry exit : List ℕ} {x : Ope
     checked = does .checked;
     reached = λ r. step-keeps (ran .checked) does (ran .reached r);
     lengths = same-through (ran .lengths) (does .lengths);
+    kept = kept-through (ran .lengths .nodes) (ran .lengths .edges) (ran .kept) (does .kept);
     steps = steps-more (ran .steps) does;
     answered = ap (λ (l : List ℕ). set (set l at number) (at + 1) value) (ran .answered)
         ∙ two-more before entry at number value (is ∙ sym (length-answers (capacities w) (state-of (shape-of w)) ops)) room
@@ -207,9 +214,11 @@ module _ (w : Words) (words entry : List ℕ) where
         lengths = same-lengths w;
         steps = λ h. absurd (refused h);
         refused-keeps = λ h. refl;
+        kept = kept-none w;
+        spared = nothing-spared w;
       }
 
-  -- "words are no store: 1, rule 1 to 7"
+  -- "words are no store | 1 | rule 1 to 7 | everything"
   pub strip-judged : {rule : ℕ} → Judged w rule → (rule ≡ 0 → ⊥) → StripOf w words entry 1 rule w entry
   strip-judged {rule} j broke = by rule (j .first) broke
     where
@@ -223,7 +232,7 @@ module _ (w : Words) (words entry : List ℕ) where
     told : stripped w words (length entry) ≡ strip (capacities w) (state-of (shape-of w)) words (length entry)
     told = ap (λ (n : ℕ). judged-strip n (state-of (shape-of w)) (strip (capacities w) (state-of (shape-of w)) words (length entry))) (sym (j .first) ∙ sound)
 
-    -- "strip not a multiple of four: 3, its length"
+    -- "strip not a multiple of four | 3 | its length | everything"
     pub strip-ragged : (length words % 4 ≡ 0 → ⊥) → StripOf w words entry 3 (length words) w entry
     unfolding strip
     strip-ragged ragged =
@@ -234,7 +243,7 @@ module _ (w : Words) (words entry : List ℕ) where
       needed : 2 * length (operations words) ≡ length words / 2
       needed = rw (length-operations words) (omega arith)
 
-      -- "a lent slice too short: 2, length needed"
+      -- "a lent slice too short | 2 | length needed | everything"
       pub strip-short : length entry < length words / 2 → StripOf w words entry 2 (length words / 2) w entry
       unfolding strip
       strip-short short =
@@ -264,4 +273,7 @@ module _ (w : Words) (words entry : List ℕ) where
               lengths = ran .lengths;
               steps = λ h. ran .steps;
               refused-keeps = λ h. absurd (h refl);
+              kept = ran .kept;
+              spared = let c = ran .checked in
+                  kept-spared (omega (arith, c .nodes .bound-within, ran .lengths .nodes)) (omega (arith, c .edges .bound-within, ran .lengths .edges)) (ran .kept);
             }

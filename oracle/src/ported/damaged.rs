@@ -359,6 +359,15 @@ pub fn written(words: &Words) -> Value {
     })
 }
 
+/// The rule that `validate.rs` names for a store as it is written, 0 where it takes it.
+fn judged(value: &Value) -> Result<Option<u32>, String> {
+    caught(|| {
+        read(value.clone())
+            .err()
+            .map_or(Some(0), |text| rule_of(&text))
+    })
+}
+
 /// A strip is refused as the check says, and then writes nothing; else its one
 /// operation leaves a store that passes.
 fn compare_strip(words: &Words, judged: Answer, tally: &mut Tally) -> Same {
@@ -382,6 +391,8 @@ struct Found {
     rules: [u64; 8],
     /// Those with both base counts 0, whose index words the Rust is not given.
     without_index: u64,
+    /// Of these, those that the Rust refuses with rule 4 where it is given them.
+    unread_index: u64,
     /// Rule 6 here and rule 7 in the Rust; rule 6 here and accepted by the Rust: by
     /// what of rule 6 is broken, below.
     added: [[u64; ADDED.len()]; 2],
@@ -417,15 +428,12 @@ impl Found {
         if rule == 1 {
             return Ok(());
         }
-        let outcome = caught(|| {
-            read(written(words))
-                .err()
-                .map_or(Some(0), |text| rule_of(&text))
-        });
+        let value = written(words);
         let unadded = words.first_broken_unadded();
-        tally.same(Thing::Damaged, place, Ok(Some(unadded)), outcome)?;
+        tally.same(Thing::Damaged, place, Ok(Some(unadded)), judged(&value))?;
         if [words.counts.nodes.base, words.counts.edges.base] == [0, 0] {
             self.without_index += 1;
+            self.compare_unread_index(words, value, unadded, tally)?;
         }
         if unadded != rule {
             let broken = words.runs_broken();
@@ -436,6 +444,32 @@ impl Found {
                 _ => 3,
             };
             self.added[usize::from(unadded == 0)][kind] += 1;
+        }
+        Ok(())
+    }
+}
+
+impl Found {
+    /// A store with both base counts 0 whose index the Rust is given: [0] is to it as
+    /// no index at all, and any other word breaks its rule 4 unless an earlier one is
+    /// broken; the port reads neither.
+    fn compare_unread_index(
+        &mut self,
+        words: &Words,
+        mut value: Value,
+        unadded: u32,
+        tally: &mut Tally,
+    ) -> Same {
+        let place = || format!("an index over an empty base, {words:?}");
+        let given = words.sides().map(|side| side.offsets(0));
+        for index in [[vec![0], vec![0]], given] {
+            let [outgoing, incoming] = &index;
+            value["out_offsets"] = json!(outgoing);
+            value["in_offsets"] = json!(incoming);
+            let refused = index.concat() != [0, 0] && ![2, 3].contains(&unadded);
+            let expected = if refused { 4 } else { unadded };
+            tally.same(Thing::Damaged, place, Ok(Some(expected)), judged(&value))?;
+            self.unread_index += u64::from(refused);
         }
         Ok(())
     }
@@ -455,9 +489,10 @@ impl fmt::Display for Found {
         }
         writeln!(
             formatter,
-            "\n  judged by validate.rs: {}, all that do not break rule 1; of them {} without index words, both base counts being 0",
+            "\n  judged by validate.rs: {}, all that do not break rule 1; of them {} without index words, both base counts being 0 (given them, it refuses {} with rule 4)",
             self.judged(),
-            self.without_index
+            self.without_index,
+            self.unread_index
         )?;
         write!(
             formatter,

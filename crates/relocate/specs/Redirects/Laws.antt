@@ -4,7 +4,7 @@ use native.Mathlib.Nat.{le-refl, le-trans}
 use native.Mathlib.Omega.{arith}
 use mathlib.Core.Path.{_≡_, refl, sym, ap, _∙_, subst}
 use mathlib.Core.Bool.{Bool, true, false, cond}
-use mathlib.Core.Logic.{_≢_}
+use mathlib.Core.Logic.{_≢_, inl}
 use mathlib.Core.List.{List, map}
 use lib.ListN.{length, getD, set, length-set, length-map}
 use lib.Seq.{ext-getD}
@@ -22,6 +22,7 @@ use Rattle.shape.specs.Chains.{In}
 use Rattle.shape.specs.Shape.{adjacency-in, Adjacency, Axis, raw, live-in, run-list, axis-of, no-adjacency, ring-of}
 use Rattle.shape.specs.Steps.{live-entries, with-run}
 use Rattle.shape.specs.Checked.{AxisChecked}
+use Rattle.shape.specs.Kept.{AxisKept}
 use Rattle.shape.specs.Laws.Frames.{run-list-below, run-of-agree, base-of-agree, ring-of-agree, index-kept, runs-kept, rings-agree}
 use Rattle.shape.specs.Laws.Reading.{made-at}
 use Rattle.relocate.specs.Runs.Laws.{same-entries}
@@ -240,6 +241,24 @@ module _
         }))
         (ring-of-agree ws vs ce (counts .edges .base) (counts .edges .bound) x (columns (4 * ce + x) (omega arith))
         (λ some-last. columns (2 * ce + getD ws (4 * ce + x) 0) (omega arith)) (λ e m. columns (2 * ce + e) (omega arith)))
+
+    -- the words that an operation of a strip leaves
+    pub relabelled-kept : AxisKept ws vs ce cn (counts .nodes .bound) (counts .nodes .bound) (counts .edges .bound)
+    relabelled-kept =
+        record {
+          ends = λ i l h. done .kept i (λ m. let low = edges i m in omega arith);
+          adjacency = λ i l h. columns i l;
+          next = λ i l h. columns i (omega arith);
+          links = λ i l h. columns i (omega arith);
+          last = λ i l h. columns i (omega arith);
+          first = λ i l h. columns i (omega arith);
+          tail = λ i l h. columns i (omega arith);
+          count = λ i l h. columns i (omega arith);
+          mark = λ i l h. columns i (omega arith);
+          marks = λ i l h. inl (columns i (omega arith));
+          new-marks = λ i l h. absurd (omega arith);
+          offsets = λ i l. columns i (omega arith);
+        }
 
     -- and the rules
     pub relabelled-linked : ((x e : ℕ) → x < counts .nodes .bound → In e es → In e (ring-of ws ce (counts .edges .base) (counts .edges .bound) x) → ⊥)

@@ -1,0 +1,89 @@
+-- The fields of a store, and what is no field. "A field is a count of the record or a word of the store's own memory (no map, work or answer word) whose content
+-- can change an answer of the check or of a read of the store." `Field` names the words of a checked store that the shape and the rules read; every other word is
+-- `NoField`, and of those `Kept` and `Renewed` say which a call leaves. That no other word is read is `fields-shape` of Laws.Fields. That no field is left to the
+-- program, so that two outcomes of one call have `SameFields`, is Agreeing of crates strip, compact and image, from Laws.Agreeing.
+use Prim.Native.Nat.{ℕ, _+_, _*_, _≤_, _<_}
+use mathlib.Core.Path.{_≡_}
+use mathlib.Core.Logic.{_≢_}
+use mathlib.Core.List.{List}
+use lib.ListN.{length, getD}
+use Rattle.plain.specs.declared.TraversalDirection.{TraversalDirection}
+use Rattle.plain.specs.declared.Counts.{Counts}
+use Rattle.shape.specs.Columns.{cell, tail-at, count-at, mark-at}
+use Rattle.shape.specs.Chains.{In}
+use Rattle.shape.specs.Shape.{Words, lengths-of, axis-words, run-list, ring-of}
+
+-- the columns of an axis
+pub data Column : Type 0 where
+  ends : Column
+  adjacency : Column
+  next : Column
+  links : Column
+  last : Column
+  first : Column
+  tail : Column
+  count : Column
+  marks : Column
+  offsets : Column
+
+-- where a column begins
+abbrev pub begins : ℕ → ℕ → Column → ℕ
+begins ce cn ends = 0
+begins ce cn adjacency = ce
+begins ce cn next = 2 * ce
+begins ce cn links = 3 * ce
+begins ce cn last = 4 * ce
+begins ce cn first = 4 * ce + cn
+begins ce cn tail = 4 * ce + 2 * cn
+begins ce cn count = 4 * ce + 3 * cn
+begins ce cn marks = 4 * ce + 4 * cn
+begins ce cn offsets = 4 * ce + 5 * cn
+
+-- word x of a column is a field
+abbrev pub AxisField : List ℕ → ℕ → ℕ → Counts → Column → ℕ → Type 0
+AxisField ws ce cn counts ends e = e < counts .edges .bound
+AxisField ws ce cn counts adjacency i = i < counts .edges .base
+-- an entry of a ring
+AxisField ws ce cn counts next e = (x : ℕ) × (x < counts .nodes .bound) × In e (ring-of ws ce (counts .edges .base) (counts .edges .bound) x)
+-- an entry of a run, but its last
+AxisField ws ce cn counts links e = (x : ℕ) × (x < counts .nodes .bound) × In e (run-list ws ce cn x) × (e ≢ tail-at ws ce cn x)
+AxisField ws ce cn counts last x = x < counts .nodes .bound
+-- of a run that is not empty
+AxisField ws ce cn counts first x = (x < counts .nodes .bound) × (mark-at ws ce cn x ≢ 0) × (count-at ws ce cn x ≢ 0)
+AxisField ws ce cn counts tail x = (x < counts .nodes .bound) × (mark-at ws ce cn x ≢ 0) × (count-at ws ce cn x ≢ 0)
+-- of a run
+AxisField ws ce cn counts count x = (x < counts .nodes .bound) × (mark-at ws ce cn x ≢ 0)
+AxisField ws ce cn counts marks x = x < counts .nodes .bound
+-- none where both base counts are 0
+AxisField ws ce cn counts offsets x = (x ≤ counts .nodes .base) × ((counts .nodes .base ≡ 0) × (counts .edges .base ≡ 0) → ⊥)
+
+-- a word of a store's memory
+pub data Place : Type 0 where
+  node-payload : ℕ → Place
+  edge-payload : ℕ → Place
+  node-bits : ℕ → Place
+  edge-bits : ℕ → Place
+  axis-word : TraversalDirection → Column → ℕ → Place
+
+abbrev pub word-at : Words → Place → ℕ
+word-at w (node-payload x) = getD (w .nodes) x 0
+word-at w (edge-payload e) = getD (w .edges) e 0
+word-at w (node-bits i) = getD (w .live-nodes) i 0
+word-at w (edge-bits i) = getD (w .live-edges) i 0
+word-at w (axis-word d c x) = cell (axis-words d w) (begins (length (w .edges)) (length (w .nodes)) c) x
+
+abbrev pub Field : Words → Place → Type 0
+Field w (node-payload x) = x < w .counts .nodes .bound
+Field w (edge-payload e) = e < w .counts .edges .bound
+Field w (node-bits i) = 64 * i < w .counts .nodes .bound
+Field w (edge-bits i) = 64 * i < w .counts .edges .bound
+Field w (axis-word d c x) = AxisField (axis-words d w) (length (w .edges)) (length (w .nodes)) (w .counts) c x
+
+abbrev pub NoField : Words → Place → Type 0
+NoField w p = Field w p → ⊥
+
+-- Every field of w is in v as it is in w.
+pub record SameFields (w v : Words) : Type 0 where
+  pub counts : v .counts ≡ w .counts
+  pub lengths : lengths-of v ≡ lengths-of w
+  pub words : (p : Place) → Field w p → word-at v p ≡ word-at w p
