@@ -15,3 +15,4 @@ pub mod Answering
 pub mod Calls
 pub mod WriteCases
 pub mod ReadCases
+pub mod Refuted

@@ -195,7 +195,7 @@ fn place(
     }
 }
 
-// The answer, or "a lent slice too short: 2, length needed".
+// The answer, or "a lent slice too short | 2 | length needed | everything".
 fn lacking(needs: usize, has: usize, rest: Answer) -> Answer
     ensures { λ r. ⌜ r ≡ lacking-of needs has rest ⌝ }
 {
