@@ -13,6 +13,7 @@ pub mod Directions
 pub mod Reading
 pub mod Answering
 pub mod Calls
+pub mod Agreeing
 pub mod WriteCases
 pub mod ReadCases
 pub mod Refuted
