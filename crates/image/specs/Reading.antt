@@ -31,7 +31,7 @@ use Rattle.store.specs.Operations.{SameLengths}
 use Rattle.compact.specs.Slots.{rewritten-range}
 use Rattle.compact.specs.Bases.{rebuilt-renewed}
 use Rattle.compact.specs.Holding.{based, front, Holding, reset-same, reset-word, sized-as}
-use Rattle.image.specs.Fields.{Room}
+use Rattle.bits.specs.Fields.{Room}
 use Rattle.image.specs.Places.{records-small, entries-small}
 use Rattle.image.specs.Spread.{spread, SpreadFits, spread-in, fields-spread, spread-at, sources-spread, targets-spread, payloads-spread}
 use Rattle.image.specs.Directions.{AxisReadable, AxisRead, base-readable, read-base}

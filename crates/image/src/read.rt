@@ -1,7 +1,7 @@
 // Reading an image into a store's memory: the bytes are checked, and what they hold is put in place of all that was there, all of it in the base. The result is
 // what compaction leaves.
 
-use crate::bits;
+
 use crate::check;
 use crate::places;
 use adjacency::index;

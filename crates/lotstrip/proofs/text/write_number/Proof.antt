@@ -1,7 +1,7 @@
 -- `lotstrip::text::write_number` meets its contract.
 use native.Mathlib.Omega.{arith}
 use borrow.Author.Needs.{needs}
-use Rattle.image.specs.Put.{put-length}
+use Rattle.bits.specs.Put.{put-length}
 use Rattle.lotstrip.specs.Appending.{append-one}
 use Rattle.lotstrip.proofs.text.write_number.Statement.{statement}
 use Rattle.lotstrip.proofs.text.write_number.Tie as tie
