@@ -2,9 +2,10 @@
 
 pub mod step;
 
+use memory::Lengths;
+use memory::Limits;
 use plain::Changed;
 use plain::Counts;
-use plain::LIMIT;
 use plain::Operation;
 use plain::Slots;
 use plain::numbers;
@@ -14,27 +15,8 @@ ghost use lib.ListN.{length, getD, set};
 ghost use Rattle.plain.specs.declared.Operation.the-variants.{Unknown};
 ghost use Rattle.plain.specs.Operations.{operations};
 ghost use Rattle.shape.specs.Shape.{store};
-ghost use Rattle.strip.specs.Fresh.{empty-counts, FreshOf};
+ghost use Rattle.strip.specs.Fresh.{FreshOf};
 ghost use Rattle.strip.specs.Strip.{Runnable, Ran, StripOf};
-
-// An answer beside the counts of a store with no slot.
-fn empty(number: u32, value: usize) -> Changed
-    ensures { λ r. ⌜ r ≡ record { number = number; value = value; counts = empty-counts } ⌝ }
-{
-    let slots = Slots {
-        bound: 0,
-        base: 0,
-        live: 0,
-    };
-    Changed {
-        number,
-        value: value as u64,
-        counts: Counts {
-            nodes: slots,
-            edges: slots,
-        },
-    }
-}
 
 // A fresh store in the memory lent: "13, nodes before edges, then 2". It is empty with bounds 0, so that no word of it is a field, and none is written.
 pub fn fresh(
@@ -49,31 +31,30 @@ pub fn fresh(
         (store (r .counts) (now (nodes .entry)) (now (edges .entry)) (now («live_nodes» .entry)) (now («live_edges» .entry)) (now (outgoing .entry)) (now (incoming .entry)))
         (r .number) (r .value) ⌝ }
 {
-    let n = nodes.len();
-    let e = edges.len();
-    let limit = LIMIT as usize;
-    if limit < n {
-        return empty(numbers::ABOVE_LIMIT, n);
+    let told = memory::fresh_answer(
+        Limits::BOX,
+        Lengths {
+            nodes: nodes.len(),
+            edges: edges.len(),
+            live_nodes: live_nodes.len(),
+            live_edges: live_edges.len(),
+            outgoing: outgoing.len(),
+            incoming: incoming.len(),
+        },
+    );
+    let slots = Slots {
+        bound: 0,
+        base: 0,
+        live: 0,
+    };
+    Changed {
+        number: told.number,
+        value: told.value,
+        counts: Counts {
+            nodes: slots,
+            edges: slots,
+        },
     }
-    if limit < e {
-        return empty(numbers::ABOVE_LIMIT, e);
-    }
-    let node_words = (n + 63) / 64;
-    if live_nodes.len() < node_words {
-        return empty(numbers::TOO_SHORT, node_words);
-    }
-    let edge_words = (e + 63) / 64;
-    if live_edges.len() < edge_words {
-        return empty(numbers::TOO_SHORT, edge_words);
-    }
-    let axis_words = 4 * e + 6 * n + 1;
-    if outgoing.len() < axis_words {
-        return empty(numbers::TOO_SHORT, axis_words);
-    }
-    if incoming.len() < axis_words {
-        return empty(numbers::TOO_SHORT, axis_words);
-    }
-    empty(numbers::DONE, 0)
 }
 
 // Operation i of a strip, from its four words.
