@@ -13,15 +13,18 @@ use Rattle.memory.specs.declared.Limits.{Limits}
 abbrev pub caps : ℕ → ℕ → Capacities
 caps nodes edges = record { nodes = nodes; edges = edges }
 
--- the lengths of a store's slices
-abbrev pub measured : Measures → Lengths
-measured l = record {
-  capacities = caps (l .nodes) (l .edges);
-  live-nodes = l .«live_nodes»;
-  live-edges = l .«live_edges»;
-  outgoing = l .outgoing;
-  incoming = l .incoming;
+-- the lengths of a store's slices, in parameter order
+abbrev pub lengths : ℕ → ℕ → ℕ → ℕ → ℕ → ℕ → Lengths
+lengths nodes edges live-nodes live-edges outgoing incoming = record {
+  capacities = caps nodes edges;
+  live-nodes = live-nodes;
+  live-edges = live-edges;
+  outgoing = outgoing;
+  incoming = incoming;
 }
+
+abbrev pub measured : Measures → Lengths
+measured l = lengths (l .nodes) (l .edges) (l .«live_nodes») (l .«live_edges») (l .outgoing) (l .incoming)
 
 abbrev pub limits-of : Limits → Capacities
 limits-of l = caps (l .nodes) (l .edges)
