@@ -41,7 +41,7 @@ ring-left next at last = cond (eqb at NONE) [] (until (word next) last (length n
 unfoldable pub remaining : Bool → List ℕ → List ℕ → AdjacencyCursor → List ℕ
 remaining linked entries next c = part-left linked entries (c .base) (c .«base_end») ++ ring-left next (c .delta) (c .«delta_last»)
 
--- "`EXHAUSTED` (0, 0, NONE, NONE) ends either"
+-- `EXHAUSTED` "with NONE ring ends": nothing is left in either part
 abbrev pub exhausted : AdjacencyCursor
 exhausted = record { base = 0; «base_end» = 0; delta = NONE; «delta_last» = NONE }
 
@@ -95,7 +95,7 @@ pub record Ready (linked : Bool) (entries next : List ℕ) (c : AdjacencyCursor)
 
 -- ---- the next listed entry
 
--- whether an edge is listed: "`live` is `None` for a store with no removed edges at all, which spares every scan one bitset probe per edge"
+-- whether an edge is listed: a store with no removed edge is not asked for live bits, which spares each entry a look, as in the Rust
 abbrev pub listed : Bool → List Bool → ℕ → Bool
 listed tombstoned flags e = cond tombstoned (live-in flags e) true
 

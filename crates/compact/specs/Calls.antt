@@ -61,7 +61,7 @@ pub record CompactOf (w : Words) (node-map edge-map work : List ℕ) (number val
   pub checked : number ≡ 0 → Checked v
   pub reached : number ≡ 0 → Reached (shape-of v)
   pub canonical : number ≡ 0 → Canonical v
-  -- "compacting again changes no field": not a word
+  -- compacting again changes no word and no count, field or not
   pub again : number ≡ 0 → Canonical w → v ≡ w
   pub lengths : SameLengths w v
   pub refused-keeps : (number ≡ 0 → ⊥) → v ≡ w

@@ -53,7 +53,7 @@ module _ (w : Words) (node-map edge-map work : List ℕ) where
     spared = nothing-spared w;
   }
 
-  -- "words are no store: 1, rule 1 to 7"
+  -- "words are no store | 1 | rule 1 to 7 | everything"
   pub compact-judged : {rule : ℕ} → Judged w rule → (rule ≡ 0 → ⊥) → CompactOf w node-map edge-map work 1 rule w node-map edge-map work
   compact-judged {rule} j broke = by rule (j .first) broke
     where
@@ -80,7 +80,7 @@ module _ (w : Words) (node-map edge-map work : List ℕ) where
     many-edges : live-edges (settled (shape-of w)) ≡ w .counts .edges .live
     many-edges = ap live-count (settled-edge-flags w) ∙ sym (j .checked sound .edges-live .live-right)
 
-    -- "a lent slice too short: 2, length needed"
+    -- "a lent slice too short | 2 | length needed | everything"
     abbrev short : ℕ → Compacted
     short needed = record { number = 2; value = needed; node-map = []; edge-map = []; work = []; after = seen w }
 

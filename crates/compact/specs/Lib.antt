@@ -12,3 +12,4 @@ pub mod Compacted
 pub mod Calls
 pub mod Again
 pub mod Entry
+pub mod Refuted

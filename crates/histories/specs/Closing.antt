@@ -52,7 +52,8 @@ pub record Done {w : Words} (c : Closing w) : Type 0 where
 abbrev pub image-of : {w : Words} → Closing w → List ℕ
 image-of c = take (c .writing .answer .value) (c .writing .exit)
 
--- "Compacting again changes no field and gives identity maps", and an identity map "holds i at each i below the bound". Not a word and not a count is changed.
+-- Compacting again: no field is changed, for not a word and not a count is, and the maps are identity maps. "A field is a count of the record or a word of the
+-- store's own memory .. whose content can change an answer of the check or of a read of the store; an identity map holds i at each i below the bound."
 pub record NothingMore {w : Words} (a : Compacting w) : Type 0 where
   pub zero-or-two : (a .number ≡ 0) ⊎ (a .number ≡ 2)
   pub unchanged : a .after ≡ w
@@ -93,5 +94,5 @@ pub record Closes (s : State) {w : Words} (c : Closing w) : Type 0 where
   -- the image is that of the survivors, and the value is its length
   pub imaged : Done c → image-of c ≡ image (survivors (s .lists))
   pub image-length : Done c → c .writing .answer .value ≡ length (image-of c)
-  -- "compacting again .."
+  -- compacting again
   pub again : c .compacting .number ≡ 0 → (a : Compacting (c .compacting .after)) → NothingMore a

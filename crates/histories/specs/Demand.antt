@@ -1,5 +1,6 @@
 -- DEMAND 3, one theorem about two whole lists of calls. Document 01, sentence by sentence:
--- "It is one claim about two whole lists of calls, not one for each call." `demand-3`: of any two runs, in any memory, with whatever is lent.
+-- "It is one claim about two whole lists of calls, not one for each call." `demand-3`: of any two runs, in any memory, with whatever is lent, each from a fresh
+-- store on (`history`), or from an image read into memory that may hold anything: only "a checked store that neither a fresh one nor an image led to" is left out.
 -- "Every number answered in them follows from the plain lists and the calls' arguments, lengths included, never from the store's counts or words": `answers` and
 -- `numbers` of `Follows`; of the closing calls `Compacts` and `Writes`.
 -- "a refused call or operation leaves the plain lists and the store as they were": `refusals` of `Follows`.
@@ -8,36 +9,41 @@
 -- every word, field or not.
 -- "an identity map holds i at each i below the bound": `node-map` and `edge-map` of `NothingMore`.
 -- "Order and image equality are measured on the plain lists, never on the port's own walks": `images`, by the survivors of the history's plain lists.
-use mathlib.Core.Path.{_≡_, sym, ap, subst, subst₂, _∙_}
+use mathlib.Core.Path.{_≡_, refl, sym, ap, subst, subst₂, _∙_}
 use mathlib.Core.Logic.{_↔_}
 use mathlib.Core.List.{List, map}
 use Rattle.plain.specs.Step.{State}
 use Rattle.plain.specs.Compaction.{survivors}
 use Rattle.plain.specs.Image.{image}
-use Rattle.plain.specs.Calls.{fresh-state}
-use Rattle.plain.specs.History.{history}
+use Rattle.plain.specs.History.{history-from, history}
 use Rattle.plain.specs.Laws.ImageLaws.{image-injective}
 use Rattle.shape.specs.Shape.{Words, capacities, shape-of, settled}
 use Rattle.shape.specs.Checked.{Checked}
-use Rattle.histories.specs.Runs.{Request, call-of, Turn, Ran, final}
+use Rattle.histories.specs.Runs.{Request, call-of, Turn, Origin, FreshStore, first-state, Ran, final}
 use Rattle.histories.specs.Follows.{Follows}
 use Rattle.histories.specs.Closing.{Closing, Done, image-of, Closes}
 use Rattle.histories.specs.Laws.Following.{seen-is, run-follows}
 use Rattle.histories.specs.Laws.Closing.{checked-closes, seen-sound}
 
--- the history of requests in memory w: of the capacities and the calls, of no count and no word
-abbrev pub history-of : Words → List Request → State
-history-of w requests = history (capacities w) (map call-of requests)
+-- the history of requests in memory w: of the origin, the capacities and the calls, of no count and no word
+abbrev pub history-of : Origin → Words → List Request → State
+history-of origin w requests = history-from (capacities w) (first-state origin) (map call-of requests)
+
+-- from a fresh store on it is the `history` of the definitions
+pub history-of-fresh : (w : Words) (requests : List Request) → history-of FreshStore w requests ≡ history (capacities w) (map call-of requests)
+unfolding history
+history-of-fresh w requests = refl
 
 -- What holds of two runs, each closed by a compaction and an image writing: "It is one claim about two whole lists of calls, not one for each call."
-pub record Demand3 (w₁ w₂ : Words) (requests₁ requests₂ : List Request) (turns₁ turns₂ : List Turn) (c₁ : Closing (final w₁ turns₁)) (c₂ : Closing (final w₂ turns₂))
-    : Type 0 where
-  pub first : Follows (capacities w₁) fresh-state w₁ requests₁ turns₁
-  pub second : Follows (capacities w₂) fresh-state w₂ requests₂ turns₂
-  pub first-closes : Closes (history-of w₁ requests₁) c₁
-  pub second-closes : Closes (history-of w₂ requests₂) c₂
+pub record Demand3 (origin₁ origin₂ : Origin) (w₁ w₂ : Words) (requests₁ requests₂ : List Request) (turns₁ turns₂ : List Turn)
+    (c₁ : Closing (final w₁ turns₁)) (c₂ : Closing (final w₂ turns₂)) : Type 0 where
+  pub first : Follows (capacities w₁) (first-state origin₁) w₁ requests₁ turns₁
+  pub second : Follows (capacities w₂) (first-state origin₂) w₂ requests₂ turns₂
+  pub first-closes : Closes (history-of origin₁ w₁ requests₁) c₁
+  pub second-closes : Closes (history-of origin₂ w₂ requests₂) c₂
   -- where the closing calls answer 0, the images are equal, length and bytes, exactly when the survivors are equal: payloads, ends, and both lists of each lot
-  pub images : Done c₁ → Done c₂ → (image-of c₁ ≡ image-of c₂) ↔ (survivors (history-of w₁ requests₁ .lists) ≡ survivors (history-of w₂ requests₂ .lists))
+  pub images : Done c₁ → Done c₂
+      → (image-of c₁ ≡ image-of c₂) ↔ (survivors (history-of origin₁ w₁ requests₁ .lists) ≡ survivors (history-of origin₂ w₂ requests₂ .lists))
 
 -- The image half, of any two checked stores, wherever they come from: where the closing calls answer 0, the images are equal exactly when what survives is equal, in
 -- the order that compaction sees.
@@ -51,9 +57,9 @@ checked-images {w₁} {w₂} k₁ k₂ c₁ c₂ d₁ d₂ =
     )
 
 -- every two runs, closed in any way
-pub demand-3 : {w₁ w₂ : Words} {requests₁ requests₂ : List Request} {turns₁ turns₂ : List Turn} → Ran w₁ requests₁ turns₁ → Ran w₂ requests₂ turns₂
-    → (c₁ : Closing (final w₁ turns₁)) (c₂ : Closing (final w₂ turns₂)) → Demand3 w₁ w₂ requests₁ requests₂ turns₁ turns₂ c₁ c₂
-unfolding history
+pub demand-3 : {origin₁ origin₂ : Origin} {w₁ w₂ : Words} {requests₁ requests₂ : List Request} {turns₁ turns₂ : List Turn}
+    → Ran origin₁ w₁ requests₁ turns₁ → Ran origin₂ w₂ requests₂ turns₂ → (c₁ : Closing (final w₁ turns₁)) (c₂ : Closing (final w₂ turns₂))
+    → Demand3 origin₁ origin₂ w₁ w₂ requests₁ requests₂ turns₁ turns₂ c₁ c₂
 demand-3 ran₁ ran₂ c₁ c₂ =
     let f₁ = run-follows ran₁ in
     let f₂ = run-follows ran₂ in

@@ -1,8 +1,10 @@
--- Runs: calls made one after the other on one store's memory, from a fresh store on. What a call came to is what its entry's contract says and nothing else: the
--- records `FreshOf`, `StripOf`, `CompactOf` and `ReadOf` are those that the contracts cite.
+-- Runs: calls made one after the other on one store's memory, from a fresh store on or from an image read into any memory. What a call came to is what its
+-- entry's contract says and nothing else: the records `FreshOf`, `StripOf`, `CompactOf` and `ReadOf` are those that the contracts cite.
 use Prim.Native.Nat.{ℕ}
 use mathlib.Core.List.{List, [], _∷_}
 use lib.ListN.{length}
+use Rattle.plain.specs.Step.{State}
+use Rattle.plain.specs.Calls.{fresh-state, read-state}
 use Rattle.plain.specs.History.{Call, Strip, Compaction, Reading}
 use Rattle.shape.specs.Shape.{Words}
 use Rattle.strip.specs.Fresh.{FreshOf}
@@ -59,9 +61,27 @@ pub data Turns : Words → List Request → List Turn → Type 0 where
   turn : {w : Words} {request : Request} {t : Turn} {requests : List Request} {turns : List Turn} → Turned w request t → Turns (t .store) requests turns
       → Turns w (request ∷ requests) (t ∷ turns)
 
--- A run: "from a fresh store", made in memory w.
-pub record Ran (w : Words) (requests : List Request) (turns : List Turn) : Type 0 where
-  pub made : FreshOf w 0 0
+-- What a run starts from. Only "in a checked store that neither a fresh one nor an image led to" may compaction change the order of a list, so that the claim is
+-- due of stores that came from either.
+pub data Origin : Type 0 where
+  -- a fresh store
+  FreshStore : Origin
+  -- an image's bytes, read into memory that may hold anything
+  ImageOf : List ℕ → Origin
+
+-- the state that it has then: of the bytes alone, never of what the memory held
+abbrev pub first-state : Origin → State
+first-state FreshStore = fresh-state
+first-state (ImageOf bytes) = read-state bytes
+
+-- Store w is made so: the entry answered 0.
+pub data Made (w : Words) : Origin → Type 0 where
+  made-fresh : FreshOf w 0 0 → Made w FreshStore
+  made-by-reading : {memory : Words} {bytes : List ℕ} {value : ℕ} → ReadOf memory bytes 0 value w → Made w (ImageOf bytes)
+
+-- A run: a store w is made, and calls on it come to these.
+pub record Ran (origin : Origin) (w : Words) (requests : List Request) (turns : List Turn) : Type 0 where
+  pub made : Made w origin
   pub went : Turns w requests turns
 
 -- the store in the end

@@ -10,3 +10,4 @@ pub mod Answering
 pub mod Calls
 pub mod WriteCases
 pub mod ReadCases
+pub mod Refuted

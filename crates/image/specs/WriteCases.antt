@@ -23,7 +23,8 @@ use Rattle.image.specs.Calls.{written-image}
 use Rattle.image.specs.Writing.{Proper, ImageFits, column-bits, length-column-bits}
 use Rattle.image.specs.Stored.{columns-of, Stored, image-stored}
 
--- Bytes into a lent slice: "a lent slice too short: 2, length needed", and nothing written; else they are at its start, and their number is the value.
+-- Bytes into a lent slice: "a lent slice too short | 2 | length needed | everything", and nothing written; else they are at its start, and the value is their
+-- number.
 pub record BytesLent (bytes entry : List ℕ) (answer : Answer) (exit : List ℕ) : Type 0 where
   pub number : answer .number ≡ listing (length entry) bytes .number
   pub value : answer .value ≡ listing (length entry) bytes .value
@@ -76,7 +77,7 @@ module _ {n m : ℕ} {nodes edges outgoing incoming : List ℕ} (h : Stored n m 
 -- ---- the entry
 
 module _ {w : Words} {rule : ℕ} (j : Judged w rule) (h : rule ≡ 0) {entry : List ℕ} where
-  -- "image of a store not compact: 11, NONE"
+  -- "image of a store not compact | 11 | NONE | everything"
   pub image-refused : is-compact (shape-of w) ≡ false → Replied w written-image entry (record { number = 11; value = NONE }) entry
   image-refused not = replies j h (record { number = 11; value = NONE; words = [] }) (write-not-compact (state-of (shape-of w)) (length entry) not) refl
 

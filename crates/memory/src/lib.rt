@@ -27,7 +27,7 @@ pub struct Limits {
 }
 
 impl Limits {
-    // "Capacity above 32,768: 13."
+    // "capacity above 32,768 | 13"
     pub const BOX: Limits = Limits {
         nodes: LIMIT,
         edges: LIMIT,
@@ -51,7 +51,7 @@ pub fn axis_words(nodes: usize, edges: usize) -> usize
     4 * edges + 6 * nodes + 1
 }
 
-// The answer, or "a lent slice too short: 2, length needed".
+// The answer, or "a lent slice too short | 2 | length needed".
 fn lacking(needs: usize, has: usize, rest: Answer) -> Answer
     ensures { λ r. ⌜ r ≡ lacking-of needs has rest ⌝ }
 {

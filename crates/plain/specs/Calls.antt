@@ -19,7 +19,7 @@ use Rattle.plain.specs.Memory.{Slice, first-short, Lengths, other-slices
 
 -- ---- number 1
 
--- "words are no store: 1, rule 1 to 7": first of all refusals. `rule` is the first broken rule of the check, 0 where the words are a store.
+-- "words are no store | 1 | rule 1 to 7 | everything": first of all refusals. `rule` is the first broken rule of the check, 0 where the words are a store.
 abbrev pub judged : ℕ → Answer → Answer
 judged zero answer = answer
 judged (suc rule) answer = record { number = no-store; value = suc rule }
@@ -32,7 +32,7 @@ abbrev pub judged-record : ℕ → Record → Record
 judged-record zero r = r
 judged-record (suc rule) r = no-record no-store (suc rule)
 
--- "The check: 1."
+-- "The check, the yes or no reads of a store, bounds and counts: 1."
 unfoldable pub check : ℕ → Answer
 check rule = judged rule (record { number = done; value = 0 })
 
@@ -54,7 +54,7 @@ strip caps s words room =
     (cond (ltb room needed) (record { number = too-short; value = needed; words = []; after = s })
     (record { number = done; value = 0; words = answers caps s ops; after = run caps s ops }))
 
--- "Words are no store: 1 .. everything", a strip among the calls
+-- "words are no store | 1 | rule 1 to 7 | everything", of a strip
 abbrev pub judged-strip : ℕ → State → Stripped → Stripped
 judged-strip zero s stripped = stripped
 judged-strip (suc rule) s stripped = record { number = no-store; value = suc rule; words = []; after = s }
@@ -79,7 +79,7 @@ within limits number caps answer =
 unfoldable pub fresh-within : Capacities → ℕ → Lengths → Answer
 fresh-within limits number l = within limits number (l .capacities) (short-answer (first-short (other-slices l)))
 
--- "Capacity above 32,768: 13, that capacity."
+-- "capacity above 32,768 | 13 | that capacity | everything"
 abbrev pub limits : Capacities
 limits = record { nodes = LIMIT; edges = LIMIT }
 
@@ -122,7 +122,7 @@ compacting none s =
 unfoldable pub compaction : State → ℕ → ℕ → ℕ → Compacted
 compaction s node-map edge-map work = compacting (first-short (compaction-slices (s .lists) node-map edge-map work)) s
 
--- "Words are no store: 1 .. everything"
+-- "words are no store | 1 | rule 1 to 7 | everything", of a compaction
 abbrev pub judged-compaction : ℕ → State → Compacted → Compacted
 judged-compaction zero s compacted = compacted
 judged-compaction (suc rule) s compacted =

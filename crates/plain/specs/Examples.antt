@@ -97,6 +97,10 @@ pub record Examples : Type 0 where
       × (fresh (exact (capacities 32_768 32_768)) ≡ record { number = 0; value = 0 })
       × (fresh (exact (capacities 32_769 32_768)) ≡ record { number = 13; value = 32_769 })
       × (fresh (exact (capacities 32_768 32_769)) ≡ record { number = 13; value = 32_769 })
+      -- likewise for reading, where 13 comes before 12
+      × (read-image (exact (capacities 32_768 32_768)) (0 ∷ 0 ∷ 0 ∷ 0 ∷ []) ≡ record { number = 0; value = 0 })
+      × (read-image (exact (capacities 32_769 32_768)) (0 ∷ 0 ∷ 0 ∷ 1 ∷ []) ≡ record { number = 13; value = 32_769 })
+      × (read-image (exact (capacities 32_768 32_769)) (0 ∷ 0 ∷ 0 ∷ 1 ∷ []) ≡ record { number = 13; value = 32_769 })
   -- M12: the program `lotstrip`.
   pub m12 : lotstrip sample
       ≡ codes "0 0 0\n1 0 1\n2 0 0\n3 0 1\n4 0 0\n5 0 1\n000200020000000700000009400000015000000069\n"
@@ -114,6 +118,6 @@ examples = record {
   m8 = refl;
   m9 = (refl, refl, refl);
   m10 = refl;
-  m11 = (refl, refl, refl, refl, refl);
+  m11 = (refl, refl, refl, refl, refl, refl, refl, refl);
   m12 = refl;
 }

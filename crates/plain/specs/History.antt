@@ -10,7 +10,7 @@ use Rattle.plain.specs.Memory.{exact}
 use Rattle.plain.specs.Reads.{Reply}
 use Rattle.plain.specs.Calls.{strip, compaction, read-image, read-state, write-image, fresh-state}
 
--- A call of a history, with the lengths of what is lent: "strips, compactions and image readings".
+-- A call of a history, with the lengths of what is lent: "strips, compaction, image reading".
 pub data Call : Type 0 where
   -- a strip's words, and the length of the answer slice
   Strip : List ℕ → ℕ → Call
@@ -47,7 +47,7 @@ unfoldable pub called-from : Capacities → State → List Call → List Called
 called-from caps s [] = []
 called-from caps s (c ∷ calls) = call caps s c ∷ called-from caps (call caps s c .after) calls
 
--- "from a fresh store"
+-- from a fresh store
 unfoldable pub history : Capacities → List Call → State
 history caps calls = history-from caps fresh-state calls
 

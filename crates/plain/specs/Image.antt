@@ -61,7 +61,7 @@ outs-start n m = edges-start n + record-width (least-width n) * m
 abbrev pub ins-start : ℕ → ℕ → ℕ
 ins-start n m = outs-start n m + least-width m * m
 
--- how many bits an image of n nodes and m edges has before its padding: "m entries a direction"
+-- how many bits an image of n nodes and m edges has before its padding, m entries a direction
 abbrev pub image-size : ℕ → ℕ → ℕ
 image-size n m = ins-start n m + least-width m * m
 

@@ -1,8 +1,9 @@
--- The numbers that calls and operations answer: the table of document 01, "The strip". Numbers 1, 2, 3, 11, 12 and 13 are a call's and leave
--- "everything" as it was; 4 to 10 are an operation's and leave the "store".
+-- The numbers that calls and operations answer: the table of document 01, "The strip". Numbers 1, 2, 3, 11, 12 and 13 are a call's alone and leave
+-- "everything" as it was; 4 to 10 are an operation's and leave the "store". Of these the reads answer 5, 7 and 8 too, "walk: 1, 5, 2", "live record 1, 7, 8",
+-- and write nothing then.
 use Prim.Native.Nat.{ℕ}
 
--- "NONE = 4,294,967,295 for 'none'."
+-- "`Option<Id>` becomes a `u32`, with NONE = 4,294,967,295" for none
 abbrev pub NONE : ℕ
 NONE = 4_294_967_295
 

@@ -35,12 +35,12 @@ pub record Reply : Type 0 where
   pub value : ℕ
   pub words : List ℕ
 
--- "A read call that refuses writes nothing at all."
+-- "A read call .. that refuses writes nothing at all."
 abbrev pub reply-unless : ℕ → Reply → Reply
 reply-unless zero reply = reply
 reply-unless (suc number) reply = record { number = suc number; value = NONE; words = [] }
 
--- "A lent slice too short: 2, length needed."
+-- "a lent slice too short | 2 | length needed | everything"
 abbrev pub lent : ℕ → ℕ → List ℕ → Reply
 lent room value words =
     cond (leb (length words) room) (record { number = done; value = value; words = words })
@@ -94,7 +94,7 @@ abbrev pub live-record-answer : Plain → ℕ → Option EdgeSlot → Record
 live-record-answer p e none = no-record out-of-range-edge NONE
 live-record-answer p e (some s) = cond (s .live) (record-of p e s) (no-record removed-edge NONE)
 
--- "The wrapper `EdgeView::edge` refuses them." "Live record 1, 7, 8."
+-- "the wrapper `EdgeView::edge` .. refuses them"; "live record 1, 7, 8"
 unfoldable pub live-edge-record : Plain → ℕ → Record
 live-edge-record p e = live-record-answer p e (edge-slot p e)
 
@@ -172,7 +172,7 @@ one-of (e ∷ es) value = member value (e ∷ es)
 abbrev pub find-fault : Plain → ℕ → ℕ → ℕ
 find-fault p a b = cond (eqb (node-missing p a) 0) (node-missing p b) (node-missing p a)
 
--- What finding may answer: "some live edge from one node to another, or NONE (still number 0) if there is none and only then. Which edge is left open."
+-- What finding may answer: "some live edge from one node to another, or NONE (still number 0) if there is none and only then .. Which edge is left open."
 unfoldable pub may-find : Plain → ℕ → ℕ → Answer → Bool
 may-find p a b answer =
     eqb (answer .number) (find-fault p a b)

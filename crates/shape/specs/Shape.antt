@@ -31,7 +31,7 @@ base-of ws ce cn bn x = cond (ltb x bn) (between (cell ws ce) (offset-at ws ce c
 unfoldable pub run-list : List ℕ → ℕ → ℕ → ℕ → List ℕ
 run-list ws ce cn x = cond (eqb (mark-at ws ce cn x) 0) [] (chain (cell ws (3 * ce)) (count-at ws ce cn x) (first-at ws ce cn x))
 
--- the run, or none: "a mark 'has a run' per node: an empty run still hides the base"
+-- the run, or none where the node has no mark: "an empty run still hides the base"
 unfoldable pub run-of : List ℕ → ℕ → ℕ → ℕ → Option (List ℕ)
 run-of ws ce cn x = cond (eqb (mark-at ws ce cn x) 0) none (some (run-list ws ce cn x))
 

@@ -1,5 +1,5 @@
 -- The shape's own step: what each operation does to base parts, runs and rings, as the Rust does it, so that run contents, dead entries included, are fixed.
--- L is "keep the live entries", R the run, B the base part and C the ring of a node in one direction:
+-- L keeps the live entries, R is the run, B the base part and C the ring of a node in one direction:
 --   taken(x) = (R(x) if x has a run, else L(B(x))) ++ L(C(x)); then C(x) := []
 --   sweep(r) = L(r) if the length of r is 1, 2, 4, 8, ..; else r
 --   redirect e from old to new, old ≠ new: R(old) := sweep(taken(old)) without e; R(new) := sweep(taken(new)) ++ [e]

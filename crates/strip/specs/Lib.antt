@@ -4,3 +4,4 @@ pub mod Faults
 pub mod Relocations
 pub mod Fresh
 pub mod Strip
+pub mod Refuted

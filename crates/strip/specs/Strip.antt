@@ -217,7 +217,7 @@ module _ (w : Words) (words entry : List ℕ) where
         spared = nothing-spared w;
       }
 
-  -- "words are no store: 1, rule 1 to 7"
+  -- "words are no store | 1 | rule 1 to 7 | everything"
   pub strip-judged : {rule : ℕ} → Judged w rule → (rule ≡ 0 → ⊥) → StripOf w words entry 1 rule w entry
   strip-judged {rule} j broke = by rule (j .first) broke
     where
@@ -231,7 +231,7 @@ module _ (w : Words) (words entry : List ℕ) where
     told : stripped w words (length entry) ≡ strip (capacities w) (state-of (shape-of w)) words (length entry)
     told = ap (λ (n : ℕ). judged-strip n (state-of (shape-of w)) (strip (capacities w) (state-of (shape-of w)) words (length entry))) (sym (j .first) ∙ sound)
 
-    -- "strip not a multiple of four: 3, its length"
+    -- "strip not a multiple of four | 3 | its length | everything"
     pub strip-ragged : (length words % 4 ≡ 0 → ⊥) → StripOf w words entry 3 (length words) w entry
     unfolding strip
     strip-ragged ragged =
@@ -242,7 +242,7 @@ module _ (w : Words) (words entry : List ℕ) where
       needed : 2 * length (operations words) ≡ length words / 2
       needed = rw (length-operations words) (omega arith)
 
-      -- "a lent slice too short: 2, length needed"
+      -- "a lent slice too short | 2 | length needed | everything"
       pub strip-short : length entry < length words / 2 → StripOf w words entry 2 (length words / 2) w entry
       unfolding strip
       strip-short short =

@@ -1,9 +1,11 @@
 pub mod Counting
 pub mod Indexing
 pub mod Ringing
+pub mod Climbing
 pub mod Marking
 pub mod Following
 pub mod Stepping
 pub mod Running
 pub mod Walking
+pub mod Flattening
 pub mod Deciding

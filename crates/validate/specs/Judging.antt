@@ -22,7 +22,7 @@ pub record Judged (w : Words) (rule : ℕ) : Type 0 where
 pub judges : {w : Words} {rule : ℕ} → rule ≡ broken w → ((x : ℕ) → getD (w .nodes) x 0 < 2 ^ 32) → ((e : ℕ) → getD (w .edges) e 0 < 2 ^ 32) → Judged w rule
 judges {w} first nodes edges = record { first = first; checked = λ h. unbroken-checked w (record { nodes = nodes; edges = edges }) (sym first ∙ h) }
 
--- "words are no store: 1, rule 1 to 7"
+-- "words are no store | 1 | rule 1 to 7 | everything"
 abbrev pub refusal : ℕ → Answer
 refusal rule = record { number = 1; value = rule }
 

@@ -1,7 +1,11 @@
 // Rule 7 for one direction: the walks, on a store that the rules before it have passed. Every entry is marked as it is passed, so that a walk that lists an edge
-// twice, or one that does not end at its node, ends the check; the live edges that no walk has listed are those that are not marked in the end.
+// twice, or one that does not end at its node, ends the check; the live edges that no walk has listed are those that are not marked in the end. Where no node is
+// removed or has a run, the walks are not followed if one pass over the compressed index and one over the edges of the delta tell that each edge is in its place.
 
+use crate::axes::words_below;
+use crate::counts::live_right;
 use crate::marks::mark;
+use crate::rings::edge_linked;
 use adjacency::cursor::AdjacencyCursor;
 use adjacency::cursor::Found;
 use adjacency::cursor::is_listed;
@@ -10,8 +14,8 @@ use liveness::is_live;
 use plain::Counts;
 ghost use mathlib.Core.Path.{_≡_};
 ghost use mathlib.Core.Bool.{true};
-ghost use Prim.Native.Nat.{_*_, _≤_};
-ghost use lib.ListN.{length};
+ghost use Prim.Native.Nat.{ℕ, _*_, _≤_, _<_};
+ghost use lib.ListN.{length, getD};
 ghost use lib.Dec.{eqb};
 ghost use Rattle.plain.specs.Lists.{all, from};
 ghost use Rattle.liveness.specs.Flags.{live-flags};
@@ -19,6 +23,7 @@ ghost use Rattle.shape.specs.Columns.{end-at};
 ghost use Rattle.adjacency.specs.Cursor.{listed, listed-left};
 ghost use Rattle.adjacency.specs.Walk.{walk-in};
 ghost use Rattle.validate.specs.Marks.{Entered, Followed};
+ghost use Rattle.validate.specs.Flat.{PlaceReadable, Placed, FlatReadable, BaseFlat, DeltaFlat};
 ghost use Rattle.validate.specs.Walks.{EntryReadable, ListReadable, WalkReadable, WalksReadable, marked-if-live, walks-test};
 
 // An entry that is listed ends at the node, by the column `ends`, and is not marked yet. Marks it where it is listed.
@@ -123,11 +128,35 @@ fn marked_if_live(words: &[u64], seen: &[u64], slots: usize, slot: usize) -> boo
     true
 }
 
-// Every live slot is marked.
+// Whether the first words are the same in two maps; only the yes is promised.
+fn words_same(words: &[u64], seen: &[u64], count: usize) -> bool
+    requires { ⌜ (count ≤ length (now words)) × (count ≤ length (now seen)) ⌝ }
+    ensures { λ r. ⌜ (r ≡ true → (i : ℕ) → i < count → getD (now (words .entry)) i 0 ≡ getD (now (seen .entry)) i 0) ⌝ }
+{
+    let mut i: usize = 0;
+    while i < count {
+        if words[i] != seen[i] {
+            return false;
+        }
+        i += 1;
+    }
+    true
+}
+
+// Every live slot is marked. In a store that passes the maps are the same, word by word; only where they are not is each slot looked at.
 fn live_marked(words: &[u64], seen: &[u64], slots: usize) -> bool
     requires { ⌜ (slots ≤ 64 * length (now words)) × (slots ≤ 64 * length (now seen)) ⌝ }
     ensures { λ r. ⌜ r ≡ all (marked-if-live (live-flags (now (words .entry)) slots) (live-flags (now (seen .entry)) slots)) (from 0 slots) ⌝ }
 {
+    let full = slots / 64;
+    if words_same(words, seen, full) {
+        if slots % 64 == 0 {
+            return true;
+        }
+        if words[full] == seen[full] {
+            return true;
+        }
+    }
     let mut e: usize = 0;
     while e < slots {
         if !marked_if_live(words, seen, slots, e) {
@@ -136,6 +165,97 @@ fn live_marked(words: &[u64], seen: &[u64], slots: usize) -> bool
         e += 1;
     }
     true
+}
+
+// Whether entry i of the compressed index, edge `edge`, stands in the part of its end; only the yes is promised.
+fn entry_placed(axis: &[u32], edges: usize, nodes: usize, base: u32, i: u32, edge: u32) -> bool
+    requires { ⌜ PlaceReadable (now axis) edges nodes base edge ⌝ }
+    ensures { λ r. ⌜ (r ≡ true → Placed (now (axis .entry)) edges nodes base i edge) ⌝ }
+{
+    let node = axis[edge as usize];
+    if node >= base {
+        return false;
+    }
+    let at = 4 * edges + 5 * nodes + node as usize;
+    if i < axis[at] {
+        return false;
+    }
+    i < axis[at + 1]
+}
+
+// Whether every entry of the compressed index stands in the part of its end, and none comes twice; only the yes is promised.
+fn base_flat(axis: &[u32], edges: usize, nodes: usize, counts: Counts) -> bool
+    requires { ⌜ FlatReadable (now axis) edges nodes counts ⌝ }
+    ensures { λ r. ⌜ (r ≡ true → BaseFlat (now (axis .entry)) edges nodes (counts .nodes .base) (counts .edges .base)) ⌝ }
+{
+    let base = counts.edges.base;
+    let base_nodes = counts.nodes.base;
+    let mut seen = [0u64; 512];
+    let mut i: u32 = 0;
+    while i < base {
+        let e = axis[edges + i as usize];
+        if !entry_placed(axis, edges, nodes, base_nodes, i, e) {
+            return false;
+        }
+        if !mark(&mut seen, e as usize) {
+            return false;
+        }
+        i += 1;
+    }
+    true
+}
+
+// Whether every edge of the delta is linked, and none is linked to twice; only the yes is promised.
+fn delta_flat(axis: &[u32], edges: usize, nodes: usize, counts: Counts) -> bool
+    requires { ⌜ FlatReadable (now axis) edges nodes counts ⌝ }
+    ensures { λ r. ⌜ (r ≡ true → DeltaFlat (now (axis .entry)) edges (counts .edges .base) (counts .edges .bound)) ⌝ }
+{
+    let base = counts.edges.base;
+    let bound = counts.edges.bound;
+    let mut seen = [0u64; 512];
+    let mut e = base;
+    while e < bound {
+        if !edge_linked(axis, edges, nodes, base, bound, e) {
+            return false;
+        }
+        if !mark(&mut seen, axis[2 * edges + e as usize] as usize) {
+            return false;
+        }
+        e += 1;
+    }
+    true
+}
+
+// Whether no node is removed or has a run, and base and delta are flat, which is quick to see and enough; only the yes is promised.
+fn walks_flat(
+    axis: &[u32],
+    edges: usize,
+    nodes: usize,
+    counts: Counts,
+    live_nodes: &[u64],
+    live_edges: &[u64],
+) -> bool
+    requires { ⌜ WalksReadable (now axis) edges nodes counts (now «live_nodes») (now «live_edges») ⌝ }
+    ensures { λ r. ⌜ (r ≡ true → walks-test (now (axis .entry)) edges nodes counts (now («live_nodes» .entry)) (now («live_edges» .entry)) ≡ true) ⌝ }
+{
+    let bound = counts.nodes.bound;
+    if bound == 0 {
+        return false;
+    }
+    if counts.nodes.live != bound {
+        return false;
+    }
+    let slots = counts.nodes;
+    if !live_right(live_nodes, slots) {
+        return false;
+    }
+    if !words_below(axis, 4 * edges + 4 * nodes, bound as usize, 1) {
+        return false;
+    }
+    if !base_flat(axis, edges, nodes, counts) {
+        return false;
+    }
+    delta_flat(axis, edges, nodes, counts)
 }
 
 // Rule 7: the walks of all nodes list each live edge once, at its end, and nothing else.
@@ -152,6 +272,9 @@ pub fn walks_right(
 {
     let slots = counts.edges.bound as usize;
     let node_bound = counts.nodes.bound;
+    if walks_flat(axis, edges, nodes, counts, live_nodes, live_edges) {
+        return true;
+    }
     let mut seen = [0u64; 512];
     let mut x: u32 = 0;
     while x < node_bound {

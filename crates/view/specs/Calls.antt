@@ -1,4 +1,5 @@
--- What the public reads promise: behind the check, "words are no store: 1, rule 1 to 7", each is its definition of crate plain, on the store's plain lists.
+-- What the public reads promise: behind the check, "words are no store | 1 | rule 1 to 7 | everything", each is its definition of crate plain, on the store's
+-- plain lists.
 use Prim.Native.Nat.{ℕ, _≤_, _<_}
 use mathlib.Core.Path.{_≡_, refl, sym, ap, _∙_}
 use mathlib.Core.List.{List, []}

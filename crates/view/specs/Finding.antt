@@ -32,7 +32,7 @@ use Rattle.view.specs.Walks.{absent}
 
 -- What finding promises.
 pub record FoundEdge (w : Words) (first second : ℕ) (answer : Answer) : Type 0 where
-  -- "words are no store: 1, rule 1 to 7"
+  -- "words are no store | 1 | rule 1 to 7 | everything"
   pub refused : (broken w ≡ 0 → ⊥) → answer ≡ refusal (broken w)
   -- "some live edge from one node to another, or NONE (still number 0) if there is none and only then; 1, first 5, second 5. Which edge is left open."
   pub finds : broken w ≡ 0 → may-find (lists w) first second answer ≡ true

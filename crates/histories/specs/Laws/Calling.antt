@@ -1,25 +1,26 @@
 -- Laws on the definitions of calls: reading into a store's own memory, and the numbers that a call of a history can answer.
 use Prim.Native.Nat.{ℕ, _*_, _%_, _≤_}
 use mathlib.Core.Path.{_≡_, sym, ap, _∙_}
-use mathlib.Core.Option.{Option, none, some}
+use mathlib.Core.Logic.{⊎-elim}
+use mathlib.Core.Option.{Option}
 use mathlib.Core.List.{List, _∷_}
 use native.Mathlib.Omega.{arith}
 use lib.ListN.{length}
 use lib.Dec.{eqb, ltb}
-use borrow.Author.Tests.{ltb-true}
+use borrow.Author.Tests.{ltb-true, eqb-false}
 use Rattle.plain.specs.declared.TraversalDirection.the-variants.{Outgoing, Incoming}
 use Rattle.plain.specs.Operations.{operations}
 use Rattle.plain.specs.Step.{Capacities, State}
 use Rattle.plain.specs.Image.{broken-image, nodes-in, edges-in}
 use Rattle.plain.specs.Memory.{Slice, first-short, Lengths, other-slices, exact}
-use Rattle.plain.specs.Calls.{strip, short-answer, limits, within, readable, compaction-slices, compacting, compaction, read-within, read-image}
+use Rattle.plain.specs.Calls.{strip, short-answer, limits, within, readable, compaction-slices, compaction, read-within, read-image}
 use Rattle.plain.specs.History.{Call, Strip, Compaction, Reading, call}
 use Rattle.plain.specs.Laws.Booleans.{by-test}
-use Rattle.plain.specs.Laws.CallCases.{LongEnough, no-slice, slice-fits, short-here, short-later, all-long}
+use Rattle.plain.specs.Laws.CallCases.{LongEnough, FirstShort, no-slice, slice-fits, short-here, short-later, all-long, long-or-short, compaction-short, compaction-done as compaction-fits}
 use Rattle.plain.specs.Laws.Histories.{Within, ReadCase, unreadable, read-too-short, read-fits, read-case}
 use Rattle.shape.specs.Shape.{Words, lengths-of}
 use Rattle.shape.specs.Checked.{Checked}
-use Rattle.histories.specs.Follows.{CanAnswer, strip-done, strip-ragged, strip-short, compaction-done, compaction-short, reading-done, reading-broken, reading-nodes, reading-edges}
+use Rattle.histories.specs.Follows.{CanAnswer, strip-done, strip-ragged, strip-short, compaction-done, compaction-nodes, compaction-edges, compaction-work, reading-done, reading-broken, reading-nodes, reading-edges}
 
 -- ---- reading into a store's own memory: the slices other than the payloads are never short
 
@@ -51,21 +52,30 @@ checked-long k =
 
 module _ (caps : Capacities) (s : State) where
   -- 3, 2 or done
-  strip-numbers : (words : List ℕ) (room : ℕ) → CanAnswer caps (Strip words room) (strip caps s words room .number)
+  strip-numbers : (words : List ℕ) (room : ℕ) → CanAnswer caps (s .lists) (Strip words room) (strip caps s words room .number)
   unfolding strip
   strip-numbers words room =
       by-test (eqb (length words % 4) 0)
       (λ q. rw q (by-test (ltb room (2 * length (operations words))) (λ r. rw r (strip-short (ltb-true room (2 * length (operations words)) r))) (λ r. rw r strip-done)))
-      (λ q. rw q strip-ragged)
+      (λ q. rw q (strip-ragged (eqb-false (length words % 4) 0 q)))
 
-  -- 2 or done
-  compacting-numbers : (node-map edge-map work : ℕ) (short : Option ℕ) → CanAnswer caps (Compaction node-map edge-map work) (compacting short s .number)
-  compacting-numbers node-map edge-map work none = compaction-done
-  compacting-numbers node-map edge-map work (some needed) = compaction-short
+  -- 2 where one of the three slices is too short, or done
+  too-short : {node-map edge-map work n : ℕ} → FirstShort (compaction-slices (s .lists) node-map edge-map work) n
+      → CanAnswer caps (s .lists) (Compaction node-map edge-map work) 2
+  too-short (short-here h) = compaction-nodes h
+  too-short (short-later k (short-here h)) = compaction-edges h
+  too-short (short-later k (short-later l (short-here h))) = compaction-work h
+
+  compaction-numbers : (node-map edge-map work : ℕ)
+      → CanAnswer caps (s .lists) (Compaction node-map edge-map work) (compaction s node-map edge-map work .number)
+  compaction-numbers node-map edge-map work =
+      ⊎-elim (λ long. rw (compaction-fits s node-map edge-map work long) compaction-done)
+      (λ short. rw (compaction-short s node-map edge-map work (short .0) (short .1)) (too-short (short .1)))
+      (long-or-short (compaction-slices (s .lists) node-map edge-map work))
 
   -- 12, 2 for want of capacity, or done: the other slices are just long enough
-  reading-numbers : (bytes : List ℕ) {number value : ℕ} → ReadCase caps bytes number value → CanAnswer caps (Reading bytes) number
-  reading-numbers bytes (unreadable e) = reading-broken
+  reading-numbers : (bytes : List ℕ) {number value : ℕ} → ReadCase caps bytes number value → CanAnswer caps (s .lists) (Reading bytes) number
+  reading-numbers bytes (unreadable e) = reading-broken (λ z. let q = sym e ∙ z in omega arith)
   reading-numbers bytes (read-fits e f) = reading-done
   reading-numbers bytes (read-too-short e (short-here h)) = reading-nodes h
   reading-numbers bytes (read-too-short e (short-later k (short-here h))) = reading-edges h
@@ -74,8 +84,8 @@ module _ (caps : Capacities) (s : State) where
   reading-numbers bytes (read-too-short e (short-later k (short-later l (short-later m (short-later n (short-here h)))))) = absurd (omega arith)
   reading-numbers bytes (read-too-short e (short-later k (short-later l (short-later m (short-later n (short-later o (short-here h))))))) = absurd (omega arith)
 
-  pub call-numbers : Within caps → (c : Call) → CanAnswer caps c (call caps s c .number)
-  unfolding call compaction
+  pub call-numbers : Within caps → (c : Call) → CanAnswer caps (s .lists) c (call caps s c .number)
+  unfolding call
   call-numbers few (Strip words room) = strip-numbers words room
-  call-numbers few (Compaction node-map edge-map work) = compacting-numbers node-map edge-map work (first-short (compaction-slices (s .lists) node-map edge-map work))
+  call-numbers few (Compaction node-map edge-map work) = compaction-numbers node-map edge-map work
   call-numbers few (Reading bytes) = reading-numbers bytes (read-case caps few bytes)

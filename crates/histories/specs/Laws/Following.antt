@@ -12,7 +12,7 @@ use Rattle.plain.specs.Lists.{written}
 use Rattle.plain.specs.Plain.{Plain}
 use Rattle.plain.specs.Step.{Capacities, State}
 use Rattle.plain.specs.Memory.{exact}
-use Rattle.plain.specs.Calls.{Stripped, strip, judged-strip, fresh-state, Compacted, compaction, judged-compaction, read-image, read-state}
+use Rattle.plain.specs.Calls.{Stripped, strip, judged-strip, Compacted, compaction, judged-compaction, read-image, read-state}
 use Rattle.plain.specs.History.{Call, Strip, Compaction, Reading, call, called-from, history-from}
 use Rattle.plain.specs.Laws.Histories.{Within, call-refused}
 use Rattle.shape.specs.Shape.{Words, capacities, lengths-of, shape-of, is-compact}
@@ -24,7 +24,7 @@ use Rattle.shape.specs.Laws.Settling.{settled-is-plain}
 use Rattle.strip.specs.Strip.{StripOf, stripped, same-capacities}
 use Rattle.compact.specs.Calls.{seen, compacting-of, CompactOf}
 use Rattle.image.specs.Calls.{ReadOf}
-use Rattle.histories.specs.Runs.{Request, StripInto, CompactionInto, ReadingOf, call-of, Heard, Turn, Turned, stripped as by-strip, compacted as by-compaction, read as by-reading, Turns, no-turn, turn, Ran}
+use Rattle.histories.specs.Runs.{Request, StripInto, CompactionInto, ReadingOf, call-of, Heard, Turn, Turned, stripped as by-strip, compacted as by-compaction, read as by-reading, Turns, no-turn, turn, Origin, first-state, Made, made-fresh, made-by-reading, Ran}
 use Rattle.histories.specs.Follows.{told, CanAnswer, no-answer, one-answer, RefusalKeeps, no-refusal, one-kept, Follows}
 use Rattle.histories.specs.Laws.Calling.{roomy-read, checked-long, call-numbers}
 
@@ -45,7 +45,7 @@ compacting-is {w} k node-map edge-map work =
 
 -- ---- one call
 
--- A store of these capacities, of state s, that a fresh one led to.
+-- A store of these capacities, of state s, that a fresh one or an image led to.
 record Stands (caps : Capacities) (s : State) (w : Words) : Type 0 where
   pub checked : Checked w
   pub reached : Reached (shape-of w)
@@ -167,7 +167,7 @@ follows-from {caps} {s} at (turn {request = request} one rest) =
     record {
       answers = ap₂ {C = List Heard} (λ (h : Heard) (l : List Heard). h ∷ l) (f .heard) (more .answers);
       numbers = one-answer
-          (subst (CanAnswer caps (call-of request)) (sym (ap (λ (h : Heard). h .number) (f .heard))) (call-numbers caps s (stands-within at) (call-of request)))
+          (subst (CanAnswer caps (s .lists) (call-of request)) (sym (ap (λ (h : Heard). h .number) (f .heard))) (call-numbers caps s (stands-within at) (call-of request)))
           (more .numbers);
       states = ap₂ {C = List State} (λ (a : State) (l : List State). a ∷ l) (f .stands .state) (more .states);
       ends = more .ends;
@@ -176,7 +176,11 @@ follows-from {caps} {s} at (turn {request = request} one rest) =
       reached = more .reached;
     }
 
--- a fresh store stands
-pub run-follows : {w : Words} {requests : List Request} {turns : List Turn} → Ran w requests turns → Follows (capacities w) fresh-state w requests turns
-run-follows ran =
-    follows-from (record { checked = ran .made .checked refl; reached = ran .made .reached; sized = refl; state = ran .made .state }) (ran .went)
+-- a store that was made stands
+made-stands : {origin : Origin} {w : Words} → Made w origin → Stands (capacities w) (first-state origin) w
+made-stands (made-fresh of) = record { checked = of .checked refl; reached = of .reached; sized = refl; state = of .state }
+made-stands (made-by-reading of) = record { checked = of .checked refl; reached = of .reached refl; sized = refl; state = of .state refl }
+
+pub run-follows : {origin : Origin} {w : Words} {requests : List Request} {turns : List Turn} → Ran origin w requests turns
+    → Follows (capacities w) (first-state origin) w requests turns
+run-follows ran = follows-from (made-stands (ran .made)) (ran .went)

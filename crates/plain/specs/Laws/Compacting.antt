@@ -1,4 +1,4 @@
--- Compaction: what it leaves is well formed with every slot live, and compacting that changes nothing.
+-- Compaction: what it leaves is well formed with every slot live, and has the survivors that it had.
 use Prim.Native.Nat.{ℕ, _≤_, _<_, _^_}
 use native.Mathlib.Omega.{arith}
 use mathlib.Core.Path.{_≡_, refl, sym, ap, ap₂, _∙_, subst, subst₂, fun-ext}
@@ -14,14 +14,12 @@ use Rattle.plain.specs.Lists.{member, distinct, from}
 use Rattle.plain.specs.Plain.{Plain, Incidence, NodeSlot, EdgeSlot, no-node, no-edge, node-flags, edge-flags, node-bound, edge-bound, incidence, end-of, list-of}
 use Rattle.plain.specs.Step.{Capacities}
 use Rattle.plain.specs.Reads.{live-count, live-slots, live-nodes, live-edges}
-use Rattle.plain.specs.Renumbering.{is-identity-map}
-use Rattle.plain.specs.Compaction.{rank, renumbering, EdgeRecord, Survivors, surviving-edge, surviving-list, survivors, kept-node, kept-edge, source-of, target-of, of-survivors, compacted}
+use Rattle.plain.specs.Compaction.{rank, EdgeRecord, Survivors, surviving-edge, surviving-list, survivors, kept-node, kept-edge, source-of, target-of, of-survivors, compacted}
 use Rattle.plain.specs.Laws.WellFormed.{Incident, WellFormed, Fitted, Sound}
 use Rattle.plain.specs.Laws.Booleans.{same-truth, and-left, and-right, both-true}
 use Rattle.plain.specs.Laws.ListLaws.{getD-map-each, member-mapped, member-source, member-getD-map, distinct-map, map-same, map-unchanged, map-getD, map-replicate, count-length, member-below}
 use Rattle.plain.specs.Laws.Operating.{incident}
 use Rattle.plain.specs.Laws.Rank.{rank-live, rank-injective, rank-all-live, length-live-slots, live-slot-live, rank-live-slot, getD-at-rank, live-all-live, live-from-all-live}
-use Rattle.plain.specs.Laws.Renumberings.{identity-all-live}
 use Rattle.plain.specs.Laws.Fitting.{has-end, has-end-below, has-end-at, live-has-end, incident-fitted, fitted-incident}
 
 -- ---- one direction
@@ -333,11 +331,6 @@ module _ (caps : Capacities) (p : Plain) (w : WellFormed caps p) (few-nodes : ca
       of-survivors-well-formed caps (survivors p) (survivors-sound caps p w few-nodes few-edges)
       (let bound = w .nodes-within in omega arith) (let bound = w .edges-within in omega arith)
 
-  -- compacting again changes nothing
-  pub compacted-again : compacted (compacted p) ≡ compacted p
-  unfolding compacted
-  compacted-again = ap of-survivors (survivors-of (survivors p) (survivors-sound caps p w few-nodes few-edges))
-
 -- every node slot that compaction leaves is live
 pub compacted-nodes-live : (p : Plain) → node-flags (compacted p) ≡ replicate (live-nodes p) true
 unfolding compacted
@@ -347,14 +340,6 @@ compacted-nodes-live p = node-flags-of (survivors p) ∙ ap (λ (n : ℕ). repli
 pub compacted-edges-live : (p : Plain) → edge-flags (compacted p) ≡ replicate (live-edges p) true
 unfolding compacted
 compacted-edges-live p = edge-flags-of (survivors p) ∙ ap (λ (n : ℕ). replicate n true) (length-surviving-edges p)
-
--- compacting again gives an identity map of the nodes
-pub node-map-again : (p : Plain) → is-identity-map (renumbering (node-flags (compacted p))) ≡ true
-node-map-again p = rw compacted-nodes-live (identity-all-live (live-nodes p))
-
--- and of the edges
-pub edge-map-again : (p : Plain) → is-identity-map (renumbering (edge-flags (compacted p))) ≡ true
-edge-map-again p = rw compacted-edges-live (identity-all-live (live-edges p))
 
 -- the node bound afterwards is the number of live nodes
 pub compacted-node-bound : (p : Plain) → node-bound (compacted p) ≡ live-nodes p

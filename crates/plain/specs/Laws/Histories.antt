@@ -1,31 +1,30 @@
--- Whole histories on the definitions: they keep the lists well formed, what is refused leaves the store, and document 01's demand 3 on the plain lists.
+-- Whole histories on the definitions: they keep the lists well formed, what is refused leaves the store, and what the closing calls answer. Demand 3 itself is
+-- the theorem of crate histories.
 use Prim.Native.Nat.{ℕ, zero, suc, _*_, _%_, _≤_}
 use mathlib.Core.Path.{_≡_, refl, sym, ap, _∙_}
-use mathlib.Core.Bool.{true, cond}
-use mathlib.Core.Logic.{_⊎_, inl, inr, ⊎-elim, _↔_}
+use mathlib.Core.Bool.{cond}
+use mathlib.Core.Logic.{_⊎_, inl, inr, ⊎-elim}
 use mathlib.Core.Option.{Option, none, some}
 use mathlib.Core.List.{List, [], _∷_}
 use native.Mathlib.Omega.{arith}
 use lib.ListN.{length}
 use lib.Dec.{eqb, ltb}
 use Rattle.plain.specs.Numbers.{LIMIT}
-use Rattle.plain.specs.Plain.{Plain}
 use Rattle.plain.specs.Operations.{operations}
 use Rattle.plain.specs.Step.{Capacities, State}
 use Rattle.plain.specs.Reads.{Reply, lent}
-use Rattle.plain.specs.Renumbering.{is-identity-map}
 use Rattle.plain.specs.Compaction.{Survivors, survivors, compacted}
 use Rattle.plain.specs.Image.{image, broken-image, nodes-in, edges-in, parsed}
 use Rattle.plain.specs.Memory.{first-short, exact}
-use Rattle.plain.specs.Calls.{strip, fresh-state, limits, Compacted, compacting, compaction, compaction-slices, reading-slices, read-image, read-state}
+use Rattle.plain.specs.Calls.{strip, fresh-state, limits, compacting, compaction, compaction-slices, reading-slices, read-image, read-state}
 use Rattle.plain.specs.History.{Call, Strip, Compaction, Reading, call, history-from, history, closing-image}
-use Rattle.plain.specs.Laws.WellFormed.{WellFormed, Sound}
+use Rattle.plain.specs.Laws.WellFormed.{WellFormed}
 use Rattle.plain.specs.Laws.Booleans.{by-test, below-or-not}
 use Rattle.plain.specs.Laws.Operating.{empty-well-formed}
 use Rattle.plain.specs.Laws.Stepping.{run-well-formed, Words, operations-fitting}
 use Rattle.plain.specs.Laws.CallCases.{LongEnough, FirstShort, slice-fits, long-or-short, read-broken, read-short, read-done, write-compact, lent-short, lent-done}
-use Rattle.plain.specs.Laws.Compacting.{survivors-sound, of-survivors-well-formed, survivors-of, compacted-well-formed, compacted-again, node-map-again, edge-map-again}
-use Rattle.plain.specs.Laws.ImageLaws.{image-injective, parsed-sound, nodes-length, edges-length}
+use Rattle.plain.specs.Laws.Compacting.{survivors-sound, of-survivors-well-formed, survivors-of, compacted-well-formed}
+use Rattle.plain.specs.Laws.ImageLaws.{parsed-sound, nodes-length, edges-length}
 
 -- capacities that a fresh store takes
 pub record Within (caps : Capacities) : Type 0 where
@@ -95,7 +94,7 @@ call-well-formed caps w s (Compaction node-map edge-map work) l h =
     compacting-well-formed caps w (first-short (compaction-slices (s .lists) node-map edge-map work)) s h
 call-well-formed caps w s (Reading bytes) l h = reading-well-formed caps bytes s (read-case caps w bytes) h
 
--- "A refused call leaves the plain lists and the store as they were."
+-- "a refused call or operation leaves the plain lists and the store as they were": a call
 reading-refused : (caps : Capacities) (bytes : List ℕ) (s : State) {number value : ℕ} → ReadCase caps bytes number value → (number ≡ 0 → ⊥)
     → cond (eqb number 0) (read-state bytes) s ≡ s
 reading-refused caps bytes s (unreadable e) h = refl
@@ -131,18 +130,6 @@ history-from-well-formed caps w s (one-call {c} l ls) h = history-from-well-form
 pub history-well-formed : (caps : Capacities) → Within caps → {calls : List Call} → AllLegal calls → WellFormed caps (history caps calls .lists)
 unfolding history
 history-well-formed caps w l = history-from-well-formed caps w fresh-state l (empty-well-formed caps)
-
--- and survivors that have an image
-pub history-sound : (caps : Capacities) → Within caps → {calls : List Call} → AllLegal calls → Sound (survivors (history caps calls .lists))
-history-sound caps w {calls} l = survivors-sound caps (history caps calls .lists) (history-well-formed caps w l) (w .nodes) (w .edges)
-
--- DEMAND 3 on the definitions: for any two lists of calls, of any capacities, the images of what survives are equal, length and bytes, exactly when the
--- survivors are equal: payloads, ends, both lists of each lot in order.
-pub same-image : (caps₁ caps₂ : Capacities) → Within caps₁ → Within caps₂ → {calls₁ calls₂ : List Call} → AllLegal calls₁ → AllLegal calls₂
-    → (image (survivors (history caps₁ calls₁ .lists)) ≡ image (survivors (history caps₂ calls₂ .lists)))
-    ↔ (survivors (history caps₁ calls₁ .lists) ≡ survivors (history caps₂ calls₂ .lists))
-same-image caps₁ caps₂ w₁ w₂ {calls₁} {calls₂} l₁ l₂ =
-    (image-injective (survivors (history caps₁ calls₁ .lists)) (survivors (history caps₂ calls₂ .lists)) (history-sound caps₁ w₁ l₁) (history-sound caps₂ w₂ l₂), ap image)
 
 -- ---- the closing compaction and image writing
 
@@ -203,32 +190,3 @@ module _ (caps : Capacities) (w : Within caps) (s : State) (h : WellFormed caps 
   closing-bytes e room k =
       let r = closing-image-is e room in
       r ∙ lent-words room (length (image (survivors (s .lists)))) (image (survivors (s .lists))) (sym (ap (λ (t : Reply). t .number) r) ∙ k)
-
-  -- "compacting again changes no field and gives identity maps": the store that a compaction left is left by the next, whatever is lent to it
-  pub compaction-again : compaction s node-map edge-map work .number ≡ 0 → (nodes edges room : ℕ)
-      → let t = compaction s node-map edge-map work .after in
-      compaction t nodes edges room .number ≡ 0 → (compaction t nodes edges room .after ≡ t)
-      × (is-identity-map (compaction t nodes edges room .node-map) ≡ true) × (is-identity-map (compaction t nodes edges room .edge-map) ≡ true)
-  compaction-again e nodes edges room k =
-      let first = compaction-state s node-map edge-map work e in
-      let second = compaction-state (compaction s node-map edge-map work .after) nodes edges room k in (
-        ap (λ (c : Compacted). c .after) second
-            ∙ rw first (ap (λ (p : Plain). record { lists = p; compact = true }) (compacted-again caps (s .lists) h (w .nodes) (w .edges))),
-        rw (second, first) (node-map-again (s .lists)),
-        rw (second, first) (edge-map-again (s .lists)),
-      )
-
--- DEMAND 3 through the closing calls: where the closing compactions and image writings of two histories answer 0, the images are equal, length and bytes,
--- exactly when the survivors are equal.
-pub same-closing-image : (caps₁ caps₂ : Capacities) → Within caps₁ → Within caps₂ → {calls₁ calls₂ : List Call} → AllLegal calls₁ → AllLegal calls₂
-    → (n₁ e₁ w₁ r₁ n₂ e₂ w₂ r₂ : ℕ) → let s₁ = history caps₁ calls₁ in let s₂ = history caps₂ calls₂ in
-    compaction s₁ n₁ e₁ w₁ .number ≡ 0 → closing-image s₁ n₁ e₁ w₁ r₁ .number ≡ 0 → compaction s₂ n₂ e₂ w₂ .number ≡ 0 → closing-image s₂ n₂ e₂ w₂ r₂ .number ≡ 0
-    → (closing-image s₁ n₁ e₁ w₁ r₁ ≡ closing-image s₂ n₂ e₂ w₂ r₂) ↔ (survivors (s₁ .lists) ≡ survivors (s₂ .lists))
-same-closing-image caps₁ caps₂ l₁ l₂ {calls₁} {calls₂} a₁ a₂ n₁ e₁ w₁ r₁ n₂ e₂ w₂ r₂ c₁ i₁ c₂ i₂ =
-    let s₁ = history caps₁ calls₁ in
-    let s₂ = history caps₂ calls₂ in
-    let b₁ = closing-bytes caps₁ l₁ s₁ (history-well-formed caps₁ l₁ a₁) n₁ e₁ w₁ c₁ r₁ i₁ in
-    let b₂ = closing-bytes caps₂ l₂ s₂ (history-well-formed caps₂ l₂ a₂) n₂ e₂ w₂ c₂ r₂ i₂ in (
-      λ q. same-image caps₁ caps₂ l₁ l₂ a₁ a₂ .0 (ap (λ (r : Reply). r .words) (sym b₁ ∙ q ∙ b₂)),
-      λ q. b₁ ∙ ap (λ (t : Survivors). record { number = 0; value = length (image t); words = image t }) q ∙ sym b₂,
-    )

@@ -9,7 +9,7 @@ use mathlib.Core.List.{List, [], _∷_, _++_, map, map-map, map-id}
 use lib.ListN.{length, getD, replicate}
 use lib.Dec.{eqb, leb, ltb, eqb·zero-suc}
 use borrow.Author.Tests.{eqb-true, eqb-false, eq-eqb, ne-eqb, leb-true, le-leb, lt-leb, lt-ltb, ltb-true, not-true}
-use Rattle.plain.specs.Lists.{member, without, distinct, same, from, keep, all, count, joined}
+use Rattle.plain.specs.Lists.{member, without, distinct, from, keep, all, count, joined}
 use Rattle.plain.specs.Laws.Booleans.{by-test, true-false, refuted, and-left, and-right, both-true, or-other, leb-same, eqb-same}
 
 -- ---- elements and maps
@@ -38,12 +38,6 @@ module _ {A B : Type 0} where
   pub map-replicate : (f : A → B) (b : B) (xs : List A) → ((x : A) → f x ≡ b) → map f xs ≡ replicate (length xs) b
   map-replicate f b [] each = refl
   map-replicate f b (x ∷ xs) each = ap₂ {B = List B} (λ y ys. y ∷ ys) (each x) (map-replicate f b xs each)
-
--- equal lists pass the test for it
-pub same-refl : (xs : List ℕ) → same xs xs ≡ true
-unfolding same
-same-refl [] = refl
-same-refl (x ∷ xs) = both-true (eq-eqb x x refl) (same-refl xs)
 
 -- ---- members
 

@@ -13,10 +13,9 @@ use borrow.Author.Tests.{ne-eqb}
 use Rattle.plain.specs.Numbers.{NONE}
 use Rattle.plain.specs.Lists.{from}
 use Rattle.plain.specs.Reads.{live-count}
-use Rattle.plain.specs.Renumbering.{lookup, composed, is-identity-map}
+use Rattle.plain.specs.Renumbering.{lookup, composed}
 use Rattle.plain.specs.Compaction.{rank, renumbering-from, renumbering}
 use Rattle.plain.specs.Laws.Booleans.{by-test}
-use Rattle.plain.specs.Laws.ListLaws.{length-from, same-refl}
 use Rattle.plain.specs.Laws.Rank.{rank-none, rank-live}
 
 -- the map has one entry a slot
@@ -46,11 +45,6 @@ pub renumbering-all-live : (next n : ℕ) → renumbering-from next (replicate n
 unfolding renumbering-from from
 renumbering-all-live next zero = refl
 renumbering-all-live next (suc n) = ap (λ (l : List ℕ). next ∷ l) (renumbering-all-live (suc next) n)
-
--- so it is an identity map
-pub identity-all-live : (n : ℕ) → is-identity-map (renumbering (replicate n true)) ≡ true
-unfolding is-identity-map
-identity-all-live n = rw (renumbering-all-live 0 n, length-from 0 n) (same-refl (from 0 n))
 
 -- ---- two compactions, one after the other
 

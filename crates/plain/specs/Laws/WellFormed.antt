@@ -15,7 +15,7 @@ use Rattle.plain.specs.Image.{list-lengths, lists-right}
 
 -- One direction of n node slots, with these flags of the edge slots.
 pub record Incident (flags : List Bool) (n : ℕ) (i : Incidence) : Type 0 where
-  -- "all columns have the bounds' lengths"
+  -- an end for each edge slot and a list for each node slot
   pub ends-length : length (i .ends) ≡ length flags
   pub lists-length : length (i .lists) ≡ n
   -- the ends of all edges, removed ones too, are below the node bound

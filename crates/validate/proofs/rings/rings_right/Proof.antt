@@ -18,18 +18,22 @@ abbrev μ-loop : tie.MeasureT-loop
 loop-holds : tie.Need-loop-holds Inv-loop μ-loop
 loop-holds c = rest-first _ _
 
+-- the rings climb
 returns : tie.Need-returns Inv-loop μ-loop
-returns c =
+returns c = sym (c .before .rings-climb .ensures (c .if1 .taken))
+
+returns-2 : tie.Need-returns-2 Inv-loop μ-loop
+returns-2 c =
     let k = c .before .before in
-    sym (k .before .loop .inv ∙ rest-fails _ _ _ (k .loop-test .taken) (refused (c .before .ring-right .ensures) (c .if1 .taken)))
+    sym (k .before .loop .inv ∙ rest-fails _ _ _ (k .loop-test .taken) (refused (c .before .ring-right .ensures) (c .if2 .taken)))
 
 loop-again : tie.Need-loop-again Inv-loop μ-loop
 loop-again c =
     let k = c .before .before in
-    k .before .loop .inv ∙ rest-more _ _ _ (k .loop-test .taken) (accepted (c .before .ring-right .ensures) (c .if1 .left))
+    k .before .loop .inv ∙ rest-more _ _ _ (k .loop-test .taken) (accepted (c .before .ring-right .ensures) (c .if2 .left))
 
-returns-2 : tie.Need-returns-2 Inv-loop μ-loop
-returns-2 c = sym (c .before .loop .inv ∙ rest-none _ _ _ (c .loop-test .left))
+returns-3 : tie.Need-returns-3 Inv-loop μ-loop
+returns-3 c = sym (c .before .loop .inv ∙ rest-none _ _ _ (c .loop-test .left))
 
 pub rings-right-spec : {M : Type 1} → statement M
 rings-right-spec =
@@ -37,10 +41,12 @@ rings-right-spec =
     (tie.spec
     Inv-loop
     μ-loop
-    loop-holds
     (λ c κs. search needs)
     returns
+    loop-holds
+    (λ c κs. search needs)
+    returns-2
     (λ c. omega arith)
     (λ c. omega arith)
     loop-again
-    returns-2)
+    returns-3)

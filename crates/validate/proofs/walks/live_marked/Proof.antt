@@ -1,6 +1,15 @@
 -- `validate::walks::live_marked` meets its contract. The loop's invariant: the slots from e on decide. The measure is the number of slots left.
-use Prim.Native.Nat.{_-_}
-use mathlib.Core.Path.{_≡_, sym, _∙_}
+use Prim.Native.Nat.{ℕ, _-_, _/_, _≤_, _<_}
+use mathlib.Core.Path.{_≡_, refl, sym, _∙_}
+use mathlib.Core.Bool.{Bool, true, false, _||_, not}
+use mathlib.Core.List.{List}
+use mathlib.Core.Logic.{⊎-elim}
+use lib.ListN.{getD}
+use borrow.Author.Tests.{ltb-true}
+use Rattle.plain.specs.Laws.Booleans.{below-or-not}
+use Rattle.plain.specs.Laws.ListLaws.{all-of, member-below}
+use Rattle.liveness.specs.Flags.{live-bit}
+use Rattle.liveness.specs.FlagLaws.{flag-at}
 use native.Mathlib.Omega.{arith}
 use borrow.Author.Needs.{needs}
 use Rattle.plain.specs.Lists.{all, from}
@@ -10,28 +19,54 @@ use Rattle.validate.specs.Walks.{marked-if-live}
 use Rattle.validate.proofs.walks.live_marked.Statement.{statement}
 use Rattle.validate.proofs.walks.live_marked.Tie as tie
 
+-- where the words that hold the slots are the same, every live slot is marked
+same-marked : (words seen : List ℕ) (slots : ℕ) → ((e : ℕ) → e < slots → getD words (e / 64) 0 ≡ getD seen (e / 64) 0)
+    → true ≡ all (marked-if-live (live-flags words slots) (live-flags seen slots)) (from 0 slots)
+unfolding marked-if-live live-bit
+same-marked words seen slots same =
+    sym (all-of (marked-if-live (live-flags words slots) (live-flags seen slots)) (from 0 slots)
+    (λ e m. let l = ltb-true e slots (sym (member-below e slots) ∙ m) in
+    rw (flag-at words slots e l, flag-at seen slots e l, same e l) (either (live-bit seen e))))
+  where
+    either : (b : Bool) → (not b || b) ≡ true
+    either true = refl
+    either false = refl
+
 abbrev Inv-loop : tie.InvT-loop
-Inv-loop words seen slots e₀ e =
+Inv-loop words seen slots full e₀ e =
     all (marked-if-live (live-flags words slots) (live-flags seen slots)) (from 0 slots) ≡ rest (marked-if-live (live-flags words slots) (live-flags seen slots)) e slots
 
 abbrev μ-loop : tie.MeasureT-loop
-μ-loop words seen slots e₀ e = slots - e
+μ-loop words seen slots full e₀ e = slots - e
 
 loop-holds : tie.Need-loop-holds Inv-loop μ-loop
 loop-holds c = rest-first _ _
 
 returns : tie.Need-returns Inv-loop μ-loop
 returns c =
+    let k = c .before in
+    same-marked _ _ _ (λ e l. k .before .words-same .ensures (k .if1 .taken) (e / 64) (omega (arith, c .if2 .taken)))
+
+returns-2 : tie.Need-returns-2 Inv-loop μ-loop
+returns-2 c =
+    let k = c .before .before .before .before in
+    let slots = k .before .before .before .before .args .slots in
+    same-marked _ _ _
+    (λ e l. ⊎-elim (λ b. k .before .words-same .ensures (k .if1 .taken) (e / 64) b)
+    (λ (b : slots / 64 ≤ e / 64). let at : e / 64 ≡ slots / 64 = omega arith in rw at (c .if3 .taken)) (below-or-not (e / 64) (slots / 64)))
+
+returns-3 : tie.Need-returns-3 Inv-loop μ-loop
+returns-3 c =
     let k = c .before .before in
-    sym (k .before .loop .inv ∙ rest-fails _ _ _ (k .loop-test .taken) (refused (c .before .marked-if-live .ensures) (c .if1 .taken)))
+    sym (k .before .loop .inv ∙ rest-fails _ _ _ (k .loop-test .taken) (refused (c .before .marked-if-live .ensures) (c .if4 .taken)))
 
 loop-again : tie.Need-loop-again Inv-loop μ-loop
 loop-again c =
     let k = c .before .before in
-    k .before .loop .inv ∙ rest-more _ _ _ (k .loop-test .taken) (accepted (c .before .marked-if-live .ensures) (c .if1 .left))
+    k .before .loop .inv ∙ rest-more _ _ _ (k .loop-test .taken) (accepted (c .before .marked-if-live .ensures) (c .if4 .left))
 
-returns-2 : tie.Need-returns-2 Inv-loop μ-loop
-returns-2 c = sym (c .before .loop .inv ∙ rest-none _ _ _ (c .loop-test .left))
+returns-4 : tie.Need-returns-4 Inv-loop μ-loop
+returns-4 c = sym (c .before .loop .inv ∙ rest-none _ _ _ (c .loop-test .left))
 
 pub live-marked-spec : {M : Type 1} → statement M
 live-marked-spec =
@@ -39,10 +74,17 @@ live-marked-spec =
     (tie.spec
     Inv-loop
     μ-loop
-    loop-holds
     (λ c κs. search needs)
     returns
     (λ c. omega arith)
     (λ c. omega arith)
+    (λ c. omega arith)
+    (λ c. omega arith)
+    returns-2
+    loop-holds
+    (λ c κs. search needs)
+    returns-3
+    (λ c. omega arith)
+    (λ c. omega arith)
     loop-again
-    returns-2)
+    returns-4)

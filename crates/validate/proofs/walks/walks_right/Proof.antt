@@ -1,7 +1,7 @@
 -- `validate::walks::walks_right` meets its contract. The loop's invariant: the walks of the nodes from x on decide, the entries of those before are marked. The measure
 -- is the number of nodes left.
 use Prim.Native.Nat.{_-_}
-use mathlib.Core.Path.{refl, _∙_}
+use mathlib.Core.Path.{refl, sym, _∙_}
 use native.Mathlib.Omega.{arith}
 use borrow.Author.Needs.{needs}
 use borrow.Author.Tests.{not-true, not-false}
@@ -23,26 +23,30 @@ loop-holds c = walking-start _ _ _ _ _ _ (replicate 512 0) (clear-map 512) refl
 walk-right-requires : tie.Need-walk-right-requires Inv-loop μ-loop
 walk-right-requires c κs =
     let k = c .before .before in
-    let s = k .before .before .before .before .before .before in
+    let s = k .before .before .before .before .before .before .before .before in
     record { walkable = s .pre .walkable _ (k .loop-test .taken); marks-long = omega (arith, k .before .loop .inv .long) }
 
+-- the walks are flat
 returns : tie.Need-returns Inv-loop μ-loop
-returns c =
+returns c = sym (c .before .walks-flat .ensures (c .if1 .taken))
+
+returns-2 : tie.Need-returns-2 Inv-loop μ-loop
+returns-2 c =
     let r = c .before .before in
     let k = r .before .before .before in
-    walking-fails _ _ _ _ _ _ (k .before .loop .inv) (r .before .before .is-live .ensures) (r .walk-right .ensures) (k .loop-test .taken) (not-true _ (c .if1 .taken))
+    walking-fails _ _ _ _ _ _ (k .before .loop .inv) (r .before .before .is-live .ensures) (r .walk-right .ensures) (k .loop-test .taken) (not-true _ (c .if2 .taken))
 
 loop-again : tie.Need-loop-again Inv-loop μ-loop
 loop-again c =
     let r = c .before .before in
     let k = r .before .before .before in
-    walking-on _ _ _ _ _ _ (k .before .loop .inv) (r .before .before .is-live .ensures) (r .walk-right .ensures) (k .loop-test .taken) (not-false _ (c .if1 .left))
+    walking-on _ _ _ _ _ _ (k .before .loop .inv) (r .before .before .is-live .ensures) (r .walk-right .ensures) (k .loop-test .taken) (not-false _ (c .if2 .left))
     (r .walk-right .kept .1 .1 .1 .1 .1 .1 .1 .0)
 
-returns-2 : tie.Need-returns-2 Inv-loop μ-loop
-returns-2 c =
+returns-3 : tie.Need-returns-3 Inv-loop μ-loop
+returns-3 c =
     let k = c .before .before in
-    c .live-marked .ensures ∙ walking-done _ _ _ _ _ _ (k .before .loop .inv) (k .loop-test .left) (k .before .before .before .before .before .before .pre .ends-below)
+    c .live-marked .ensures ∙ walking-done _ _ _ _ _ _ (k .before .loop .inv) (k .loop-test .left) (k .before .before .before .before .before .before .before .before .pre .ends-below)
 
 pub walks-right-spec : {M : Type 1} → statement M
 walks-right-spec =
@@ -51,16 +55,18 @@ walks-right-spec =
     Inv-loop
     μ-loop
     (λ c. omega arith)
+    (λ c κs. search needs)
+    returns
     loop-holds
     (λ c. omega arith)
     (λ c. omega arith)
     (λ c κs. search needs)
     (λ c. omega arith)
     walk-right-requires
-    returns
+    returns-2
     (λ c. omega arith)
     (λ c. omega arith)
     loop-again
     (λ c. omega arith)
     (λ c κs. search needs)
-    returns-2)
+    returns-3)
