@@ -6,6 +6,7 @@ use memory::Lengths;
 use memory::Limits;
 use plain::Changed;
 use plain::Counts;
+use plain::OPERATION_WORDS;
 use plain::Operation;
 use plain::Slots;
 use plain::numbers;
@@ -13,7 +14,7 @@ ghost use mathlib.Core.Path.{_≡_};
 ghost use Prim.Native.Nat.{_+_, _*_, _≤_};
 ghost use lib.ListN.{length, getD, set};
 ghost use Rattle.plain.specs.declared.Operation.the-variants.{Unknown};
-ghost use Rattle.plain.specs.Operations.{operations};
+ghost use Rattle.plain.specs.Operations.{operation-words, operations};
 ghost use Rattle.shape.specs.Shape.{store};
 ghost use Rattle.strip.specs.Fresh.{FreshOf};
 ghost use Rattle.strip.specs.Strip.{Runnable, Ran, StripOf};
@@ -57,12 +58,12 @@ pub fn fresh(
     }
 }
 
-// Operation i of a strip, from its four words.
+// Operation i of a strip, from its words.
 fn operation_at(words: &[u32], i: usize) -> Operation
-    requires { ⌜ 4 * i + 4 ≤ length (now words) ⌝ }
+    requires { ⌜ operation-words * i + operation-words ≤ length (now words) ⌝ }
     ensures { λ r. ⌜ r ≡ getD (operations (now (words .entry))) i Unknown ⌝ }
 {
-    let at = 4 * i;
+    let at = OPERATION_WORDS * i;
     Operation::decode(words[at], words[at + 1], words[at + 2], words[at + 3])
 }
 
@@ -76,7 +77,7 @@ fn write_answer(answers: &mut [u32], i: usize, number: u32, value: u32)
     answers[to + 1] = value;
 }
 
-// The operations of a strip in turn, four words each, with two words of answer each. A refused operation changes nothing and the strip goes on.
+// The operations of a strip in turn, with two words of answer each. A refused operation changes nothing and the strip goes on.
 fn run(
     counts: Counts,
     nodes: &mut [u32],
@@ -95,7 +96,7 @@ fn run(
         (store r (now (nodes .exit)) (now (edges .exit)) (now («live_nodes» .exit)) (now («live_edges» .exit)) (now (outgoing .exit)) (now (incoming .exit)))
         (now (answers .exit)) ⌝ }
 {
-    let count = words.len() / 4;
+    let count = words.len() / OPERATION_WORDS;
     let mut counts = counts;
     let mut i: usize = 0;
     while i < count {
@@ -152,14 +153,14 @@ pub fn strip(
         };
     }
     let length = words.len();
-    if length % 4 != 0 {
+    if length % OPERATION_WORDS != 0 {
         return Changed {
             number: numbers::RAGGED,
             value: length as u64,
             counts,
         };
     }
-    let needed = length / 2;
+    let needed = 2 * (length / OPERATION_WORDS);
     if answers.len() < needed {
         return Changed {
             number: numbers::TOO_SHORT,
