@@ -61,10 +61,10 @@ pub record Advanceable (ws : List ℕ) (ce cn : ℕ) (linked : Bool) (live : Lis
   pub sized : Sized ws ce cn
   pub seekable : Seekable linked (entries-column ws ce linked) (next-column ws ce) live slots c
 
--- The cursor that was lent as `c` is left as `after`, behind the next listed entry, `found`.
-abbrev pub Advanced : List ℕ → ℕ → Bool → Bool → List ℕ → ℕ → AdjacencyCursor → AdjacencyCursor → Found → Type 0
-Advanced ws ce linked tombstoned live slots c after found =
-    Sought (listed tombstoned (live-flags live slots)) linked (entries-column ws ce linked) (next-column ws ce) c (stepped after found)
+-- The step from `c` to the next listed entry.
+abbrev pub Advanced : List ℕ → ℕ → Bool → Bool → List ℕ → ℕ → AdjacencyCursor → Step → Type 0
+Advanced ws ce linked tombstoned live slots c s =
+    Sought (listed tombstoned (live-flags live slots)) linked (entries-column ws ce linked) (next-column ws ce) c s
 
 module _ {ws : List ℕ} {ce cn : ℕ} {linked : Bool} {x : Axis} (columns : Columns ws ce cn linked x) where
   -- what it takes along the words is what it takes along their axis, and what is found there is found along the words

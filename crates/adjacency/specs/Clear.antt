@@ -12,8 +12,8 @@ use Rattle.plain.specs.Memory.{live-words}
 use Rattle.plain.specs.Reads.{live-count}
 use Rattle.liveness.specs.Flags.{live-flags, packed}
 use Rattle.adjacency.specs.declared.cursor.AdjacencyCursor.{AdjacencyCursor}
-use Rattle.adjacency.specs.Cursor.{Seekable}
 use Rattle.adjacency.specs.Walk.{Readable}
+use Rattle.adjacency.specs.Axis.{Advanceable}
 
 -- Edges es are made dead in the live words of these slots; n of them were live. An edge may stand in es twice, or be dead already: it is counted once, or not.
 pub record Retired (slots : ℕ) (es entry exit : List ℕ) (n : ℕ) : Type 0 where
@@ -26,8 +26,8 @@ pub record Retired (slots : ℕ) (es entry exit : List ℕ) (n : ℕ) : Type 0 w
   pub long : length exit ≡ length entry
 
 -- What it takes to make the entries dead that a cursor has still to read.
-pub record LeftClearable (linked : Bool) (entries next live : List ℕ) (slots : ℕ) (c : AdjacencyCursor) : Type 0 where
-  pub seekable : Seekable linked entries next live slots c
+pub record LeftClearable (ws : List ℕ) (ce cn : ℕ) (linked : Bool) (live : List ℕ) (slots : ℕ) (c : AdjacencyCursor) : Type 0 where
+  pub advanceable : Advanceable ws ce cn linked live slots c
   pub few : slots ≤ LIMIT
 
 -- What it takes to make the edges of a node's walk dead: the live count need not be right, since the walk of one direction is cleared before it is counted off.

@@ -1,9 +1,9 @@
 -- Laws of edges made dead: none, one, some and then more, and only the live ones of them; then the loop over a walk.
 use Prim.Native.Nat.{ℕ, zero, suc, _+_, _/_, _≤_, _<_}
 use native.Mathlib.Omega.{arith}
-use mathlib.Core.Path.{_≡_, refl, sym, ap, _∙_}
+use mathlib.Core.Path.{_≡_, refl, sym, ap, _∙_, subst}
 use mathlib.Core.Bool.{Bool, true, false, cond, _&&_, _||_, not}
-use mathlib.Core.List.{List, [], _∷_, _++_, append-nil}
+use mathlib.Core.List.{List, [], _∷_, _++_, append-assoc}
 use lib.ListN.{length, getD, set, length-set}
 use lib.Seq.{append-snoc}
 use lib.Dec.{eqb, eqb·zero-suc, eqb·suc-zero, eqb·suc-suc}
@@ -24,10 +24,11 @@ use Rattle.adjacency.specs.declared.cursor.AdjacencyCursor.{AdjacencyCur
 use Rattle.adjacency.specs.declared.cursor.Found.the-variants.{Edge, Done}
 use Rattle.adjacency.specs.declared.cursor.Step.{Step}
 use Rattle.adjacency.specs.declared.cursor.Start.{Start}
-use Rattle.adjacency.specs.Cursor.{remaining, step-of, Ready}
-use Rattle.adjacency.specs.CursorLaws.{turn, found-is}
+use Rattle.adjacency.specs.Cursor.{remaining, Ready, Sought}
+use Rattle.adjacency.specs.Reading.{before-first, before-fails, sought-whole, sought-over}
 use Rattle.adjacency.specs.Walk.{walk-in, entries-column, next-column, Started}
 use Rattle.adjacency.specs.WalkLaws.{started-left, started-seekable}
+use Rattle.adjacency.specs.Axis.{Advanceable}
 use Rattle.adjacency.specs.Clear.{Retired, LeftClearable, Clearable}
 
 -- ---- flags
@@ -52,6 +53,16 @@ pub retired-none : (slots : ℕ) (words : List ℕ) → Retired slots [] words w
 unfolding member
 retired-none slots words = record {
   flags = λ k. sym (and-true (getD (live-flags words slots) k false));
+  counted = omega arith;
+  packs = λ p. p;
+  others = refl;
+  long = refl;
+}
+
+-- dead ones
+retired-dead : (slots : ℕ) (words l : List ℕ) → Retired slots (before-first (live-in (live-flags words slots)) l) words words 0
+retired-dead slots words l = record {
+  flags = λ k. sym (before-fails (live-in (live-flags words slots)) l k);
   counted = omega arith;
   packs = λ p. p;
   others = refl;
@@ -129,6 +140,13 @@ retired-both {slots} {entry = entry} true a b first second =
     (retired-live (raw a ++ raw b) (retired-then (retired-raw true a first) (retired-raw true b second)))
 retired-both false a b first second = retired-then first second
 
+-- some, and then dead ones passed over
+retired-over : {slots n : ℕ} {es entry exit : List ℕ} → Retired slots es entry exit n → (l : List ℕ)
+    → Retired slots (es ++ before-first (live-in (live-flags exit slots)) l) entry exit n
+retired-over {slots} {n} {es} {entry} {exit} a l =
+    subst (λ (m : ℕ). Retired slots (es ++ before-first (live-in (live-flags exit slots)) l) entry exit m) (omega arith)
+    (retired-then a (retired-dead slots exit l))
+
 -- what was dead stays dead
 pub retired-stays : {slots n : ℕ} {es entry exit : List ℕ} → Retired slots es entry exit n → (k : ℕ) → getD (live-flags entry slots) k false ≡ false
     → getD (live-flags exit slots) k false ≡ false
@@ -153,34 +171,54 @@ pub clearing-start : {linked : Bool} {entries next : List ℕ} (slots : ℕ) {c 
     → Clearing linked entries next slots c live live 0 c
 clearing-start slots live r = record { past = []; ready = r; whole = refl; retired = retired-none slots live }
 
+-- the next live entry can be sought
+pub clearing-next : {ws : List ℕ} {ce cn : ℕ} {linked : Bool} {live₀ live : List ℕ} {slots n : ℕ} {c₀ c : AdjacencyCursor} → LeftClearable ws ce cn linked live₀ slots c₀
+    → Clearing linked (entries-column ws ce linked) (next-column ws ce) slots c₀ live₀ live n c → Advanceable ws ce cn linked live slots c
+clearing-next p i = record {
+  sized = p .advanceable .sized;
+  seekable = record { ready = i .ready; live-long = omega (arith, i .retired .long, p .advanceable .seekable .live-long) };
+}
+
 module _ {linked : Bool} {entries next : List ℕ} {slots : ℕ} {c₀ c : AdjacencyCursor} {live₀ live : List ℕ} {n : ℕ}
-    (i : Clearing linked entries next slots c₀ live₀ live n c) {s : Step} (r : s ≡ step-of linked entries next c) where
-  -- past one entry more
+    (i : Clearing linked entries next slots c₀ live₀ live n c) {s : Step} (found : Sought (live-in (live-flags live slots)) linked entries next c s) where
+  abbrev left : List ℕ
+  left = remaining linked entries next c
+
+  -- those passed over, which are dead
+  abbrev over : List ℕ
+  over = before-first (live-in (live-flags live slots)) left
+
+  -- past them, and past one live entry more
   pub clearing-on : {e m : ℕ} {live' : List ℕ} → s .found ≡ Edge e → Retired slots (e ∷ []) live live' m
       → Clearing linked entries next slots c₀ live₀ live' (n + m) (s .cursor)
   clearing-on {e} q gone = record {
-    past = i .past ++ (e ∷ []);
-    ready = turn (i .ready) r .ready;
-    whole = i .whole ∙ rw (found-is (i .ready) r q) (sym (append-snoc (i .past) e (remaining linked entries next (s .cursor))));
-    retired = retired-then (i .retired) gone;
+    past = (i .past ++ over) ++ (e ∷ []);
+    ready = found .ready;
+    whole = i .whole ∙ ap (λ (l : List ℕ). i .past ++ l) (sought-whole found q)
+        ∙ sym (append-assoc (i .past) over (e ∷ remaining linked entries next (s .cursor)))
+        ∙ sym (append-snoc (i .past ++ over) e (remaining linked entries next (s .cursor)));
+    retired = retired-then (retired-over (i .retired) left) gone;
   }
 
   -- at the end all are past
   pub clearing-end : s .found ≡ Done → Retired slots (remaining linked entries next c₀) live₀ live n
-  clearing-end q = rw (i .whole, found-is (i .ready) r q, append-nil (i .past)) (i .retired)
+  clearing-end q =
+      subst (λ (l : List ℕ). Retired slots l live₀ live n) (sym (i .whole ∙ ap (λ (l : List ℕ). i .past ++ l) (sought-over found q)))
+      (retired-over (i .retired) left)
 
--- ---- a node's walk, read from columns that were handed out
+-- ---- a node's walk
 
 module _ {ws : List ℕ} {ce cn : ℕ} {counts : Counts} {live-edges : List ℕ} {x : ℕ} (p : Clearable ws ce cn counts live-edges x) {live : Bool} {s : Start}
-    (t : Started ws ce cn counts x live s) {entries next : List ℕ} (are-entries : entries ≡ entries-column ws ce (s .linked)) (is-next : next ≡ next-column ws ce) where
+    (t : Started ws ce cn counts x live s) where
   -- its entries can be made dead
-  pub given-clearable : LeftClearable (s .linked) entries next live-edges (counts .edges .bound) (s .cursor)
-  given-clearable = record {
-    seekable = started-seekable t are-entries is-next (p .live-long);
+  pub started-clearable : LeftClearable ws ce cn (s .linked) live-edges (counts .edges .bound) (s .cursor)
+  started-clearable = record {
+    advanceable = record { sized = p .readable .sized; seekable = started-seekable t refl refl (p .live-long) };
     few = let bounded = p .readable .edges in let sized = p .readable .sized in omega arith;
   }
 
   -- and then the walk is
-  pub given-retired : {exit : List ℕ} {n : ℕ} → Retired (counts .edges .bound) (remaining (s .linked) entries next (s .cursor)) live-edges exit n
+  pub started-retired : {exit : List ℕ} {n : ℕ}
+      → Retired (counts .edges .bound) (remaining (s .linked) (entries-column ws ce (s .linked)) (next-column ws ce) (s .cursor)) live-edges exit n
       → Retired (counts .edges .bound) (walk-in ws ce cn counts live-edges x live) live-edges exit n
-  given-retired gone = retired-walk live (adjacency-in ws ce cn counts x) (rw (are-entries, is-next, started-left t) at gone)
+  started-retired gone = retired-walk live (adjacency-in ws ce cn counts x) (rw (started-left t) at gone)

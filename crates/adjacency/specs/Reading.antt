@@ -3,14 +3,15 @@ use Prim.Native.Nat.{ℕ, suc, _+_, _≤_, _<_}
 use native.Mathlib.Omega.{arith}
 use native.Mathlib.Numerals.{add-one}
 use mathlib.Core.Path.{_≡_, refl, sym, ap, _∙_}
-use mathlib.Core.Bool.{Bool, true, false}
+use mathlib.Core.Bool.{Bool, true, false, cond, _&&_, not}
 use mathlib.Core.List.{List, [], _∷_, _++_, map, append-nil}
 use lib.ListN.{length, getD, set, drop, length-append, length-set, length-map}
 use lib.Seq.{drop-cons, set-at, append-snoc}
 use lib.Dec.{eqb}
+use borrow.Author.Tests.{eqb-true}
 use Rattle.plain.specs.Numbers.{NONE, LIMIT}
 use Rattle.plain.specs.Lists.{member, keep, written}
-use Rattle.plain.specs.Laws.Booleans.{by-test, and-left}
+use Rattle.plain.specs.Laws.Booleans.{by-test, and-left, and-true}
 use Rattle.plain.specs.Laws.ListLaws.{map-snoc, member-first, member-keep, length-keep, count-length}
 use Rattle.shape.specs.Laws.Walking.{until-short}
 use Rattle.adjacency.specs.declared.cursor.AdjacencyCursor.{AdjacencyCursor}
@@ -34,6 +35,27 @@ from-first-passes test [] e rest q = let z : _≡_ {A = ℕ} 0 1 = cc in absurd 
 from-first-passes test (x ∷ xs) e rest q =
     by-test (test x) (λ t. let same : x ≡ e = cc (rw t at q) in rw same at t) (λ t. from-first-passes test xs e rest (rw t at q))
 
+-- those before it
+unfoldable pub before-first : (ℕ → Bool) → List ℕ → List ℕ
+before-first test [] = []
+before-first test (x ∷ xs) = cond (test x) [] (x ∷ before-first test xs)
+
+-- both are the list
+before-from : (test : ℕ → Bool) (xs : List ℕ) → xs ≡ before-first test xs ++ from-first test xs
+unfolding before-first from-first
+before-from test [] = refl
+before-from test (x ∷ xs) = by-test (test x) (λ t. rw t) (λ t. rw t (ap (λ (l : List ℕ). x ∷ l) (before-from test xs)))
+
+-- none of those before it passes
+pub before-fails : (test : ℕ → Bool) (xs : List ℕ) (k : ℕ) → (test k && not (member k (before-first test xs))) ≡ test k
+unfolding before-first member
+before-fails test [] k = and-true (test k)
+before-fails test (x ∷ xs) k =
+    by-test (test x) (λ t. rw t (and-true (test k)))
+    (λ t.
+    rw t
+    (by-test (eqb k x) (λ q. let fails : test k ≡ false = ap test (eqb-true k x q) ∙ t in rw (q, fails)) (λ q. rw q (before-fails test xs k))))
+
 -- ---- what a search found
 
 module _ {test : ℕ → Bool} {linked : Bool} {entries next : List ℕ} {c : AdjacencyCursor} {s : Step} (found : Sought test linked entries next c s) where
@@ -46,7 +68,25 @@ module _ {test : ℕ → Bool} {linked : Bool} {entries next : List ℕ} {c : Ad
       sym (from-first-keep test (remaining linked entries next c))
       ∙ rw (left, from-first-passes test (remaining linked entries next c) e (remaining linked entries next (s .cursor)) left)
 
-  -- nothing: no entry passes
+  -- the entries before it were passed over
+  pub sought-whole : {e : ℕ} → s .found ≡ Edge e
+      → remaining linked entries next c ≡ before-first test (remaining linked entries next c) ++ (e ∷ remaining linked entries next (s .cursor))
+  sought-whole {e} q =
+      let left : from-first test (remaining linked entries next c) ≡ e ∷ remaining linked entries next (s .cursor) = rw q at (found .left) in
+      before-from test (remaining linked entries next c) ∙ ap (λ (l : List ℕ). before-first test (remaining linked entries next c) ++ l) left
+
+  -- less is left
+  pub sought-less : {e : ℕ} → s .found ≡ Edge e → length (remaining linked entries next (s .cursor)) < length (remaining linked entries next c)
+  sought-less {e} q = omega (arith, simp length-append at (ap length (sought-whole q)))
+
+  -- nothing: all were passed over
+  pub sought-over : s .found ≡ Done → remaining linked entries next c ≡ before-first test (remaining linked entries next c)
+  sought-over q =
+      let left : from-first test (remaining linked entries next c) ≡ [] = rw q at (found .left) in
+      before-from test (remaining linked entries next c) ∙ ap (λ (l : List ℕ). before-first test (remaining linked entries next c) ++ l) left
+      ∙ append-nil (before-first test (remaining linked entries next c))
+
+  -- and no entry passes
   pub sought-none : s .found ≡ Done → keep test (remaining linked entries next c) ≡ []
   unfolding keep
   sought-none q =

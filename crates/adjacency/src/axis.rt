@@ -8,9 +8,10 @@ ghost use Rattle.liveness.specs.Flags.{live-flags};
 ghost use Rattle.shape.specs.Columns.{Sized};
 ghost use Rattle.adjacency.specs.Cursor.{listed, Seekable, Sought};
 ghost use Rattle.adjacency.specs.Index.{bounds-at};
-ghost use Rattle.adjacency.specs.Axis.{offsets-column, Columns, stepped};
+ghost use Rattle.adjacency.specs.Axis.{offsets-column, Columns, stepped, Advanceable, Advanced};
 use crate::cursor::AdjacencyCursor;
 use crate::cursor::Found;
+use crate::cursor::Step;
 use crate::index;
 use crate::index::BaseBounds;
 use crate::walk;
@@ -78,4 +79,27 @@ pub fn advance<'s, 'a, 'l>(
     );
     *cursor = step.cursor;
     step.found
+}
+
+// The next listed entry from the packed words, the cursor by value: for walks that take neither the axis nor a lent cursor.
+pub fn next_listed(
+    cursor: AdjacencyCursor,
+    words: &[u32],
+    edges: usize,
+    nodes: usize,
+    linked: bool,
+    tombstoned: bool,
+    live: &[u64],
+    slots: usize,
+) -> Step
+    requires { ⌜ Advanceable (now words) edges nodes linked (now live) slots cursor ⌝ }
+    ensures { λ r. ⌜ Advanced (now (words .entry)) edges linked tombstoned (now (live .entry)) slots cursor r ⌝ }
+{
+    let mut lent = cursor;
+    let axis = Axis::of(words, edges, nodes, linked);
+    let found = advance(&mut lent, axis, linked, tombstoned, live, slots);
+    Step {
+        cursor: lent,
+        found: found,
+    }
 }

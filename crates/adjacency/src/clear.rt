@@ -1,12 +1,14 @@
 // Making every edge of a node's walk dead, in one direction (`clear_adjacency` of the Rust). Removing a node is this with the one axis and then with the other. The
-// walk is cleared as it is read, with no memory for it: a removed edge stays an entry of its lists, so what the cursor has still to read does not change.
+// walk is cleared as it is read, with no memory for it: a removed edge stays an entry of its lists, so what the cursor has still to read does not change, and
+// entries that are dead, before or by now, are passed over.
 
 ghost use mathlib.Core.List.{[], _∷_};
 ghost use Prim.Native.Nat.{_*_, _≤_};
 ghost use lib.ListN.{length};
 ghost use Rattle.adjacency.specs.Cursor.{remaining};
-ghost use Rattle.adjacency.specs.Walk.{walk-in};
+ghost use Rattle.adjacency.specs.Walk.{walk-in, entries-column, next-column};
 ghost use Rattle.adjacency.specs.Clear.{Retired, LeftClearable, Clearable};
+use crate::axis::next_listed;
 use crate::cursor::AdjacencyCursor;
 use crate::cursor::Found;
 use crate::walk;
@@ -26,19 +28,20 @@ fn retire(live_edges: &mut [u64], slots: usize, edge: u32) -> u32
 // Makes the entries dead that a cursor has still to read. Answers how many were live.
 fn clear_left(
     from: AdjacencyCursor,
+    axis: &[u32],
+    edges: usize,
+    nodes: usize,
     linked: bool,
-    entries: &[u32],
-    next: &[u32],
     live_edges: &mut [u64],
     slots: usize,
 ) -> u32
-    requires { ⌜ LeftClearable linked (now entries) (now next) (now «live_edges») slots from ⌝ }
-    ensures { λ r. ⌜ Retired slots (remaining linked (now (entries .entry)) (now (next .entry)) from) (now («live_edges» .entry)) (now («live_edges» .exit)) r ⌝ }
+    requires { ⌜ LeftClearable (now axis) edges nodes linked (now «live_edges») slots from ⌝ }
+    ensures { λ r. ⌜ Retired slots (remaining linked (entries-column (now (axis .entry)) edges linked) (next-column (now (axis .entry)) edges) from) (now («live_edges» .entry)) (now («live_edges» .exit)) r ⌝ }
 {
     let mut cursor = from;
     let mut n: u32 = 0;
     loop {
-        let step = cursor.step(linked, entries, next);
+        let step = next_listed(cursor, axis, edges, nodes, linked, true, live_edges, slots);
         let found = step.found;
         match found {
             Found::Edge(edge) => {
@@ -66,9 +69,14 @@ pub fn clear_adjacency(
     ensures { λ r. ⌜ Retired (counts .edges .bound) (walk-in (now (axis .entry)) edges nodes counts (now («live_edges» .entry)) node live) (now («live_edges» .entry)) (now («live_edges» .exit)) r ⌝ }
 {
     let start = walk::start(axis, edges, nodes, counts, node, live);
-    let linked = start.linked;
     let slots = counts.edges.bound as usize;
-    let entries = walk::entries_of(axis, edges, linked);
-    let next = walk::next_of(axis, edges);
-    clear_left(start.cursor, linked, entries, next, live_edges, slots)
+    clear_left(
+        start.cursor,
+        axis,
+        edges,
+        nodes,
+        start.linked,
+        live_edges,
+        slots,
+    )
 }

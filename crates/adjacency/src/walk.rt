@@ -35,31 +35,34 @@ pub fn start(
     requires { ⌜ Readable (now axis) edges nodes counts node ⌝ }
     ensures { λ r. ⌜ Started (now (axis .entry)) edges nodes counts node live r ⌝ }
 {
-    let mut cursor = AdjacencyCursor::EXHAUSTED;
     if !live {
         return Start {
             linked: false,
-            cursor,
+            cursor: AdjacencyCursor::exhausted(),
         };
     }
     let ring = rings::ring_ends(axis, edges, node);
-    cursor.delta = ring.first;
-    cursor.delta_last = ring.last;
     let mark = axis[4 * edges + 4 * nodes + node];
     if mark != 0 {
-        cursor.base = axis[4 * edges + nodes + node];
-        cursor.base_end = axis[4 * edges + 3 * nodes + node];
         return Start {
             linked: true,
-            cursor,
+            cursor: AdjacencyCursor {
+                base: axis[4 * edges + nodes + node],
+                base_end: axis[4 * edges + 3 * nodes + node],
+                delta: ring.first,
+                delta_last: ring.last,
+            },
         };
     }
     let bounds = index::base_bounds(axis, edges, nodes, counts.nodes.base as usize, node);
-    cursor.base = bounds.start;
-    cursor.base_end = bounds.end;
     Start {
         linked: false,
-        cursor,
+        cursor: AdjacencyCursor {
+            base: bounds.start,
+            base_end: bounds.end,
+            delta: ring.first,
+            delta_last: ring.last,
+        },
     }
 }
 

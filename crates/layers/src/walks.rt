@@ -1,7 +1,6 @@
 // Walks, degrees and far ends of one direction, over its packed axis. `edges` and `nodes` are the capacities of the axis; `live` says whether the node is live.
 
-use adjacency::axis;
-use adjacency::axis::Axis;
+use adjacency::axis::next_listed;
 use adjacency::cursor::AdjacencyCursor;
 use adjacency::cursor::Found;
 use adjacency::cursor::Start;
@@ -14,7 +13,7 @@ ghost use lib.ListN.{length};
 ghost use Rattle.plain.specs.Lists.{written};
 ghost use Rattle.shape.specs.Columns.{end-at};
 ghost use Rattle.adjacency.specs.Walk.{walk-in, Readable, Walkable, WalkFits, Started};
-ghost use Rattle.adjacency.specs.Axis.{Advanceable, Advanced};
+ghost use Rattle.adjacency.specs.Axis.{stepped, Advanceable, Advanced};
 ghost use Rattle.layers.specs.Words.{found-as, Told};
 
 #[no_mangle]
@@ -85,8 +84,8 @@ pub extern "C" fn lot_write_neighbors(
     adjacency::walk::write_neighbors(axis, far, edges, nodes, counts, live_edges, node, live, out);
 }
 
-// Where a walk starts that is read edge by edge, and whether it reads a run. `lot_advance` then gives one entry after the other: what it leaves is ready to be
-// advanced again.
+// Where a walk starts that is read edge by edge, and whether it reads a run. `lot_next_listed` then gives one entry after the other: the cursor that it returns
+// is ready for the next.
 #[no_mangle]
 pub extern "C" fn lot_start(
     axis: &[u32],
@@ -113,10 +112,10 @@ fn word_of(found: Found) -> u32
     }
 }
 
-// Moves the lent cursor to behind the next listed entry, which is returned; NONE where none is left.
+// The next listed entry is written through `edge`, NONE where none is left, and the cursor behind it returned.
 #[no_mangle]
-pub extern "C" fn lot_advance(
-    cursor: &mut AdjacencyCursor,
+pub extern "C" fn lot_next_listed(
+    cursor: AdjacencyCursor,
     axis: &[u32],
     edges: usize,
     nodes: usize,
@@ -124,11 +123,22 @@ pub extern "C" fn lot_advance(
     tombstoned: bool,
     live_edges: &[u64],
     slots: usize,
-) -> u32
-    requires { ⌜ Advanceable (now axis) edges nodes linked (now «live_edges») slots (now cursor) ⌝ }
-    ensures { λ r. ⌜ Advanced (now (axis .entry)) edges linked tombstoned (now («live_edges» .entry)) slots (now (cursor .entry)) (now (cursor .exit)) (found-as r) ⌝ }
+    edge: &mut u32,
+) -> AdjacencyCursor
+    requires { ⌜ Advanceable (now axis) edges nodes linked (now «live_edges») slots cursor ⌝ }
+    ensures { λ r. ⌜ Advanced (now (axis .entry)) edges linked tombstoned (now («live_edges» .entry)) slots cursor (stepped r (found-as (now (edge .exit)))) ⌝ }
 {
-    let along = Axis::of(axis, edges, nodes, linked);
-    let found = axis::advance(cursor, along, linked, tombstoned, live_edges, slots);
-    word_of(found)
+    let step = next_listed(
+        cursor,
+        axis,
+        edges,
+        nodes,
+        linked,
+        tombstoned,
+        live_edges,
+        slots,
+    );
+    let found = step.found;
+    *edge = word_of(found);
+    step.cursor
 }

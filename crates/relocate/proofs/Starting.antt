@@ -1,5 +1,5 @@
 -- The loop that copies the live entries of a base part to an empty run, and the start of a run.
-use Prim.Native.Nat.{ℕ, suc, _+_, _-_, _*_, _≤_, _<_}
+use Prim.Native.Nat.{ℕ, _+_, _-_, _*_, _≤_, _<_}
 use native.Mathlib.Omega.{arith}
 use mathlib.Core.Path.{_≡_, refl, sym, ap, _∙_, subst}
 use mathlib.Core.Bool.{Bool, true}
@@ -8,21 +8,23 @@ use mathlib.Core.Option.{Option, none, some}
 use mathlib.Core.List.{List, [], _∷_, _++_, append-nil}
 use lib.ListN.{length, getD, set, length-set}
 use lib.Seq.{getD-set-same, getD-set-other, append-snoc}
-use borrow.Author.Tests.{lt-ltb, le-ltb}
 use Rattle.plain.specs.declared.Counts.{Counts}
 use Rattle.plain.specs.Lists.{keep}
 use Rattle.plain.specs.Laws.Booleans.{true-false, both-true}
 use Rattle.plain.specs.Laws.ListLaws.{member-first, member-keep, distinct-left, distinct-apart}
-use Rattle.shape.specs.Columns.{cell, adjacency-at, offset-at, mark-at}
+use Rattle.shape.specs.Columns.{cell, adjacency-at, mark-at}
 use Rattle.shape.specs.Chains.{In}
 use Rattle.shape.specs.Shape.{adjacency-in, raw, hiding, live-in, between, base-of, run-of, ring-of}
 use Rattle.shape.specs.Steps.{live-entries, run-or-base, taken}
 use Rattle.shape.specs.Checked.{Indexed}
 use Rattle.shape.specs.Laws.Chains.{in-front, in-none}
-use Rattle.shape.specs.Laws.Frames.{run-list-below, run-of-unmarked, offset-within}
+use Rattle.shape.specs.Laws.Frames.{run-list-below, run-of-unmarked}
+use Rattle.shape.specs.Laws.NewBase.{base-between, base-range}
 use Rattle.shape.specs.Laws.Walking.{between-none, between-some}
 use Rattle.shape.specs.Laws.Taking.{keep-append, keep-again}
 use Rattle.shape.specs.Laws.Keeping.{in-keep, in-either, in-second}
+use Rattle.adjacency.specs.Index.{Based, base-bounds}
+use Rattle.adjacency.specs.declared.index.BaseBounds.{BaseBounds}
 use Rattle.relocate.specs.Runs.{Edited, Grown, Keepable}
 use Rattle.relocate.specs.Runs.Laws.{run-of-marked, edited, edited-none, edited-again, edited-list, edited-mark, edited-new, edited-other, edited-ring, edited-rings}
 use Rattle.relocate.specs.Overlay.{flags-of, Ready, Remade, Copyable, Copied, Started, Drainable, Drained, TakenOver}
@@ -49,35 +51,34 @@ module _ {ws : List ℕ} {ce cn : ℕ} {counts : Counts} {live : List ℕ} {node
   start : Edited ws ws ce cn counts node []
   start = rw (← pre .empty) (edited-none (pre .editable) (pre .marked))
 
-  -- a node past the base has no base part
-  pub copy-none : counts .nodes .base ≤ node → Copied ws ws ce cn counts live node
-  unfolding base-of keep
-  copy-none h = rw (le-ltb node (counts .nodes .base) h) start
+  -- the words have the index's offsets
+  pub copy-based : Based ws ce cn (counts .nodes .base)
+  copy-based = let e = pre .editable in record { sized = e .sized; within = omega (arith, pre .nodes-based, e .nodes-within) }
 
-  -- the index of a node with a base part
-  indexed : node < counts .nodes .base → Indexed ws ce cn (counts .nodes .base) (counts .edges .base)
-  indexed h = ⊎-elim (λ q. absurd (omega (arith, q .0))) (λ ok. ok) (pre .index)
-
-  pub copy-start : node < counts .nodes .base → Copying ws ws ce cn counts live node (offset-at ws ce cn node) (getD ws (4 * ce + 5 * cn + node + 1) 0)
-  unfolding base-of keep
-  copy-start h =
-      let place : 4 * ce + 5 * cn + node + 1 ≡ 4 * ce + 5 * cn + suc node = omega arith in
-      rw place
+  pub copy-start : {bounds : BaseBounds} → bounds ≡ base-bounds ws ce cn (counts .nodes .base) node
+      → Copying ws ws ce cn counts live node (bounds .start) (bounds .end)
+  unfolding base-bounds keep
+  copy-start is =
+      rw is
       (record {
         done = [];
-        whole = rw (lt-ltb node (counts .nodes .base) h);
+        whole = base-between ws ce cn (counts .nodes .base) node;
         now = start;
         long = refl;
-        within = offset-within (indexed h) (suc node) h;
+        within = base-range ws ce cn (counts .nodes .base) (pre .index) node .1;
       })
 
   -- a turn
-  module _ {vs : List ℕ} {at end : ℕ} (some-left : at < end) (low : node < counts .nodes .base) (s : Copying ws vs ce cn counts live node at end) where
+  module _ {vs : List ℕ} {at end : ℕ} (some-left : at < end) (s : Copying ws vs ce cn counts live node at end) where
     abbrev entry : ℕ
     entry = adjacency-at vs ce at
 
     abbrev rest : List ℕ
     rest = between (cell ws ce) (at + 1) end
+
+    -- there is an index
+    indexed : Indexed ws ce cn (counts .nodes .base) (counts .edges .base)
+    indexed = ⊎-elim (λ q. absurd (omega (arith, q .1, s .within))) (λ ok. ok) (pre .index)
 
     -- the adjacency column is as it was
     read : adjacency-at vs ce at ≡ adjacency-at ws ce at
@@ -88,7 +89,7 @@ module _ {ws : List ℕ} {ce cn : ℕ} {counts : Counts} {live : List ℕ} {node
     split = s .whole ∙ ap (λ (l : List ℕ). s .done ++ l) (between-some (cell ws ce) at end some-left ∙ ap (λ (z : ℕ). z ∷ rest) (sym read))
 
     pub copy-below : entry < counts .edges .bound
-    copy-below = rw read (let few = indexed low .entries at (omega (arith, s .within)) in omega (arith, pre .edges-based))
+    copy-below = rw read (let few = indexed .entries at (omega (arith, s .within)) in omega (arith, pre .edges-based))
 
     -- the entry is in the base part
     here : In entry base

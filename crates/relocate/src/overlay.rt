@@ -3,6 +3,7 @@
 
 use crate::runs::keep_one;
 use crate::runs::sweep;
+use adjacency::index::base_bounds;
 use adjacency::rings::detach;
 use adjacency::rings::ring_ends;
 use plain::Counts;
@@ -21,14 +22,9 @@ fn copy_base(
     requires { ⌜ Copyable (now axis) edges nodes counts (now live) node ⌝ }
     ensures { λ _. ⌜ Copied (now (axis .entry)) (now (axis .exit)) edges nodes counts (now (live .entry)) node ⌝ }
 {
-    let base = counts.nodes.base as usize;
-    if base <= node {
-        return;
-    }
-    let from = 4 * edges + 5 * nodes + node;
-    let to = from + 1;
-    let end = axis[to];
-    let mut at = axis[from];
+    let bounds = base_bounds(axis, edges, nodes, counts.nodes.base as usize, node);
+    let end = bounds.end;
+    let mut at = bounds.start;
     while at < end {
         let place = edges + at as usize;
         let entry = axis[place];

@@ -320,7 +320,7 @@ impl Readable<'_> {
         kept(out)
     }
 
-    /// The walk edge by edge, by a cursor that is lent for every step.
+    /// The walk edge by edge, by a cursor.
     pub fn steps(&self, node: usize, live: bool) -> Vec<u32> {
         let Axis { words, layout } = self.asked(node);
         // SAFETY: the words are borrowed and as long as stated; `Readable` was
@@ -338,7 +338,7 @@ impl Readable<'_> {
         };
         let mut cursor = start.cursor;
         let mut next =
-            || Some(self.advance(start.linked, &mut cursor)).filter(|&edge| edge != NONE);
+            || Some(self.next_listed(start.linked, &mut cursor)).filter(|&edge| edge != NONE);
         let walk = iter::from_fn(&mut next).collect();
         assert_eq!(next(), None, "a walk that is done stays done");
         walk
@@ -346,15 +346,16 @@ impl Readable<'_> {
 
     /// The next edge of a walk by its cursor, which `lot_start` gave and no one
     /// else moved.
-    fn advance(&self, linked: bool, cursor: &mut AdjacencyCursor) -> u32 {
+    fn next_listed(&self, linked: bool, cursor: &mut AdjacencyCursor) -> u32 {
         let Axis { words, layout } = self.axis;
         let Slots { live, bound, .. } = self.counts.edges;
-        // SAFETY: the slices are borrowed and as long as stated, the cursor is
-        // borrowed mutably; `Advanceable`, since what `lot_start` gives and what
-        // `lot_advance` leaves is proved to be `Ready`.
-        unsafe {
-            exports::lot_advance(
-                cursor,
+        let mut edge = NONE;
+        // SAFETY: the slices are borrowed and as long as stated, and so is the
+        // word for the edge; `Advanceable`, since what `lot_start` gives and what
+        // `lot_next_listed` returns is proved to be `Ready`.
+        *cursor = unsafe {
+            exports::lot_next_listed(
+                *cursor,
                 words.as_ptr(),
                 words.len(),
                 layout.edges,
@@ -364,8 +365,10 @@ impl Readable<'_> {
                 self.live_edges.as_ptr(),
                 self.live_edges.len(),
                 bound as usize,
+                &mut edge,
             )
-        }
+        };
+        edge
     }
 
     /// The far ends of the walk, by the other direction's axis.

@@ -120,8 +120,8 @@ unsafe extern "C" {
         node: usize,
         live: bool,
     ) -> Start;
-    pub fn lot_advance(
-        cursor: *mut AdjacencyCursor,
+    pub fn lot_next_listed(
+        cursor: AdjacencyCursor,
         axis: *const u32,
         length: usize,
         edges: usize,
@@ -131,5 +131,6 @@ unsafe extern "C" {
         live_edges: *const u64,
         live_edges_length: usize,
         slots: usize,
-    ) -> u32;
+        edge: *mut u32,
+    ) -> AdjacencyCursor;
 }

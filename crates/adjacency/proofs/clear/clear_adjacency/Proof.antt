@@ -1,20 +1,19 @@
 -- `adjacency::clear::clear_adjacency` meets its contract: the entries of the started walk made dead are the node's walk made dead.
 use borrow.Author.Needs.{needs}
-use Rattle.adjacency.specs.ClearLaws.{given-clearable, given-retired}
+use Rattle.adjacency.specs.ClearLaws.{started-clearable, started-retired}
 use Rattle.adjacency.proofs.clear.clear_adjacency.Statement.{statement}
 use Rattle.adjacency.proofs.clear.clear_adjacency.Tie as tie
 
 clear-left-requires : tie.Need-clear-left-requires
 clear-left-requires c κs =
-    let s = c .before .before .before .before in
-    given-clearable (s .before .before .before .pre) (s .start .ensures) (c .before .before .entries-of .ensures) (c .before .next-of .ensures)
+    let s = c .before .before in
+    started-clearable (s .before .before .before .pre) (s .start .ensures)
 
 returns : tie.Need-returns
 returns c =
     let v = c .before .before in
-    let s = v .before .before .before .before .before in
-    given-retired (s .before .before .before .pre) (s .start .ensures) (v .before .before .before .entries-of .ensures) (v .before .before .next-of .ensures)
-    (v .clear-left .ensures)
+    let s = v .before .before .before in
+    started-retired (s .before .before .before .pre) (s .start .ensures) (v .clear-left .ensures)
 
 pub clear-adjacency-spec : {M : Type 1} → statement M
 clear-adjacency-spec =
@@ -22,8 +21,6 @@ clear-adjacency-spec =
     (tie.spec
     (λ c κs. search needs)
     (λ c. search needs)
-    (λ c κs. search needs)
-    (λ c κs. search needs)
     clear-left-requires
     (λ c. search needs)
     returns)

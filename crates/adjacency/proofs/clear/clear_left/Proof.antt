@@ -3,45 +3,50 @@ use native.Mathlib.Omega.{arith}
 use borrow.Author.Needs.{needs}
 use lib.ListN.{length}
 use Rattle.adjacency.specs.Cursor.{remaining}
-use Rattle.adjacency.specs.CursorLaws.{turn-less}
-use Rattle.adjacency.specs.ClearLaws.{Clearing, clearing-start, clearing-on, clearing-end, retired-then, retired-few}
+use Rattle.adjacency.specs.Walk.{entries-column, next-column}
+use Rattle.adjacency.specs.Reading.{sought-less}
+use Rattle.adjacency.specs.ClearLaws.{Clearing, clearing-start, clearing-next, clearing-on, clearing-end, retired-then, retired-few}
 use Rattle.adjacency.proofs.clear.clear_left.Statement.{statement}
 use Rattle.adjacency.proofs.clear.clear_left.Tie as tie
 
 abbrev Inv-loop : tie.InvT-loop
-Inv-loop linked entries next live-edges₀ slots cursor₀ n₀ live-edges cursor n =
-    Clearing linked entries next slots cursor₀ live-edges₀ live-edges n cursor
+Inv-loop axis edges nodes linked live-edges₀ slots cursor₀ n₀ live-edges cursor n =
+    Clearing linked (entries-column axis edges linked) (next-column axis edges) slots cursor₀ live-edges₀ live-edges n cursor
 
 abbrev μ-loop : tie.MeasureT-loop
-μ-loop linked entries next live-edges₀ slots cursor₀ n₀ live-edges cursor n = length (remaining linked entries next cursor)
+μ-loop axis edges nodes linked live-edges₀ slots cursor₀ n₀ live-edges cursor n =
+    length (remaining linked (entries-column axis edges linked) (next-column axis edges) cursor)
 
 loop-holds : tie.Need-loop-holds Inv-loop μ-loop
-loop-holds c = let entry = c .before .before .before in clearing-start (entry .args .slots) (entry .args .live-edges .now) (entry .pre .seekable .ready)
+loop-holds c = let entry = c .before .before in clearing-start (entry .args .slots) (entry .args .live-edges .now) (entry .pre .advanceable .seekable .ready)
+
+next-listed-requires : tie.Need-next-listed-requires Inv-loop μ-loop
+next-listed-requires c κs = let at = c .before in clearing-next (at .before .before .before .pre) (at .loop .inv)
 
 retire-requires : tie.Need-retire-requires Inv-loop μ-loop
 retire-requires c κs =
-    let at = c .before .before .before .before .before in
-    omega (arith, at .loop .inv .retired .long, at .before .before .before .before .pre .seekable .live-long)
+    let at = c .before .before .before .before .before .before in
+    clearing-next (at .before .before .before .pre) (at .loop .inv) .seekable .live-long
 
 add-n : tie.Need-add-n Inv-loop μ-loop
 add-n c =
     let gone = c .before .before in
-    let at = gone .before .before .before .before .before .before in
-    omega (arith, retired-few (retired-then (at .loop .inv .retired) (gone .retire .ensures)), at .before .before .before .before .pre .few)
+    let at = gone .before .before .before .before .before .before .before in
+    omega (arith, retired-few (retired-then (at .loop .inv .retired) (gone .retire .ensures)), at .before .before .before .pre .few)
 
 returns : tie.Need-returns Inv-loop μ-loop
-returns c = let s = c .before .before in clearing-end (s .before .loop .inv) (s .step .ensures) (c .enum-told .given .1)
+returns c = let s = c .before .before in clearing-end (s .before .before .loop .inv) (s .next-listed .ensures) (c .enum-told .given .1)
 
 loop-less : tie.Need-loop-less Inv-loop μ-loop
 loop-less c =
     let s = c .before .before .before .before .before .before .before .before in
-    turn-less (s .before .loop .inv .ready) (s .step .ensures) (c .before .before .before .before .before .before .found .given .1)
+    sought-less (s .next-listed .ensures) (c .before .before .before .before .before .before .found .given .1)
 
 loop-again : tie.Need-loop-again Inv-loop μ-loop
 loop-again c =
     let gone = c .before .before .before in
     let s = gone .before .before .before .before .before in
-    clearing-on (s .before .loop .inv) (s .step .ensures) (gone .before .before .before .found .given .1) (gone .retire .ensures)
+    clearing-on (s .before .before .loop .inv) (s .next-listed .ensures) (gone .before .before .before .found .given .1) (gone .retire .ensures)
 
 pub clear-left-spec : {M : Type 1} → statement M
 clear-left-spec =
@@ -50,7 +55,7 @@ clear-left-spec =
     Inv-loop
     μ-loop
     loop-holds
-    (λ c κs. c .loop .inv .ready)
+    next-listed-requires
     (λ c. search needs)
     retire-requires
     add-n

@@ -6,7 +6,10 @@ use Rattle.adjacency.proofs.walk.start.Statement.{statement}
 use Rattle.adjacency.proofs.walk.start.Tie as tie
 
 returns : tie.Need-returns
-returns c = rw (not-true (c .before .before .args .live) (c .if1 .taken)) (none-starts (c .before .before .pre))
+returns c =
+    let t = c .before in
+    let entry = t .before .before in
+    rw (not-true (entry .args .live) (t .if1 .taken), c .exhausted .ensures) (none-starts (entry .pre))
 
 ring-ends-requires : tie.Need-ring-ends-requires
 ring-ends-requires c κs = ends-readable (c .before .before .pre)
@@ -29,6 +32,7 @@ pub start-spec : {M : Type 1} → statement M
 start-spec =
     tie.close
     (tie.spec
+    (λ c κs. search needs)
     returns
     ring-ends-requires
     (λ c. search needs)

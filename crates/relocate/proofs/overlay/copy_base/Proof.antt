@@ -2,22 +2,18 @@
 use Prim.Native.Nat.{_-_, _<_}
 use native.Mathlib.Omega.{arith}
 use borrow.Author.Needs.{needs}
-use Rattle.relocate.proofs.Starting.{Copying, copy-none, copy-start, copy-keep, copy-more, copy-end}
+use Rattle.relocate.proofs.Starting.{Copying, copy-based, copy-start, copy-keep, copy-more, copy-end}
 use Rattle.relocate.proofs.overlay.copy_base.Statement.{statement}
 use Rattle.relocate.proofs.overlay.copy_base.Tie as tie
 
 abbrev Inv-loop : tie.InvT-loop
-Inv-loop axis₀ edges nodes counts node live base from to end at₀ axis at = Copying axis₀ axis edges nodes counts live node at end
+Inv-loop axis₀ edges nodes counts node live end at₀ axis at = Copying axis₀ axis edges nodes counts live node at end
 
 abbrev μ-loop : tie.MeasureT-loop
-μ-loop axis₀ edges nodes counts node live base from to end at₀ axis at = end - at
-
--- the branch that was left, and the start
-abbrev left : tie.At-loop Inv-loop μ-loop → tie.Else1 Inv-loop μ-loop
-left c = c .before .before .before
+μ-loop axis₀ edges nodes counts node live end at₀ axis at = end - at
 
 abbrev start : tie.At-loop Inv-loop μ-loop → tie.Start Inv-loop μ-loop
-start c = left c .before .before .before .before
+start c = c .before .before .before .before .before .before
 
 -- the place of the present entry is in the adjacency column
 place-in : (c : tie.In-loop Inv-loop μ-loop) → c .before .loop .at < start (c .before) .args .edges
@@ -29,7 +25,7 @@ loop-again : tie.Need-loop-again Inv-loop μ-loop
 loop-again c =
     let w = c .before .before in
     let i = w .before .before .before in
-    copy-more (start (i .before) .pre) (i .loop-test .taken) (left (i .before) .if1 .left) (i .before .loop .inv) (w .keep-one .kept .0) (w .keep-one .ensures)
+    copy-more (start (i .before) .pre) (i .loop-test .taken) (i .before .loop .inv) (w .keep-one .kept .0) (w .keep-one .ensures)
 
 pub copy-base-spec : {M : Type 1} → statement M
 copy-base-spec =
@@ -38,22 +34,13 @@ copy-base-spec =
     Inv-loop
     μ-loop
     (λ c. search needs)
-    (λ c. copy-none (c .before .before .before .before .pre) (c .if1 .taken))
-    (λ c. search needs)
-    (λ c. search needs)
-    (λ c. search needs)
-    (λ c. search needs)
-    (λ c. search needs)
-    (λ c. search needs)
-    (λ c. search needs)
-    (λ c. search needs)
-    (λ c. search needs)
-    (λ c. copy-start (c .before .before .before .before .before .before .pre) (c .before .before .if1 .left))
+    (λ c κs. copy-based (c .before .before .before .before .pre))
+    (λ c. copy-start (c .before .before .before .before .before .pre) (c .base-bounds .ensures))
     (λ c. omega (arith, place-in c))
     (λ c. omega (arith, place-in c))
     (λ c. omega (arith, place-in c))
     (λ c. omega (arith, place-in (c .before), c .before .before .loop .inv .long))
-    (λ c κs. let i = c .before .before in copy-keep (start (i .before) .pre) (i .loop-test .taken) (left (i .before) .if1 .left) (i .before .loop .inv))
+    (λ c κs. let i = c .before .before in copy-keep (start (i .before) .pre) (i .loop-test .taken) (i .before .loop .inv))
     (λ c. let i = c .before .before .before .before .before in omega (arith, place-in i))
     (λ c. omega arith)
     loop-again

@@ -1,0 +1,50 @@
+-- `lotstrip_text::print` meets its contract: the lines, the image and a newline one after the other.
+use Prim.Native.Nat.{_<_}
+use native.Mathlib.Omega.{arith}
+use lib.ListN.{length}
+use borrow.Author.Needs.{needs}
+use Rattle.bits.specs.Put.{put-length}
+use Rattle.lotstrip_text.specs.Appending.{append-then, append-one}
+use Rattle.lotstrip_text.specs.Printing.{length-printed}
+use Rattle.lotstrip_text.proofs.print.Statement.{statement}
+use Rattle.lotstrip_text.proofs.print.Tie as tie
+
+write-answers-requires : tie.Need-write-answers-requires
+write-answers-requires c κs =
+    let a = c .before .before .before .before .args in omega (arith, length-printed (a .answers .now) (a .bytes .now))
+
+write-hex-requires : tie.Need-write-hex-requires
+write-hex-requires c κs =
+    let lines = c .before .before .before in
+    let a = lines .before .before .before .before .before .args in
+    omega (arith, length-printed (a .answers .now) (a .bytes .now), lines .write-answers .ensures .ended, put-length (lines .write-answers .ensures .put))
+
+-- the newline has its place
+room : (c : tie.After-slice-known3) → c .before .before .write-hex .result < length (c .before .before .before .before .before .before .write-answers .last .0)
+room c =
+    let hex = c .before .before in
+    let lines = hex .before .before .before .before in
+    let a = lines .before .before .before .before .before .args in
+    omega (
+      arith,
+      length-printed (a .answers .now) (a .bytes .now),
+      lines .write-answers .ensures .ended,
+      put-length (lines .write-answers .ensures .put),
+      hex .write-hex .ensures .ended,
+    )
+
+returns : tie.Need-returns
+returns c =
+    let hex = c .before .before in
+    append-then (hex .before .before .before .before .write-answers .ensures) (append-one _ (hex .write-hex .ensures .put) (hex .write-hex .ensures .ended) (room c))
+
+pub print-spec : {M : Type 1} → statement M
+print-spec =
+    tie.close
+    (tie.spec
+    write-answers-requires
+    write-hex-requires
+    (λ c. omega (arith, room c, put-length (c .before .before .write-hex .ensures .put)))
+    (λ c. search needs)
+    (λ c. put-length (returns c .put))
+    returns)

@@ -1,0 +1,54 @@
+-- The input's words, four bytes each, one by one.
+use Prim.Native.Nat.{ℕ, _+_, _*_, _/_, _≤_, _<_}
+use mathlib.Core.Path.{_≡_, refl, _∙_}
+use mathlib.Core.List.{List, [], _∷_}
+use native.Mathlib.Omega.{arith}
+use lib.ListN.{length, getD, drop, length-drop}
+use lib.Seq.{getD-drop, drop-drop}
+use Rattle.plain.specs.Lists.{written}
+use Rattle.plain.specs.Lotstrip.{words-of}
+use Rattle.lotstrip_text.specs.Appending.{Next}
+
+-- The words of the input were written to the start of a slice.
+pub record WordsRead (bytes entry exit : List ℕ) : Type 0 where
+  pub words : exit ≡ written (words-of bytes) entry
+
+-- "words most significant byte first": the word whose first byte is at `at`
+abbrev pub word-at : List ℕ → ℕ → ℕ
+word-at bytes at = ((getD bytes at 0 * 256 + getD bytes (at + 1) 0) * 256 + getD bytes (at + 2) 0) * 256 + getD bytes (at + 3) 0
+
+pub length-words : (bytes : List ℕ) → length (words-of bytes) ≡ length bytes / 4
+unfolding words-of
+length-words [] = refl
+length-words (a ∷ []) = refl
+length-words (a ∷ b ∷ []) = refl
+length-words (a ∷ b ∷ c ∷ []) = refl
+length-words (a ∷ b ∷ c ∷ d ∷ rest) = let h = length-words rest in omega arith
+
+words-first : (bytes : List ℕ) → 4 ≤ length bytes → words-of bytes ≡ word-at bytes 0 ∷ words-of (drop 4 bytes)
+unfolding words-of
+words-first [] h = absurd (omega arith)
+words-first (a ∷ []) h = absurd (omega arith)
+words-first (a ∷ b ∷ []) h = absurd (omega arith)
+words-first (a ∷ b ∷ c ∷ []) h = absurd (omega arith)
+words-first (a ∷ b ∷ c ∷ d ∷ rest) h = refl
+
+-- word i, and the words after it
+pub words-next : (bytes : List ℕ) (i : ℕ) → i < length bytes / 4
+    → Next (words-of (drop (4 * i) bytes)) (word-at bytes (4 * i) ∷ []) (words-of (drop (4 * (i + 1)) bytes))
+words-next bytes i h =
+    let here : 4 * i + 0 ≡ 4 * i = omega arith in
+    let next : 4 * i + 4 ≡ 4 * (i + 1) = omega arith in
+    record { is = words-first (drop (4 * i) bytes) (rw length-drop (omega arith)) ∙ simp (getD-drop, drop-drop, here, next) }
+
+-- past the last
+pub words-none : (bytes : List ℕ) (i : ℕ) → length bytes / 4 ≤ i → words-of (drop (4 * i) bytes) ≡ []
+unfolding words-of
+words-none bytes i h = short (drop (4 * i) bytes) (rw length-drop (omega arith))
+  where
+    short : (l : List ℕ) → length l ≤ 3 → words-of l ≡ []
+    short [] h = refl
+    short (a ∷ []) h = refl
+    short (a ∷ b ∷ []) h = refl
+    short (a ∷ b ∷ c ∷ []) h = refl
+    short (a ∷ b ∷ c ∷ d ∷ rest) h = absurd (omega arith)
