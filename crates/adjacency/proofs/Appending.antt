@@ -3,7 +3,7 @@ use Prim.Native.Nat.{ℕ, _+_, _*_, _≤_, _<_}
 use native.Mathlib.Omega.{arith}
 use mathlib.Core.Path.{_≡_, sym, _∙_}
 use mathlib.Core.Bool.{false}
-use mathlib.Core.Logic.{⊎-elim, _≢_}
+use mathlib.Core.Logic.{inl, inr, ⊎-elim, _≢_}
 use mathlib.Core.List.{List, [], _∷_, _++_}
 use lib.ListN.{getD, set, length-set}
 use lib.Seq.{getD-set-same, getD-set-other}
@@ -13,6 +13,7 @@ use Rattle.plain.specs.Laws.Booleans.{refuted}
 use Rattle.shape.specs.Columns.{cell, end-at, next-at, last-at}
 use Rattle.shape.specs.Chains.{In, Ring}
 use Rattle.shape.specs.Shape.{ring-of}
+use Rattle.shape.specs.Writes.{OfRing}
 use Rattle.shape.specs.Laws.Chains.{in-snoc, ring-first, ring-more, ring-none, ring-last, ring-below}
 use Rattle.shape.specs.Laws.Frames.{SameRing, ring-new, ring-others, rings-new}
 use Rattle.adjacency.specs.Rings.{Appendable, Appended}
@@ -44,11 +45,9 @@ module _ {ws : List ℕ} {ce cn nb be node e : ℕ} (pre : Appendable ws ce cn n
           let room = pre .room in
           same i (omega arith) ne (omega arith) (λ some. let low = last-below some in omega arith)
 
-      -- and the ring links past the new edge's
-      past : (i : ℕ) → 2 * ce + e < i → i < 3 * ce → getD vs i 0 ≡ getD ws i 0
-      past i l h =
-          let room = pre .room in
-          same i (omega arith) (omega arith) (omega arith) (λ some. let low = last-below some in omega arith)
+      -- and the ring links but the new edge's and that of the last edge before
+      ring-links : (i : ℕ) → 2 * ce ≤ i → i < 3 * ce → (OfRing ws ce node e i → ⊥) → getD vs i 0 ≡ getD ws i 0
+      ring-links i l h off = let room = pre .room in same i (omega arith) (omega arith) (λ q. off (inl q)) (λ some q. off (inr (some, q)))
 
       -- every entry of the longer ring ends at the node
       own : (x : ℕ) → In x (ring-of ws ce be e node ++ (e ∷ [])) → end-at vs x ≡ node
@@ -95,7 +94,8 @@ module _ {ws : List ℕ} {ce cn nb be node e : ℕ} (pre : Appendable ws ce cn n
             others = ring-others vs nb (e + 1) node xs rise small (pre .rings) here own others;
             rings = rings-new vs nb (e + 1) node xs rise small (pre .rings) here own others;
             below = below;
-            next = past;
+            next = ring-links;
+            last-below = last-below;
             above = above;
           }
 

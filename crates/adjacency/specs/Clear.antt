@@ -1,14 +1,14 @@
 -- Making every edge of a node's walk dead, in one direction: what the functions ask, and what they promise of the live words of the edges. The axis is read alone:
 -- a removed edge stays an entry of its lists.
-use Prim.Native.Nat.{ℕ, _+_, _*_, _≤_}
+use Prim.Native.Nat.{ℕ, _+_, _*_, _/_, _≤_}
 use mathlib.Core.Path.{_≡_}
 use mathlib.Core.Bool.{Bool, true, false, _&&_, not}
+use mathlib.Core.Logic.{_≢_}
 use mathlib.Core.List.{List}
-use lib.ListN.{length, getD, drop}
+use lib.ListN.{length, getD}
 use Rattle.plain.specs.declared.Counts.{Counts}
 use Rattle.plain.specs.Numbers.{LIMIT}
 use Rattle.plain.specs.Lists.{member}
-use Rattle.plain.specs.Memory.{live-words}
 use Rattle.plain.specs.Reads.{live-count}
 use Rattle.liveness.specs.Flags.{live-flags, packed}
 use Rattle.adjacency.specs.declared.cursor.AdjacencyCursor.{AdjacencyCursor}
@@ -21,8 +21,8 @@ pub record Retired (slots : ℕ) (es entry exit : List ℕ) (n : ℕ) : Type 0 w
   pub flags : (k : ℕ) → getD (live-flags exit slots) k false ≡ (getD (live-flags entry slots) k false && not (member k es))
   pub counted : live-count (live-flags entry slots) ≡ n + live-count (live-flags exit slots)
   pub packs : packed entry slots ≡ true → packed exit slots ≡ true
-  -- words past those that the slots need are as they were
-  pub others : drop (live-words slots) exit ≡ drop (live-words slots) entry
+  -- words that hold no bit of one of them that was live are as they were
+  pub others : (i : ℕ) → ((e : ℕ) → member e es ≡ true → getD (live-flags entry slots) e false ≡ true → i ≢ e / 64) → getD exit i 0 ≡ getD entry i 0
   pub long : length exit ≡ length entry
 
 -- What it takes to make the entries dead that a cursor has still to read.

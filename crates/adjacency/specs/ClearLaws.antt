@@ -5,20 +5,20 @@ use mathlib.Core.Path.{_≡_, refl, sym, ap, _∙_, subst}
 use mathlib.Core.Bool.{Bool, true, false, cond, _&&_, _||_, not}
 use mathlib.Core.List.{List, [], _∷_, _++_, append-assoc}
 use lib.ListN.{length, getD, set, length-set}
-use lib.Seq.{append-snoc}
+use lib.Seq.{append-snoc, getD-set-other}
 use lib.Dec.{eqb, eqb·zero-suc, eqb·suc-zero, eqb·suc-suc}
 use Rattle.plain.specs.declared.Counts.{Counts}
 use Rattle.plain.specs.Lists.{member, keep}
-use Rattle.plain.specs.Memory.{live-words}
 use Rattle.plain.specs.Reads.{live-count}
-use Rattle.plain.specs.Laws.Booleans.{by-test, and-true, and-false, or-false}
-use Rattle.plain.specs.Laws.ListLaws.{member-append, member-keep, count-length}
-use Rattle.plain.specs.Laws.Rank.{live-below, live-count-removed}
+use Rattle.plain.specs.Laws.Booleans.{by-test, true-false, and-left, and-true, and-false, or-false}
+use Rattle.plain.specs.Laws.ListLaws.{member-append, member-first, member-keep, count-length}
+use Rattle.plain.specs.Laws.Rank.{live-count-removed}
 use Rattle.liveness.specs.Flags.{live-flags}
 use Rattle.liveness.specs.FlagLaws.{length-flags}
 use Rattle.liveness.specs.Calls.{Cleared}
-use Rattle.liveness.specs.CallLaws.{clear-keeps}
 use Rattle.shape.specs.Shape.{Adjacency, adjacency-in, raw, live-in, walk-of}
+use Rattle.shape.specs.Laws.Chains.{in-front}
+use Rattle.shape.specs.Laws.Keeping.{in-second}
 use Rattle.shape.specs.Laws.Taking.{keep-append}
 use Rattle.adjacency.specs.declared.cursor.AdjacencyCursor.{AdjacencyCursor}
 use Rattle.adjacency.specs.declared.cursor.Found.the-variants.{Edge, Done}
@@ -55,7 +55,7 @@ retired-none slots words = record {
   flags = λ k. sym (and-true (getD (live-flags words slots) k false));
   counted = omega arith;
   packs = λ p. p;
-  others = refl;
+  others = λ i off. refl;
   long = refl;
 }
 
@@ -78,7 +78,10 @@ retired-one {slots} {e} {entry} {exit} {answer} cleared = record {
       ∙ rw (or-false (eqb k e));
   counted = by-test answer one-less (λ q. rw (q, cleared .keeps q) (omega arith));
   packs = cleared .packs;
-  others = by-test answer (λ q. clear-keeps (live-words slots) (word-below q) cleared) (λ q. rw (cleared .keeps q));
+  others = λ i off. by-test answer
+      (λ q. ap (λ (l : List ℕ). getD l i 0) (cleared .others)
+      ∙ getD-set-other entry (e / 64) i (getD exit (e / 64) 0) 0 (off e (member-first e []) (was-live q)))
+      (λ q. rw (cleared .keeps q));
   long = ap length (cleared .others) ∙ length-set entry (e / 64) (getD exit (e / 64) 0);
 }
   where
@@ -88,9 +91,6 @@ retired-one {slots} {e} {entry} {exit} {answer} cleared = record {
     one-less : answer ≡ true → live-count (live-flags entry slots) ≡ cond answer 1 0 + live-count (live-flags exit slots)
     one-less q = rw (q, cleared .flags) (omega (arith, live-count-removed (live-flags entry slots) e (was-live q)))
 
-    word-below : answer ≡ true → e / 64 < live-words slots
-    word-below q = let low = live-below (live-flags entry slots) e (was-live q) in omega (arith, length-flags entry slots)
-
 -- some, and then more
 pub retired-then : {slots n m : ℕ} {es fs entry mid exit : List ℕ} → Retired slots es entry mid n → Retired slots fs mid exit m
     → Retired slots (es ++ fs) entry exit (n + m)
@@ -98,7 +98,9 @@ retired-then {slots} {es = es} {fs = fs} {entry = entry} a b = record {
   flags = λ k. b .flags k ∙ rw (a .flags k, member-append k es fs) (gone (getD (live-flags entry slots) k false) (member k es) (member k fs));
   counted = let first = a .counted in let second = b .counted in omega arith;
   packs = λ p. b .packs (a .packs p);
-  others = b .others ∙ a .others;
+  others = λ i off.
+      b .others i (λ e m live. off e (in-second e es fs m) (and-left (getD (live-flags entry slots) e false) (not (member e es)) (sym (a .flags e) ∙ live)))
+      ∙ a .others i (λ e m. off e (in-front e es fs m));
   long = b .long ∙ a .long;
 }
   where
@@ -112,7 +114,17 @@ module _ {slots n : ℕ} {entry exit : List ℕ} where
   retired-same : {es fs : List ℕ}
       → ((k : ℕ) → (getD (live-flags entry slots) k false && not (member k es)) ≡ (getD (live-flags entry slots) k false && not (member k fs)))
       → Retired slots es entry exit n → Retired slots fs entry exit n
-  retired-same same a = record { flags = λ k. a .flags k ∙ same k; counted = a .counted; packs = a .packs; others = a .others; long = a .long }
+  retired-same {es} {fs} same a = record {
+    flags = λ k. a .flags k ∙ same k;
+    counted = a .counted;
+    packs = a .packs;
+    others = λ i off. a .others i (λ e m live. off e (too e m live) live);
+    long = a .long;
+  }
+    where
+      -- a live one is in both or in neither
+      too : (e : ℕ) → member e es ≡ true → getD (live-flags entry slots) e false ≡ true → member e fs ≡ true
+      too e m live = by-test (member e fs) (λ t. t) (λ t. true-false {b = false} (rw (m, live, t) at (same e)) refl)
 
   -- to make a list dead is to make the live ones of it dead
   retired-live : (l : List ℕ) → Retired slots l entry exit n → Retired slots (keep (live-in (live-flags entry slots)) l) entry exit n

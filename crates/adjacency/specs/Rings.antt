@@ -12,6 +12,7 @@ use Rattle.plain.specs.Numbers.{NONE, LIMIT}
 use Rattle.shape.specs.Columns.{Sized, end-at, next-at, last-at}
 use Rattle.shape.specs.Shape.{ring-of, run-of}
 use Rattle.shape.specs.Checked.{Rings, Runs}
+use Rattle.shape.specs.Writes.{OfRing}
 use Rattle.adjacency.specs.declared.rings.RingEnds.{RingEnds}
 
 -- What it takes to append edge e, the slot past the last edge, to the ring of a node.
@@ -31,8 +32,10 @@ pub record Appended (ws vs : List ℕ) (ce nb be node e : ℕ) : Type 0 where
   pub rings : Rings vs ce nb be (e + 1)
   -- the other ends and the adjacency column are as they were
   pub below : (i : ℕ) → i < 2 * ce → i ≢ e → getD vs i 0 ≡ getD ws i 0
-  -- so are the ring links past the edge's, and everything past the ring links but the node's last edge
-  pub next : (i : ℕ) → 2 * ce + e < i → i < 3 * ce → getD vs i 0 ≡ getD ws i 0
+  -- so are the ring links but the edge's and that of the node's last edge before, where it had one
+  pub next : (i : ℕ) → 2 * ce ≤ i → i < 3 * ce → (OfRing ws ce node e i → ⊥) → getD vs i 0 ≡ getD ws i 0
+  pub last-below : last-at ws ce node ≢ NONE → last-at ws ce node < e
+  -- and everything past the ring links but the node's last edge
   pub above : (i : ℕ) → 3 * ce ≤ i → i ≢ 4 * ce + node → getD vs i 0 ≡ getD ws i 0
 
 -- What it takes to open a node slot.

@@ -10,6 +10,7 @@ pub mod Dropping
 pub mod Settling
 pub mod Compacted
 pub mod Calls
+pub mod Agreeing
 pub mod Again
 pub mod Entry
 pub mod Refuted

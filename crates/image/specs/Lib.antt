@@ -8,6 +8,7 @@ pub mod Directions
 pub mod Reading
 pub mod Answering
 pub mod Calls
+pub mod Agreeing
 pub mod WriteCases
 pub mod ReadCases
 pub mod Refuted

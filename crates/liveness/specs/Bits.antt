@@ -3,6 +3,7 @@ use Prim.Native.Nat.{ℕ, zero, suc, _+_, _-_, _*_, _/_, _%_, _^_, _≤_, _<_}
 use mathlib.Core.Path.{_≡_, refl, sym, ap, _∙_}
 use native.Mathlib.Omega.{arith}
 use native.Mathlib.Nat.{div-one, div-div-eq-div-mul, pow-suc, pow-succ', sub-add-cancel, div-eq-of-lt, one-mul}
+use lib.Arith.{lt-one}
 use lib.Pow.{pow-pos, shl-exact}
 use Rattle.liveness.specs.Flags.{bit}
 
@@ -80,3 +81,17 @@ full-bit (suc r) zero h = rw (bit-zero (2 ^ suc r - 1)) (omega (arith, pow-suc 2
 full-bit (suc r) (suc k) h =
     let e : (2 ^ suc r - 1) / 2 ≡ 2 ^ r - 1 = omega (arith, pow-suc 2 r, pow-pos r) in
     rw (bit-suc (2 ^ suc r - 1) k, e) (full-bit r k (omega arith))
+
+-- a bit is 0 or 1
+pub bit-small : (w k : ℕ) → bit w k < 2
+unfolding bit
+bit-small w k = omega arith
+
+-- a word of k bits is known by them
+pub same-bits : (k a b : ℕ) → a < 2 ^ k → b < 2 ^ k → ((j : ℕ) → j < k → bit a j ≡ bit b j) → a ≡ b
+same-bits zero a b h l same = lt-one h ∙ sym (lt-one l)
+same-bits (suc k) a b h l same =
+    let low : a % 2 ≡ b % 2 = sym (bit-zero a) ∙ same 0 (omega arith) ∙ bit-zero b in
+    let high : a / 2 ≡ b / 2
+    = same-bits k (a / 2) (b / 2) (omega (arith, pow-suc 2 k)) (omega (arith, pow-suc 2 k)) (λ j m. sym (bit-suc a j) ∙ same (suc j) (omega arith) ∙ bit-suc b j) in
+    omega arith

@@ -1,22 +1,40 @@
--- What callers conclude from the promises: words that no slot needs are kept, and making all live a second time changes nothing.
-use Prim.Native.Nat.{ℕ, _/_, _<_}
+-- What callers conclude from the promises: making all live a second time changes nothing, and words made so are words of 64 bits.
+use Prim.Native.Nat.{ℕ, _+_, _-_, _*_, _/_, _%_, _^_, _≤_, _<_}
+use native.Mathlib.Omega.{arith}
+use native.Mathlib.Nat.{lt-of-lt-of-le}
+use native.Mathlib.Decide.{decLe}
 use mathlib.Core.Path.{_≡_, sym, ap, _∙_}
-use mathlib.Core.List.{List, _++_}
-use lib.ListN.{length, getD, drop}
-use lib.Seq.{drop-set-lt, drop-append-seam}
-use Rattle.liveness.specs.Calls.{Pushed, Cleared, Reset, all-live}
-
--- the words from k on are as they were, where the new slot's word is below k
-pub push-keeps : {entry exit : List ℕ} {slots : ℕ} (k : ℕ) → slots / 64 < k → Pushed entry slots exit → drop k exit ≡ drop k entry
-push-keeps {entry} {exit} {slots} k l p = ap (drop k) (p .others) ∙ drop-set-lt k entry (slots / 64) (getD exit (slots / 64) 0) l
-
--- and where the cleared slot's is
-pub clear-keeps : {entry exit : List ℕ} {slots slot : ℕ} {answer : mathlib.Core.Bool.Bool} (k : ℕ) → slot / 64 < k → Cleared entry slots slot answer exit
-    → drop k exit ≡ drop k entry
-clear-keeps {entry} {exit} {slot = slot} k l p = ap (drop k) (p .others) ∙ drop-set-lt k entry (slot / 64) (getD exit (slot / 64) 0) l
+use mathlib.Core.Bool.{cond}
+use mathlib.Core.List.{List, [], _∷_, _++_, append-assoc}
+use lib.Dec.{eqb}
+use lib.Pow.{pow-pos, pow-mono}
+use lib.ListN.{length, getD, drop, replicate, length-replicate, getD-replicate, List·getD-append}
+use lib.Seq.{drop-append-seam}
+use Rattle.liveness.specs.Calls.{Reset, all-live}
+use Rattle.liveness.specs.FlagLaws.{packed-below}
 
 -- words whose slots were all made live are left as they are
 pub reset-again : {entry exit again : List ℕ} {slots : ℕ} → Reset entry slots exit → Reset exit slots again → again ≡ exit
 reset-again {entry} {slots = slots} p q =
     q .words ∙ ap (λ (l : List ℕ). all-live slots ++ drop (length (all-live slots)) l) (p .words)
     ∙ ap (λ (l : List ℕ). all-live slots ++ l) (drop-append-seam (all-live slots) (drop (length (all-live slots)) entry)) ∙ sym (p .words)
+
+-- those that hold a bit of a slot have 64 bits
+pub reset-narrow : {entry exit : List ℕ} {slots : ℕ} → Reset entry slots exit → (i : ℕ) → 64 * i < slots → getD exit i 0 < 2 ^ 64
+unfolding all-live
+reset-narrow {entry} {exit} {slots} p i h = at (decLe (64 * i + 64) slots)
+  where
+    at : Dec (64 * i + 64 ≤ slots) → getD exit i 0 < 2 ^ 64
+    at (yes full) =
+        let low : i < slots / 64 = omega arith in
+        let rest = cond (eqb (slots % 64) 0) [] ((2 ^ (slots % 64) - 1) ∷ []) in
+        let front = replicate (slots / 64) (2 ^ 64 - 1) in
+        let is : getD exit i 0 ≡ 2 ^ 64 - 1
+        = ap (λ (l : List ℕ). getD l i 0) (p .words ∙ append-assoc front rest (drop (length (all-live slots)) entry))
+        ∙ List·getD-append front (rest ++ drop (length (all-live slots)) entry) 0 i (rw length-replicate low)
+        ∙ getD-replicate (slots / 64) i (2 ^ 64 - 1) 0 low in
+        rw is (omega (arith, pow-pos 64))
+    at (no part) =
+        let last : slots / 64 ≡ i = omega arith in
+        let some-left : slots % 64 ≡ 0 → ⊥ = λ q. omega arith in
+        lt-of-lt-of-le (rw last at (packed-below exit slots some-left (p .packs))) (pow-mono {j = 64} (omega arith))

@@ -1,11 +1,11 @@
 -- Laws of the live flags: read at a slot, one more slot, one slot changed.
-use Prim.Native.Nat.{ℕ, zero, suc, _+_, _/_, _%_, _^_, _≤_, _<_}
+use Prim.Native.Nat.{ℕ, zero, suc, _+_, _*_, _/_, _%_, _^_, _≤_, _<_}
 use mathlib.Core.Bool.{Bool, true, false}
 use mathlib.Core.Path.{_≡_, refl, sym, ap, _∙_}
 use mathlib.Core.List.{List, [], _∷_, _++_, map}
 use native.Mathlib.Omega.{arith}
 use native.Mathlib.Nat.{add-zero}
-use native.Mathlib.Decide.{ℕ-discrete}
+use native.Mathlib.Decide.{ℕ-discrete, decLe}
 use native.Mathlib.Nat.{div-eq-of-lt, div-lt-iff-lt-mul}
 use borrow.Author.Tests.{eq-eqb, ne-eqb, eqb-true}
 use lib.Dec.{eqb}
@@ -14,6 +14,7 @@ use lib.ListN.{length, getD, set, take, length-set, length-map, List·getD-eq-de
 use lib.Seq.{ext-getD, getD-take, length-take-le, getD-set-same, getD-set-other}
 use Rattle.plain.specs.Lists.{from}
 use Rattle.liveness.specs.Flags.{bit, live-bit, live-flags, packed}
+use Rattle.liveness.specs.Bits.{bit-small, same-bits}
 
 -- one number more at the end
 from-suc : (a n : ℕ) → from a (suc n) ≡ from a n ++ ((a + n) ∷ [])
@@ -139,3 +140,37 @@ packed-is words slots h = at (ℕ-discrete (slots % 64) 0)
     at : Dec (slots % 64 ≡ 0) → packed words slots ≡ true
     at (yes e) = rw (eq-eqb (slots % 64) 0 e)
     at (no n) = rw (ne-eqb (slots % 64) 0 n, div-eq-of-lt h)
+
+-- ---- words by their flags
+
+-- two bits with one test are one
+same-tests : (a b : ℕ) → a < 2 → b < 2 → eqb a 1 ≡ eqb b 1 → a ≡ b
+same-tests zero zero h l t = refl
+same-tests zero (suc b) h l t = let z = eqb-true zero 1 (t ∙ eq-eqb (suc b) 1 (omega arith)) in omega arith
+same-tests (suc a) zero h l t = let z = eqb-true zero 1 (sym t ∙ eq-eqb (suc a) 1 (omega arith)) in omega arith
+same-tests (suc a) (suc b) h l t = omega arith
+
+-- words of 64 bits that are packed are known by their flags
+pub words-same : (a b : List ℕ) (n : ℕ) → live-flags a n ≡ live-flags b n → packed a n ≡ true → packed b n ≡ true → (i : ℕ) → 64 * i < n
+    → getD a i 0 < 2 ^ 64 → getD b i 0 < 2 ^ 64 → getD a i 0 ≡ getD b i 0
+words-same a b n same a-packed b-packed i h a-fits b-fits = at (decLe (64 * i + 64) n)
+  where
+    -- the bits of slots
+    each : (j : ℕ) → j < 64 → 64 * i + j < n → bit (getD a i 0) j ≡ bit (getD b i 0) j
+    each j l k =
+        let place : (64 * i + j) / 64 ≡ i = omega arith in
+        let bits : (64 * i + j) % 64 ≡ j = omega arith in
+        let told : eqb (bit (getD a i 0) ((64 * i + j) % 64)) 1 ≡ eqb (bit (getD b i 0) ((64 * i + j) % 64)) 1
+        = sym (bit-of a i (64 * i + j) place) ∙ sym (flag-at a n (64 * i + j) k) ∙ ap (λ (f : List Bool). getD f (64 * i + j) false) same
+        ∙ flag-at b n (64 * i + j) k ∙ bit-of b i (64 * i + j) place in
+        same-tests (bit (getD a i 0) j) (bit (getD b i 0) j) (bit-small (getD a i 0) j) (bit-small (getD b i 0) j) (rw bits at told)
+
+    at : Dec (64 * i + 64 ≤ n) → getD a i 0 ≡ getD b i 0
+    -- a word that is full of slots
+    at (yes full) = same-bits 64 (getD a i 0) (getD b i 0) a-fits b-fits (λ j l. each j l (omega arith))
+    -- the last word
+    at (no part) =
+        let last : n / 64 ≡ i = omega arith in
+        let some-left : n % 64 ≡ 0 → ⊥ = λ q. omega arith in
+        same-bits (n % 64) (getD a i 0) (getD b i 0) (rw last at (packed-below a n some-left a-packed)) (rw last at (packed-below b n some-left b-packed))
+        (λ j l. each j (omega arith) (omega arith))

@@ -17,7 +17,7 @@ use Rattle.shape.specs.Columns.{cell, next-at}
 use Rattle.shape.specs.Chains.{In, Line, until}
 use Rattle.shape.specs.Shape.{adjacency-in, raw, hiding, live-in, run-list, run-of, ring-of, base-of}
 use Rattle.shape.specs.Steps.{live-entries}
-use Rattle.shape.specs.Laws.Chains.{line-stop, line-step, line-first, line-short, ring-once, until-is}
+use Rattle.shape.specs.Laws.Chains.{in-front, in-none, line-stop, line-step, line-first, line-short, ring-once, until-is}
 use Rattle.shape.specs.Laws.Frames.{base-kept, index-kept, run-kept, runs-kept, ring-of-none}
 use Rattle.shape.specs.Checked.{Rings, Index}
 use Rattle.shape.specs.Kept.{AxisKept, axis-kept-again}
@@ -27,7 +27,7 @@ use Rattle.adjacency.specs.declared.rings.RingEnds.{RingEnds}
 use Rattle.adjacency.specs.Rings.{EndsReadable, ring-ends, Detached}
 use Rattle.adjacency.specs.Rings.Laws.{ends-readable, ends-ring}
 use Rattle.relocate.specs.Runs.{Edited, Grown, Keepable}
-use Rattle.relocate.specs.Runs.Laws.{run-of-marked, edited-none, edited-again, edited-list, edited-mark, edited-new, edited-rings, edited-kept, edited-writes}
+use Rattle.relocate.specs.Runs.Laws.{run-of-marked, edited-none, edited-again, edited-wider, edited-list, edited-mark, edited-new, edited-rings, edited-kept, edited-writes}
 use Rattle.relocate.specs.Overlay.{flags-of, Ready, Remade, Drainable, Drained}
 use Rattle.relocate.specs.Overlay.Laws.{node-same, edited-base, edited-index, edited-node, remade-run}
 
@@ -46,7 +46,7 @@ pub record Draining (ws vs : List ℕ) (ce cn : ℕ) (counts : Counts) (live : L
   pub rest : List ℕ
   pub whole : ring-of ws ce (counts .edges .base) (counts .edges .bound) node ≡ done ++ rest
   pub line : Line (cell ws (2 * ce)) (counts .edges .base) (counts .edges .bound) p last rest
-  pub now : Edited ws vs ce cn counts node (run-list ws ce cn node ++ live-entries (flags-of live counts) done)
+  pub now : Edited ws vs ce cn counts node (run-list ws ce cn node ++ live-entries (flags-of live counts) done) (raw (adjacency-in ws ce cn counts node))
   pub long : length vs ≡ length ws
 
 -- what is to come
@@ -62,7 +62,7 @@ module _
     {node : ℕ}
     {ys : List ℕ}
     (pre : Ready ws ce cn counts live node)
-    (done : Edited ws us ce cn counts node ys)
+    (done : Edited ws us ce cn counts node ys (raw (adjacency-in ws ce cn counts node)))
     (long : length vs ≡ length us)
     (gone : Detached us vs ce node)
   where
@@ -96,7 +96,7 @@ module _
     run-same = run-kept vs (pre .editable .nodes-within) (pre .editable .edges-within) (done .editable .runs) links columns
 
     -- of the words that no operation writes none is
-    detached-kept : AxisKept us vs ce cn (counts .nodes .bound) (counts .edges .bound)
+    detached-kept : AxisKept us vs ce cn (counts .nodes .bound) (counts .nodes .bound) (counts .edges .bound)
     detached-kept =
         let low = pre .editable .node-below in
         let within = pre .editable .nodes-within in
@@ -112,6 +112,7 @@ module _
           count = λ i l h. gone .kept i (omega arith);
           mark = λ i l h. gone .kept i (omega arith);
           marks = λ i l h. inl (gone .kept i (omega arith));
+          new-marks = λ i l h. absurd (omega arith);
           offsets = λ i l. gone .kept i (omega arith);
         }
 
@@ -186,7 +187,7 @@ module _ {ws : List ℕ} {ce cn : ℕ} {counts : Counts} {live : List ℕ} {node
   unfolding ring-ends keep
   drain-none is none =
       let empty : ring ≡ [] = ring-of-none ws ce (counts .edges .base) (counts .edges .bound) node (sym (ap (λ (z : RingEnds). z .last) is) ∙ none) in
-      remade-run (pre .ready .nodes-based) (pre .ready .edges-based) (pre .ready .index) (pre .ready .rings) empty
+      remade-run {own = []} (pre .ready .nodes-based) (pre .ready .edges-based) (pre .ready .index) (pre .ready .rings) empty (λ e m. in-none e m)
       (rw (empty, append-nil run) (edited-none (pre .ready .editable) (pre .marked)))
 
   -- a ring with a last entry
@@ -235,11 +236,18 @@ module _ {ws : List ℕ} {ce cn : ℕ} {counts : Counts} {live : List ℕ} {node
 
     -- the run with p at its end where p is live
     taken : {us : List ℕ} → Grown vs us ce cn counts node (live-entries flags (p ∷ []))
-        → Edited ws us ce cn counts node (run ++ live-entries flags (s .done ++ (p ∷ [])))
+        → Edited ws us ce cn counts node (run ++ live-entries flags (s .done ++ (p ∷ []))) (raw (adjacency-in ws ce cn counts node))
     taken grown =
         edited-again (s .now)
         (rw (keep-append (live-in flags) (s .done) (p ∷ []), ← append-assoc run (live-entries flags (s .done)) (live-entries flags (p ∷ [])), ← edited-list (s .now))
-        (grown .edited))
+        (edited-wider within grown))
+      where
+        -- what the run has is of the node's adjacency
+        within : (e : ℕ) → In e (run-list vs ce cn node) → In e (raw (adjacency-in ws ce cn counts node))
+        within e m =
+            rw all-raw
+            (in-either e run (live-entries flags (s .done)) (rw (edited-list (s .now)) at m) (in-front e run ring)
+            (λ k. in-second e run ring (rw (s .whole) (in-front e (s .done) (s .rest) (in-keep (live-in flags) e (s .done) k)))))
 
     -- the ring link of p is as it was
     pub drain-link : next-at vs ce p ≡ next-at ws ce p
@@ -274,4 +282,5 @@ module _ {ws : List ℕ} {ce cn : ℕ} {counts : Counts} {live : List ℕ} {node
     drain-last {us} {zs} q len grown same gone =
         let end : s .rest ≡ p ∷ [] = line-stop q (s .line) ∙ ap (λ (z : ℕ). z ∷ []) (sym q) in
         let all : ring ≡ s .done ++ (p ∷ []) = s .whole ∙ ap (λ (l : List ℕ). s .done ++ l) end in
-        detached-remade (pre .ready) (rw all (taken grown)) same gone
+        detached-remade (pre .ready)
+        (subst (λ (l : List ℕ). Edited ws us ce cn counts node (run ++ live-entries flags l) (raw (adjacency-in ws ce cn counts node))) (sym all) (taken grown)) same gone

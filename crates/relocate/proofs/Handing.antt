@@ -125,7 +125,7 @@ module _ {ws : List ℕ} {ce cn : ℕ} {counts : Counts} {old new : ℕ} (pre : 
   us-other : (i : ℕ) → i ≢ gone → getD us i 0 ≡ getD ws i 0
   us-other i ne = getD-set-other ws gone i 0 0 ne
 
-  emptied : Edited ws us ce cn counts old []
+  emptied : Edited ws us ce cn counts old [] []
   emptied =
       let e = pre .editable in
       edited e us [] (length-set ws gone 0)
@@ -133,7 +133,7 @@ module _ {ws : List ℕ} {ce cn : ℕ} {counts : Counts} {old new : ℕ} (pre : 
       (record { counted = getD-set-same ws gone 0 0 (omega (arith, e .node-below, e .nodes-within, e .sized .room)); line = inl refl })
       (λ x f h ne m k. in-none f m) (λ x f h ne m. let low = small x f h m in us-other (3 * ce + f) (omega arith))
       (λ i h. us-other i (omega arith)) (λ i l h. us-other i (omega arith)) (λ i h f t c m. us-other i c)
-      (inl (us-other (4 * ce + 4 * cn + old) (omega (arith, e .node-below, e .nodes-within))))
+      (inl (us-other (4 * ce + 4 * cn + old) (omega (arith, e .node-below, e .nodes-within)))) (λ f h out. us-other (3 * ce + f) (omega arith))
 
   -- where an entry of another run than the second was
   elsewhere : (x f : ℕ) → x < counts .nodes .bound → In f (run-list us ce cn x) → (x ≢ old) × In f (run-list ws ce cn x)
@@ -180,7 +180,9 @@ module _ {ws : List ℕ} {ce cn : ℕ} {counts : Counts} {old new : ℕ} (pre : 
                 (λ full. let low = run-list-below (pre .editable .runs) new (tail-at ws ce cn new) (pre .new-below) (line-last (run-line full xs-run)) in omega arith))
                 (λ i h f t c m. same i f t c (λ full. let low = hand-last full in omega arith))
                 (inl (same (4 * ce + 4 * cn + new) (omega (arith, pre .new-below, e .nodes-within)) (omega (arith, pre .new-below, e .nodes-within))
-                (omega (arith, pre .new-below, e .nodes-within)) (λ full. let low = hand-last full in omega arith)));
+                (omega (arith, pre .new-below, e .nodes-within)) (λ full. let low = hand-last full in omega arith)))
+                (λ f h out. same (3 * ce + f) (omega arith) (omega arith) (omega arith)
+                (λ full q. let at : f ≡ tail-at ws ce cn new = omega arith in out (rw at (line-last (run-line full xs-run)))));
           }
         where
           lengths : present + moved ≡ length (xs ++ ys)

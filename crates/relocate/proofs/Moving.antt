@@ -15,13 +15,13 @@ use Rattle.plain.specs.Laws.Booleans.{by-test, and-right}
 use Rattle.plain.specs.Laws.ListLaws.{member-first, member-keep}
 use Rattle.shape.specs.Columns.{cell, end-at, link-at, first-at, count-at}
 use Rattle.shape.specs.Chains.{In, chain}
-use Rattle.shape.specs.Shape.{adjacency-in, Adjacency, Axis, live-in, run-list, ring-of, axis-of, no-adjacency}
+use Rattle.shape.specs.Shape.{adjacency-in, Adjacency, Axis, raw, live-in, run-list, ring-of, axis-of, no-adjacency}
 use Rattle.shape.specs.Steps.{live-entries, taken, swept, with-run, moved-axis}
 use Rattle.shape.specs.Laws.Chains.{in-front, in-none, in-last, in-snoc, chain-none, chain-some, run-is}
 use Rattle.shape.specs.Kept.{axis-kept-again}
 use Rattle.shape.specs.Laws.Frames.{run-list-below}
-use Rattle.shape.specs.Laws.Taking.{keep-passing}
-use Rattle.shape.specs.Laws.Keeping.{in-keep, in-taken, in-second}
+use Rattle.shape.specs.Laws.Taking.{keep-passing, live-taken}
+use Rattle.shape.specs.Laws.Keeping.{in-either, in-keep, in-taken, in-edited, in-second}
 use Rattle.shape.specs.Laws.Reading.{axis-adjacency}
 use Rattle.relocate.specs.Runs.{Editable, Cuttable, Retainable, Retained}
 use Rattle.relocate.specs.Runs.Laws.{list-of-run, mark-of-run}
@@ -49,7 +49,9 @@ module _
 
     -- the dead entries are out
     pub gather-some : {vs : List ℕ} → Retained us vs ce cn counts node live → Gathered ws vs ce cn counts live node
-    gather-some done = remade-edited (pre .ready .nodes-based) (pre .ready .edges-based) over (rw (remade-list over) at done)
+    gather-some done =
+        remade-edited (pre .ready .nodes-based) (pre .ready .edges-based) (in-taken (flags-of live counts) (adjacency-in ws ce cn counts node)) over
+        (rw (remade-list over) at done)
 
     -- there are none
     pub gather-all : tombstoned ≡ false → Gathered ws us ce cn counts live node
@@ -242,13 +244,23 @@ module _ {ws : List ℕ} {ce cn : ℕ} {counts : Counts} {live : List ℕ} {tomb
         emptied : Remade vs (handed .between) ce cn counts old []
         emptied =
             let l = named-linked in
-            remade-run (l .nodes-based) (l .edges-based) (l .index) (l .rings) (ap (λ (a : Adjacency). a .ring) old-named) (handed .emptied)
+            remade-run (l .nodes-based) (l .edges-based) (l .index) (l .rings) (ap (λ (a : Adjacency). a .ring) old-named) (λ e m. in-none e m)
+            (handed .emptied)
+
+        -- the other run, and its node between the steps
+        abbrev swept-run : List ℕ
+        swept-run = swept flags (taken flags (adjacency-in ws ce cn counts new))
+
+        new-between : adjacency-in (handed .between) ce cn counts new ≡ with-run swept-run (adjacency-in ws ce cn counts new)
+        new-between = emptied .others new (pre .new-placed .below) (λ q. pre .apart (sym q)) ∙ new-named
 
         joined : Remade (handed .between) zs ce cn counts new (run-list vs ce cn new ++ run-list vs ce cn old)
         joined =
             let l = remade-linked named-linked emptied in
             remade-run (l .nodes-based) (l .edges-based) (l .index) (l .rings)
-            (ap (λ (a : Adjacency). a .ring) (emptied .others new (pre .new-placed .below) (λ q. pre .apart (sym q)) ∙ new-named)) (handed .joined)
+            (ap (λ (a : Adjacency). a .ring) new-between)
+            (λ e m. subst (λ (a : Adjacency). In e (raw a)) (sym new-between) (in-front e swept-run [] (rw (list-of-run vs ce cn new (ap (λ (a : Adjacency). a .run) new-named)) at m)))
+            (handed .joined)
 
         -- what the second run has now
         lists : run-list vs ce cn new ++ run-list vs ce cn old ≡ swept flags (taken flags (adjacency-in ws ce cn counts new)) ++ moving
@@ -280,10 +292,27 @@ module _ {ws : List ℕ} {ce cn : ℕ} {counts : Counts} {live : List ℕ} {tomb
                   axis-kept-again (met .gathered .frame)
                   (axis-kept-again (met .prepared .frame)
                   (axis-kept-again (relabelled-kept linked edges (named .relabelled)) (axis-kept-again (emptied .frame) (joined .frame))));
-              writes = λ i out link o n.
-                  joined .writes i link n ∙ emptied .writes i link o ∙ named .relabelled .kept i (λ m. out (rw gathered-list at m))
-                  ∙ met .prepared .writes i link n ∙ met .gathered .writes i link o;
+              writes = λ i out lo ln o n.
+                  joined .writes i (λ q. ln (q .0, q .1, joined-in (q .0) (q .2))) n ∙ emptied .writes i (λ q. lo (q .0, q .1, emptied-in (q .0) (q .2))) o
+                  ∙ named .relabelled .kept i (λ m. out (rw gathered-list at m))
+                  ∙ met .prepared .writes i (λ q. ln (q .0, q .1, prepared-in (q .0) (q .2))) n ∙ met .gathered .writes i lo o;
             }
+          where
+            -- what the nodes have at each step they had at entry
+            joined-in : (e : ℕ) → In e (raw (adjacency-in (handed .between) ce cn counts new)) → In e (raw (adjacency-in ws ce cn counts new))
+            joined-in e m =
+                in-edited flags (adjacency-in ws ce cn counts new) e
+                (in-either e swept-run [] (subst (λ (a : Adjacency). In e (raw a)) new-between m) (λ k. k) (in-none e))
+
+            emptied-in : (e : ℕ) → In e (raw (adjacency-in vs ce cn counts old)) → In e (raw (adjacency-in ws ce cn counts old))
+            emptied-in e m =
+                in-taken flags (adjacency-in ws ce cn counts old) e
+                (in-keep (live-in flags) e (taken flags (adjacency-in ws ce cn counts old))
+                (in-either e moving [] (subst (λ (a : Adjacency). In e (raw a)) old-named m) (λ k. k) (in-none e)))
+
+            prepared-in : (e : ℕ) → In e (raw (adjacency-in (met .between) ce cn counts new)) → In e (raw (adjacency-in ws ce cn counts new))
+            prepared-in e m =
+                subst (λ (a : Adjacency). In e (raw a)) (met .gathered .others new (pre .new-placed .below) (λ q. pre .apart (sym q))) m
 
         -- the move is done
         pub move-done : Moved ws zs ce cn counts live old new r
@@ -297,5 +326,5 @@ module _ {ws : List ℕ} {ce cn : ℕ} {counts : Counts} {live : List ℕ} {tomb
                   (axis-adjacency ws ce cn counts old (pre .old-placed .below)) (axis-adjacency ws ce cn counts new (pre .new-placed .below)));
               checked = λ nodes. relocated-checked (pre .old-placed .below) (pre .new-placed .below) (pre .apart) below relocated nodes flags;
               frame = relocated .frame;
-              writes = λ i past. relocated .writes i (λ m. let low = below i m in omega arith);
+              writes = λ i out. relocated .writes i (λ m. out (rw (← live-taken flags (adjacency-in ws ce cn counts old)) m));
             }

@@ -3,8 +3,10 @@ use Prim.Native.Nat.{ℕ}
 use mathlib.Core.Bool.{Bool}
 use mathlib.Core.List.{List}
 use Rattle.plain.specs.declared.Counts.{Counts}
+use Rattle.shape.specs.Shape.{adjacency-in}
+use Rattle.shape.specs.Laws.Keeping.{in-taken}
 use Rattle.relocate.specs.Runs.{Sweepable, Swept}
-use Rattle.relocate.specs.Overlay.{TakenOver, Preparable, Prepared}
+use Rattle.relocate.specs.Overlay.{flags-of, TakenOver, Preparable, Prepared}
 use Rattle.relocate.specs.Overlay.Laws.{remade-edited, remade-list, remade-mark}
 
 module _
@@ -27,4 +29,6 @@ module _
 
     -- and is then prepared
     pub prepare-end : {vs : List ℕ} → Swept us vs ce cn counts node live → Prepared ws vs ce cn counts live node
-    prepare-end done = remade-edited (pre .ready .nodes-based) (pre .ready .edges-based) over (rw (remade-list over) at done)
+    prepare-end done =
+        remade-edited (pre .ready .nodes-based) (pre .ready .edges-based) (in-taken (flags-of live counts) (adjacency-in ws ce cn counts node)) over
+        (rw (remade-list over) at done)

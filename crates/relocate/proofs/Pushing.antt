@@ -92,16 +92,12 @@ module _ {ws : List ℕ} {ce cn : ℕ} {counts : Counts} {node e : ℕ} (pre : P
           let within = pre .editable .nodes-within in
           let low = pre .editable .node-below in
           let size = run-before (pre .editable) (pre .marked) .counted in
-          record {
-            edited =
-                edited (pre .editable) vs (run ++ (e ∷ [])) long (λ q. pre .marked (sym (same (4 * ce + 4 * cn + node) (omega arith) (omega arith) (omega arith) linked) ∙ q))
-                (record { counted = counted ∙ simp length-append (omega arith); line = inr line }) alone elsewhere
-                (λ i h. same i (omega arith) (omega arith) (omega arith) (λ full. omega arith))
-                (λ i l h. same i (omega arith) (omega arith) (omega arith) (λ full. let at = before full .below t (line-last (before full)) in omega arith))
-                (λ i h f l c m. same i f l c (λ full. let at = push-last full in omega arith))
-                (inl (same (4 * ce + 4 * cn + node) (omega arith) (omega arith) (omega arith) linked));
-            links = links;
-          }
+          edited (pre .editable) vs (run ++ (e ∷ [])) long (λ q. pre .marked (sym (same (4 * ce + 4 * cn + node) (omega arith) (omega arith) (omega arith) linked) ∙ q))
+          (record { counted = counted ∙ simp length-append (omega arith); line = inr line }) alone elsewhere
+          (λ i h. same i (omega arith) (omega arith) (omega arith) (λ full. omega arith))
+          (λ i l h. same i (omega arith) (omega arith) (omega arith) (λ full. let at = before full .below t (line-last (before full)) in omega arith))
+          (λ i h f l c m. same i f l c (λ full. let at = push-last full in omega arith))
+          (inl (same (4 * ce + 4 * cn + node) (omega arith) (omega arith) (omega arith) linked)) links
         where
           linked : n ≢ 0 → 4 * ce + 4 * cn + node ≢ 3 * ce + t
           linked full = let at = push-last full in omega arith
@@ -201,8 +197,4 @@ module _ {ws : List ℕ} {ce cn : ℕ} {counts : Counts} {node : ℕ} {live : Li
   pub keep-dead : live-in flags e ≡ false → Grown ws ws ce cn counts node (live-entries flags (e ∷ []))
   unfolding keep
   keep-dead dead =
-      rw dead
-      (record {
-        edited = rw (append-nil (run-list ws ce cn node)) (edited-none (pre .editable) (pre .marked));
-        links = λ x h out. refl;
-      })
+      rw (dead, append-nil (run-list ws ce cn node)) (edited-none (pre .editable) (pre .marked))

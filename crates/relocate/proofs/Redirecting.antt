@@ -16,7 +16,7 @@ use Rattle.plain.specs.Laws.ListLaws.{member-first}
 use Rattle.plain.specs.Laws.Deleting.{member-gone}
 use Rattle.shape.specs.Columns.{end-at}
 use Rattle.shape.specs.Chains.{In}
-use Rattle.shape.specs.Shape.{adjacency-in, Adjacency, Axis, live-in, ring-of, axis-of, no-adjacency}
+use Rattle.shape.specs.Shape.{adjacency-in, Adjacency, Axis, raw, live-in, ring-of, axis-of, no-adjacency}
 use Rattle.shape.specs.Steps.{taken, swept, with-run, redirected-axis}
 use Rattle.shape.specs.Kept.{axis-kept-none, axis-kept-again}
 use Rattle.shape.specs.Laws.Chains.{in-none}
@@ -44,7 +44,9 @@ module _
     leave-out = record { editable = made .editable; marked = remade-mark made }
 
     pub leave-end : {vs : List ℕ} (e : ℕ) → TakenOut us vs ce cn counts node e → Left ws vs ce cn counts live node e
-    leave-end e done = remade-edited (pre .ready .nodes-based) (pre .ready .edges-based) made (rw (remade-list made) at done)
+    leave-end e done =
+        remade-edited (pre .ready .nodes-based) (pre .ready .edges-based) (in-edited (flags-of live counts) (adjacency-in ws ce cn counts node)) made
+        (rw (remade-list made) at done)
 
 -- ---- arriving
 
@@ -69,7 +71,8 @@ module _
 
     pub arrive-end : {vs : List ℕ} → Grown us vs ce cn counts node (e ∷ []) → Arrived ws vs ce cn counts live node e
     arrive-end grown =
-        remade-edited (pre .preparable .ready .nodes-based) (pre .preparable .ready .edges-based) made (rw (remade-list made) at (grown .edited))
+        remade-edited (pre .preparable .ready .nodes-based) (pre .preparable .ready .edges-based)
+        (in-edited (flags-of live counts) (adjacency-in ws ce cn counts node)) made (rw (remade-list made) at grown)
 
 -- ---- redirecting
 
@@ -97,7 +100,7 @@ module _ {ws : List ℕ} {ce cn : ℕ} {counts : Counts} {live : List ℕ} {tomb
   -- the present end again
   pub redirect-same : old ≡ new → Redirected ws ws ce cn counts live e new old
   redirect-same q =
-      record { previous = refl; unchanged = λ p. refl; changed = λ ne. absurd (ne q); checked = λ nodes a b was. was; frame = axis-kept-none ws ce cn (counts .nodes .bound) (counts .edges .bound); writes = λ i ne link o n. refl }
+      record { previous = refl; unchanged = λ p. refl; changed = λ ne. absurd (ne q); checked = λ nodes a b was. was; frame = axis-kept-none ws ce cn (counts .nodes .bound) (counts .edges .bound); writes = λ i ne lo ln o n. refl }
 
   -- the edge can leave its end
   pub redirect-leave : Preparable ws ce cn counts live tombstoned old
@@ -187,7 +190,8 @@ module _ {ws : List ℕ} {ce cn : ℕ} {counts : Counts} {live : List ℕ} {tomb
                 ∙ gone .below f (omega (arith, pre .axis .linked .edges-within));
             linked = relabelled-linked l edges relabelled unringed;
             frame = axis-kept-again (gone .frame) (axis-kept-again (come .frame) (relabelled-kept l edges relabelled));
-            writes = λ i out link o n. relabelled .kept i out ∙ come .writes i link n ∙ gone .writes i link o;
+            writes = λ i out lo ln o n.
+                relabelled .kept i out ∙ come .writes i (λ q. ln (q .0, q .1, subst (λ (a : Adjacency). In (q .0) (raw a)) new-same (q .2))) n ∙ gone .writes i lo o;
           }
 
       -- the redirection is done

@@ -1,7 +1,7 @@
 -- The loop that takes the dead entries out of a run: it empties the run and appends each entry again where it is live.
 use Prim.Native.Nat.{ℕ, _+_, _-_, _*_, _≤_, _<_}
 use native.Mathlib.Omega.{arith}
-use mathlib.Core.Path.{_≡_, refl, sym, ap, _∙_}
+use mathlib.Core.Path.{_≡_, refl, sym, ap, _∙_, subst}
 use mathlib.Core.Bool.{Bool, true, false}
 use mathlib.Core.Logic.{inl, _≢_}
 use mathlib.Core.List.{List, [], _∷_, _++_, append-nil}
@@ -16,19 +16,19 @@ use Rattle.shape.specs.Columns.{cell, link-at, first-at, count-at}
 use Rattle.shape.specs.Chains.{In, chain}
 use Rattle.shape.specs.Shape.{live-in, run-list}
 use Rattle.shape.specs.Steps.{live-entries, swept, power-of-two}
-use Rattle.shape.specs.Laws.Chains.{in-none, chain-none, chain-some, chain-agree, run-is, run-once, run-short}
+use Rattle.shape.specs.Laws.Chains.{in-front, in-none, chain-none, chain-some, chain-agree, run-is, run-once, run-short}
 use Rattle.shape.specs.Laws.Frames.{run-list-below}
 use Rattle.shape.specs.Laws.Taking.{keep-append, swept-power, swept-other, swept-all}
 use Rattle.shape.specs.Laws.Keeping.{in-keep, in-second}
 use Rattle.relocate.specs.Runs.{Edited, Grown, Keepable, Retainable, Retained, Sweepable, Swept}
-use Rattle.relocate.specs.Runs.Laws.{edited, edited-none, edited-again, edited-list, edited-mark, edited-new}
+use Rattle.relocate.specs.Runs.Laws.{edited, edited-none, edited-again, edited-wider, edited-list, edited-mark, edited-new}
 use Rattle.relocate.proofs.Pushing.{run-before}
 
 -- `done` is what has been looked at, and `left` entries from p on are to come.
 pub record Retaining (ws vs : List ℕ) (ce cn : ℕ) (counts : Counts) (node : ℕ) (live : List ℕ) (left p : ℕ) : Type 0 where
   pub done : List ℕ
   pub whole : run-list ws ce cn node ≡ done ++ chain (cell vs (3 * ce)) left p
-  pub now : Edited ws vs ce cn counts node (live-entries (live-flags live (counts .edges .bound)) done)
+  pub now : Edited ws vs ce cn counts node (live-entries (live-flags live (counts .edges .bound)) done) (run-list ws ce cn node)
   pub long : length vs ≡ length ws
 
 module _ {ws : List ℕ} {ce cn : ℕ} {counts : Counts} {node : ℕ} {live : List ℕ} (pre : Retainable ws ce cn counts node live) where
@@ -66,7 +66,8 @@ module _ {ws : List ℕ} {ce cn : ℕ} {counts : Counts} {node : ℕ} {live : Li
             edited (pre .editable) vs [] (length-set ws (4 * ce + 3 * cn + node) 0) (λ q. pre .marked (sym (other (4 * ce + 4 * cn + node) (omega arith)) ∙ q))
             (record { counted = getD-set-same ws (4 * ce + 3 * cn + node) 0 0 (omega arith); line = inl refl }) (λ x e h ne m k. in-none e m)
             (λ x e h ne m. let e-low = run-list-below (pre .editable .runs) x e h m in other (3 * ce + e) (omega (arith, pre .editable .edges-within)))
-            (λ i h. other i (omega arith)) (λ i l h. other i (omega arith)) (λ i h f t c m. other i c) (inl (other (4 * ce + 4 * cn + node) (omega arith)));
+            (λ i h. other i (omega arith)) (λ i l h. other i (omega arith)) (λ i h f t c m. other i c) (inl (other (4 * ce + 4 * cn + node) (omega arith)))
+            (λ e h out. other (3 * ce + e) (omega arith));
         long = length-set ws (4 * ce + 3 * cn + node) 0;
       }
     where
@@ -125,10 +126,14 @@ module _ {ws : List ℕ} {ce cn : ℕ} {counts : Counts} {node : ℕ} {live : Li
               ∙ ap (λ (l : List ℕ). (s .done ++ (p ∷ [])) ++ l) (sym (chain-agree (cell vs (3 * ce)) (cell us (3 * ce)) (left - 1) (link-at vs ce p) links));
           now =
               edited-again (s .now)
-              (rw (keep-append (live-in flags) (s .done) (p ∷ []), ← edited-list (s .now)) (grown .edited));
+              (rw (keep-append (live-in flags) (s .done) (p ∷ []), ← edited-list (s .now)) (edited-wider kept grown));
           long = len ∙ s .long;
         }
       where
+        -- what was kept is in the run
+        kept : (e : ℕ) → In e (run-list vs ce cn node) → In e run
+        kept e m = rw split (in-front e (s .done) (p ∷ rest) (in-keep (live-in flags) e (s .done) (rw (edited-list (s .now)) at m)))
+
         links : (e : ℕ) → In e rest → link-at us ce e ≡ link-at vs ce e
         links e m =
             let k = member-later e p rest m in
@@ -140,7 +145,7 @@ module _ {ws : List ℕ} {ce cn : ℕ} {counts : Counts} {node : ℕ} {live : Li
   retain-end {vs} {left} {p} h s =
       let none : left ≡ 0 = omega arith in
       let all : run ≡ s .done = s .whole ∙ ap (λ (l : List ℕ). s .done ++ l) (chain-none (cell vs (3 * ce)) left p none) ∙ append-nil (s .done) in
-      rw all (s .now)
+      subst (λ (l : List ℕ). Edited ws vs ce cn counts node (live-entries flags l) run) (sym all) (s .now)
 
 -- ---- sweeping
 

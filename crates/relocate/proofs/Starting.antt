@@ -14,7 +14,7 @@ use Rattle.plain.specs.Laws.Booleans.{true-false, both-true}
 use Rattle.plain.specs.Laws.ListLaws.{member-first, member-keep, distinct-left, distinct-apart}
 use Rattle.shape.specs.Columns.{cell, adjacency-at, mark-at}
 use Rattle.shape.specs.Chains.{In}
-use Rattle.shape.specs.Shape.{adjacency-in, raw, hiding, live-in, between, base-of, run-of, ring-of}
+use Rattle.shape.specs.Shape.{adjacency-in, raw, hiding, live-in, between, base-of, run-list, run-of, ring-of}
 use Rattle.shape.specs.Steps.{live-entries, run-or-base, taken}
 use Rattle.shape.specs.Checked.{Indexed}
 use Rattle.shape.specs.Laws.Chains.{in-front, in-none}
@@ -26,7 +26,7 @@ use Rattle.shape.specs.Laws.Keeping.{in-keep, in-either, in-second}
 use Rattle.adjacency.specs.Index.{Based, base-bounds}
 use Rattle.adjacency.specs.declared.index.BaseBounds.{BaseBounds}
 use Rattle.relocate.specs.Runs.{Edited, Grown, Keepable}
-use Rattle.relocate.specs.Runs.Laws.{run-of-marked, edited, edited-none, edited-again, edited-list, edited-mark, edited-new, edited-other, edited-ring, edited-rings}
+use Rattle.relocate.specs.Runs.Laws.{run-of-marked, edited, edited-none, edited-again, edited-wider, edited-list, edited-mark, edited-new, edited-other, edited-ring, edited-rings}
 use Rattle.relocate.specs.Overlay.{flags-of, Ready, Remade, Copyable, Copied, Started, Drainable, Drained, TakenOver}
 use Rattle.relocate.specs.Overlay.Laws.{edited-base, edited-index, edited-remade}
 
@@ -36,7 +36,7 @@ use Rattle.relocate.specs.Overlay.Laws.{edited-base, edited-index, edite
 pub record Copying (ws vs : List ℕ) (ce cn : ℕ) (counts : Counts) (live : List ℕ) (node at end : ℕ) : Type 0 where
   pub done : List ℕ
   pub whole : base-of ws ce cn (counts .nodes .base) node ≡ done ++ between (cell ws ce) at end
-  pub now : Edited ws vs ce cn counts node (live-entries (flags-of live counts) done)
+  pub now : Edited ws vs ce cn counts node (live-entries (flags-of live counts) done) (base-of ws ce cn (counts .nodes .base) node)
   pub long : length vs ≡ length ws
   pub within : end ≤ counts .edges .base
 
@@ -48,8 +48,8 @@ module _ {ws : List ℕ} {ce cn : ℕ} {counts : Counts} {live : List ℕ} {node
   base = base-of ws ce cn (counts .nodes .base) node
 
   -- nothing is done yet
-  start : Edited ws ws ce cn counts node []
-  start = rw (← pre .empty) (edited-none (pre .editable) (pre .marked))
+  start : Edited ws ws ce cn counts node [] base
+  start = subst (λ (l : List ℕ). Edited ws ws ce cn counts node l base) (pre .empty) (edited-none (pre .editable) (pre .marked))
 
   -- the words have the index's offsets
   pub copy-based : Based ws ce cn (counts .nodes .base)
@@ -118,16 +118,20 @@ module _ {ws : List ℕ} {ce cn : ℕ} {counts : Counts} {live : List ℕ} {node
         record {
           done = s .done ++ (entry ∷ []);
           whole = split ∙ sym (append-snoc (s .done) entry rest);
-          now = edited-again (s .now) (rw (keep-append (live-in flags) (s .done) (entry ∷ []), ← edited-list (s .now)) (grown .edited));
+          now = edited-again (s .now) (rw (keep-append (live-in flags) (s .done) (entry ∷ []), ← edited-list (s .now)) (edited-wider kept grown));
           long = len ∙ s .long;
           within = s .within;
         }
+      where
+        -- what was kept is of the base part
+        kept : (e : ℕ) → In e (run-list vs ce cn node) → In e base
+        kept e m = rw split (in-front e (s .done) (entry ∷ rest) (in-keep (live-in flags) e (s .done) (rw (edited-list (s .now)) at m)))
 
   -- at the end all has been looked at
   pub copy-end : {vs : List ℕ} {at end : ℕ} → end ≤ at → Copying ws vs ce cn counts live node at end → Copied ws vs ce cn counts live node
   copy-end {vs} {at} {end} h s =
       let all : base ≡ s .done = s .whole ∙ ap (λ (l : List ℕ). s .done ++ l) (between-none (cell ws ce) at end h) ∙ append-nil (s .done) in
-      rw all (s .now)
+      subst (λ (l : List ℕ). Edited ws vs ce cn counts node (live-entries flags l) base) (sym all) (s .now)
 
 -- ---- starting
 
@@ -188,14 +192,15 @@ module _ {ws : List ℕ} {ce cn : ℕ} {counts : Counts} {live : List ℕ} {node
         getD-set-same (set ws mark 1) count 0 0 (simp length-set (omega (arith, e .node-below, e .nodes-within, e .sized .room)))
 
     -- the node has the empty run
-    opened : Edited ws us ce cn counts node []
+    opened : Edited ws us ce cn counts node [] (raw (adjacency-in ws ce cn counts node))
     opened =
         let e = pre .editable in
         edited e us [] (simp length-set) (λ q. let z : 1 ≡ 0 = sym mark-set ∙ q in omega arith) (record { counted = count-set; line = inl refl })
         (λ x f h ne m k. in-none f m)
         (λ x f h ne m. let low = run-list-below (e .runs) x f h m in
         other (3 * ce + f) (omega (arith, e .edges-within)) (omega (arith, e .edges-within)))
-        (λ i h. other i (omega arith) (omega arith)) (λ i l h. other i (omega arith) (omega arith)) (λ i h f t c m. other i m c) (inr (inr mark-set))
+        (λ i h. other i (omega arith) (omega arith)) (λ i l h. other i (omega arith) (omega arith)) (λ i h f t c m. other i m c) (inr (unmarked, mark-set))
+        (λ f h out. other (3 * ce + f) (omega arith) (omega arith))
 
     -- the base part is as before
     same-base : base-of us ce cn (counts .nodes .base) node ≡ base-before
@@ -225,7 +230,8 @@ module _ {ws : List ℕ} {ce cn : ℕ} {counts : Counts} {live : List ℕ} {node
 
     pub start-end : {vs : List ℕ} → Copied us vs ce cn counts live node → Started ws vs ce cn counts live node
     start-end copied =
-        rw (ap (λ r. run-or-base signs r base-before) (run-of-unmarked ws ce cn node unmarked)) (edited-again opened (rw same-base at copied))
+        rw (ap (λ r. run-or-base signs r base-before) (run-of-unmarked ws ce cn node unmarked))
+        (edited-again opened (edited-wider (λ e m. rw based (in-front e base-before ring-before m)) (rw same-base at copied)))
 
   -- ---- taking over
 
@@ -266,7 +272,7 @@ module _ {ws : List ℕ} {ce cn : ℕ} {counts : Counts} {live : List ℕ} {node
     pub take-end : {vs : List ℕ} → Drained us vs ce cn counts live node → TakenOver ws vs ce cn counts live node
     unfolding taken
     take-end {vs} drained =
-        edited-remade pre started
+        edited-remade pre (λ e m. m) (λ e m. started-in signs (run-of ws ce cn node) base-before ring-before e (rw now-raw at m)) started
         (subst (λ (l : List ℕ). Remade us vs ce cn counts node l)
         (ap (λ (l : List ℕ). l ++ live-entries signs (ring-of us ce (counts .edges .base) (counts .edges .bound) node)) (edited-list started)
         ∙ ap (λ (l : List ℕ). first ++ live-entries signs l) same-ring) drained)

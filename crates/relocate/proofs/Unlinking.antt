@@ -249,6 +249,7 @@ module _ {ws : List ℕ} {ce cn : ℕ} {counts : Counts} {node : ℕ} (pre : Cut
           (λ i h nf nt nc nm. same i nf nt nc (λ x m. let low = small x m in omega arith))
           (inl (same (4 * ce + 4 * cn + node) (omega (arith, e-pre .node-below, e-pre .nodes-within)) (omega (arith, e-pre .node-below, e-pre .nodes-within))
           (omega (arith, e-pre .node-below, e-pre .nodes-within)) (λ x m. let low = small x m in omega arith)))
+          (λ f h away. same (3 * ce + f) (omega arith) (omega arith) (omega arith) (λ x m q. let at : f ≡ x = omega arith in away (rw at m)))
 
   -- the length is stored
   abbrev shortened : List ℕ

@@ -1,5 +1,5 @@
 -- What a move of a node's edges to another node asks and promises, of the words of one axis at entry, `ws`, and at exit, `vs`.
-use Prim.Native.Nat.{ℕ, _+_, _≤_, _<_}
+use Prim.Native.Nat.{ℕ, _+_, _<_}
 use mathlib.Core.Path.{_≡_}
 use mathlib.Core.Bool.{Bool, true, false}
 use mathlib.Core.Logic.{_≢_}
@@ -7,7 +7,8 @@ use mathlib.Core.List.{List, [], _++_}
 use lib.ListN.{length, getD}
 use Rattle.plain.specs.declared.Counts.{Counts}
 use Rattle.shape.specs.Columns.{mark-at}
-use Rattle.shape.specs.Shape.{adjacency-in, live-in, run-list, axis-of}
+use Rattle.shape.specs.Chains.{In}
+use Rattle.shape.specs.Shape.{adjacency-in, raw, live-in, run-list, axis-of}
 use Rattle.shape.specs.Steps.{live-entries, taken, moved-axis}
 use Rattle.shape.specs.Checked.{AxisChecked}
 use Rattle.shape.specs.Kept.{AxisKept}
@@ -37,8 +38,8 @@ pub record HandableOver (ws : List ℕ) (ce cn : ℕ) (counts : Counts) (old new
 -- The first run is empty, and then the second has its entries at the end.
 pub record HandedOver (ws vs : List ℕ) (ce cn : ℕ) (counts : Counts) (old new : ℕ) : Type 0 where
   pub between : List ℕ
-  pub emptied : Edited ws between ce cn counts old []
-  pub joined : Edited between vs ce cn counts new (run-list ws ce cn new ++ run-list ws ce cn old)
+  pub emptied : Edited ws between ce cn counts old [] []
+  pub joined : Edited between vs ce cn counts new (run-list ws ce cn new ++ run-list ws ce cn old) (run-list ws ce cn new)
 
 -- What it takes to move the live edges of one node to another; both are live.
 pub record Movable (ws : List ℕ) (ce cn : ℕ) (counts : Counts) (live : List ℕ) (tombstoned : Bool) (old new : ℕ) : Type 0 where
@@ -63,6 +64,7 @@ pub record Moved (ws vs : List ℕ) (ce cn : ℕ) (counts : Counts) (live : List
   pub checked : (nodes : List Bool) → getD nodes old false ≡ true → getD nodes new false ≡ true
       → AxisChecked ws ce cn counts nodes (flags-of live counts) → AxisChecked vs ce cn counts nodes (flags-of live counts)
   -- and the words that no operation writes
-  pub frame : AxisKept ws vs ce cn (counts .nodes .bound) (counts .edges .bound)
-  pub writes : (i : ℕ) → counts .edges .bound ≤ i → (OfLinks ce (counts .edges .bound) i → ⊥) → (OfNode ce cn old i → ⊥) → (OfNode ce cn new i → ⊥)
-      → getD vs i 0 ≡ getD ws i 0
+  pub frame : AxisKept ws vs ce cn (counts .nodes .bound) (counts .nodes .bound) (counts .edges .bound)
+  pub writes : (i : ℕ) → (In i (live-entries (flags-of live counts) (raw (adjacency-in ws ce cn counts old))) → ⊥)
+      → (OfLinks ce (raw (adjacency-in ws ce cn counts old)) i → ⊥) → (OfLinks ce (raw (adjacency-in ws ce cn counts new)) i → ⊥)
+      → (OfNode ce cn old i → ⊥) → (OfNode ce cn new i → ⊥) → getD vs i 0 ≡ getD ws i 0

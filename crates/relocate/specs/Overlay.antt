@@ -45,8 +45,8 @@ pub record Remade (ws vs : List ℕ) (ce cn : ℕ) (counts : Counts) (node : ℕ
   -- ends, adjacency and ring links are as before
   pub below : (i : ℕ) → i < 3 * ce → getD vs i 0 ≡ getD ws i 0
   -- and the words that no operation writes
-  pub frame : AxisKept ws vs ce cn (counts .nodes .bound) (counts .edges .bound)
-  pub writes : OnlyNode ws vs ce cn (counts .edges .bound) node
+  pub frame : AxisKept ws vs ce cn (counts .nodes .bound) (counts .nodes .bound) (counts .edges .bound)
+  pub writes : OnlyNode ws vs ce cn counts node
 
 -- What it takes to copy the base part of a node to its run, which is empty.
 pub record Copyable (ws : List ℕ) (ce cn : ℕ) (counts : Counts) (live : List ℕ) (node : ℕ) : Type 0 where
@@ -65,11 +65,13 @@ pub record Copyable (ws : List ℕ) (ce cn : ℕ) (counts : Counts) (live : List
 abbrev pub Copied : (ws vs : List ℕ) (ce cn : ℕ) (counts : Counts) (live : List ℕ) (node : ℕ) → Type 0
 Copied ws vs ce cn counts live node =
     Edited ws vs ce cn counts node (live-entries (flags-of live counts) (base-of ws ce cn (counts .nodes .base) node))
+    (base-of ws ce cn (counts .nodes .base) node)
 
 -- The node has a run: its own, or the live entries of its base part.
 abbrev pub Started : (ws vs : List ℕ) (ce cn : ℕ) (counts : Counts) (live : List ℕ) (node : ℕ) → Type 0
 Started ws vs ce cn counts live node =
     Edited ws vs ce cn counts node (run-or-base (flags-of live counts) (run-of ws ce cn node) (base-of ws ce cn (counts .nodes .base) node))
+    (raw (adjacency-in ws ce cn counts node))
 
 -- What it takes to drain the ring of a node into its run.
 pub record Drainable (ws : List ℕ) (ce cn : ℕ) (counts : Counts) (live : List ℕ) (node : ℕ) : Type 0 where

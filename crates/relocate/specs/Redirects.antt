@@ -54,8 +54,9 @@ pub record Relocated (ws vs : List ℕ) (ce cn : ℕ) (counts : Counts) (old new
   pub ends : (e : ℕ) → In e es → end-at vs e ≡ new
   pub kept : (e : ℕ) → e < counts .edges .bound → (In e es → ⊥) → end-at vs e ≡ end-at ws e
   pub linked : Linked vs ce cn counts
-  pub frame : AxisKept ws vs ce cn (counts .nodes .bound) (counts .edges .bound)
-  pub writes : (i : ℕ) → (In i es → ⊥) → (OfLinks ce (counts .edges .bound) i → ⊥) → (OfNode ce cn old i → ⊥) → (OfNode ce cn new i → ⊥) → getD vs i 0 ≡ getD ws i 0
+  pub frame : AxisKept ws vs ce cn (counts .nodes .bound) (counts .nodes .bound) (counts .edges .bound)
+  pub writes : (i : ℕ) → (In i es → ⊥) → (OfLinks ce (raw (adjacency-in ws ce cn counts old)) i → ⊥) → (OfLinks ce (raw (adjacency-in ws ce cn counts new)) i → ⊥)
+      → (OfNode ce cn old i → ⊥) → (OfNode ce cn new i → ⊥) → getD vs i 0 ≡ getD ws i 0
 
 -- The node's run is prepared and without the edge.
 abbrev pub Left : (ws vs : List ℕ) (ce cn : ℕ) (counts : Counts) (live : List ℕ) (node e : ℕ) → Type 0
@@ -94,5 +95,7 @@ pub record Redirected (ws vs : List ℕ) (ce cn : ℕ) (counts : Counts) (live :
   pub checked : (nodes : List Bool) → getD nodes (end-at ws e) false ≡ true → getD nodes new false ≡ true
       → AxisChecked ws ce cn counts nodes (flags-of live counts) → AxisChecked vs ce cn counts nodes (flags-of live counts)
   -- and the words that no operation writes
-  pub frame : AxisKept ws vs ce cn (counts .nodes .bound) (counts .edges .bound)
-  pub writes : (i : ℕ) → i ≢ e → (OfLinks ce (counts .edges .bound) i → ⊥) → (OfNode ce cn (end-at ws e) i → ⊥) → (OfNode ce cn new i → ⊥) → getD vs i 0 ≡ getD ws i 0
+  pub frame : AxisKept ws vs ce cn (counts .nodes .bound) (counts .nodes .bound) (counts .edges .bound)
+  pub writes : (i : ℕ) → i ≢ e → (OfLinks ce (raw (adjacency-in ws ce cn counts (end-at ws e))) i → ⊥)
+      → (OfLinks ce (raw (adjacency-in ws ce cn counts new)) i → ⊥) → (OfNode ce cn (end-at ws e) i → ⊥) → (OfNode ce cn new i → ⊥)
+      → getD vs i 0 ≡ getD ws i 0

@@ -28,25 +28,26 @@ pub record Editable (ws : List ℕ) (ce cn : ℕ) (counts : Counts) (node : ℕ)
   pub nodes-within : counts .nodes .bound ≤ cn
   pub edges-within : counts .edges .bound ≤ ce
 
--- The node's run is now ys.
-pub record Edited (ws vs : List ℕ) (ce cn : ℕ) (counts : Counts) (node : ℕ) (ys : List ℕ) : Type 0 where
+-- The node's run is now ys; only run links of the edges `own` are written.
+pub record Edited (ws vs : List ℕ) (ce cn : ℕ) (counts : Counts) (node : ℕ) (ys own : List ℕ) : Type 0 where
   pub here : run-of vs ce cn node ≡ some ys
   pub others : (x : ℕ) → x < counts .nodes .bound → x ≢ node → run-of vs ce cn x ≡ run-of ws ce cn x
   pub editable : Editable vs ce cn counts node
   -- ends, adjacency and ring links are as before
   pub below : (i : ℕ) → i < 3 * ce → getD vs i 0 ≡ getD ws i 0
-  -- so are the run links past the bound
+  -- so are the run links of other edges
+  pub links : (e : ℕ) → e < ce → (In e own → ⊥) → link-at vs ce e ≡ link-at ws ce e
+  -- and those past the bound
   pub past : (i : ℕ) → 3 * ce + counts .edges .bound ≤ i → i < 4 * ce → getD vs i 0 ≡ getD ws i 0
   -- and everything past the run links but first, tail, count and mark of the node
   pub above : (i : ℕ) → 4 * ce ≤ i → i ≢ 4 * ce + cn + node → i ≢ 4 * ce + 2 * cn + node → i ≢ 4 * ce + 3 * cn + node → i ≢ 4 * ce + 4 * cn + node
       → getD vs i 0 ≡ getD ws i 0
-  -- the mark is as before, or 1
+  -- the mark is as before, or 1 where it was 0
   pub mark : Mark (mark-at ws ce cn node) (mark-at vs ce cn node)
 
 -- More entries stand at the end of the node's run; only links of its entries are written.
-pub record Grown (ws vs : List ℕ) (ce cn : ℕ) (counts : Counts) (node : ℕ) (more : List ℕ) : Type 0 where
-  pub edited : Edited ws vs ce cn counts node (run-list ws ce cn node ++ more)
-  pub links : (e : ℕ) → e < ce → (In e (run-list ws ce cn node) → ⊥) → link-at vs ce e ≡ link-at ws ce e
+abbrev pub Grown : (ws vs : List ℕ) (ce cn : ℕ) (counts : Counts) (node : ℕ) (more : List ℕ) → Type 0
+Grown ws vs ce cn counts node more = Edited ws vs ce cn counts node (run-list ws ce cn node ++ more) (run-list ws ce cn node)
 
 -- What it takes to append an entry to the run of a node: it has one, and the entry is an edge that is in no run.
 pub record Pushable (ws : List ℕ) (ce cn : ℕ) (counts : Counts) (node e : ℕ) : Type 0 where
@@ -72,7 +73,7 @@ pub record Retainable (ws : List ℕ) (ce cn : ℕ) (counts : Counts) (node : �
 -- The live entries of the run are left.
 abbrev pub Retained : (ws vs : List ℕ) (ce cn : ℕ) (counts : Counts) (node : ℕ) (live : List ℕ) → Type 0
 Retained ws vs ce cn counts node live =
-    Edited ws vs ce cn counts node (live-entries (live-flags live (counts .edges .bound)) (run-list ws ce cn node))
+    Edited ws vs ce cn counts node (live-entries (live-flags live (counts .edges .bound)) (run-list ws ce cn node)) (run-list ws ce cn node)
 
 -- What it takes to sweep the run of a node: `tombstoned` says whether some edge may be removed.
 pub record Sweepable (ws : List ℕ) (ce cn : ℕ) (counts : Counts) (node : ℕ) (live : List ℕ) (tombstoned : Bool) : Type 0 where
@@ -81,7 +82,8 @@ pub record Sweepable (ws : List ℕ) (ce cn : ℕ) (counts : Counts) (node : ℕ
 
 -- The run is swept.
 abbrev pub Swept : (ws vs : List ℕ) (ce cn : ℕ) (counts : Counts) (node : ℕ) (live : List ℕ) → Type 0
-Swept ws vs ce cn counts node live = Edited ws vs ce cn counts node (swept (live-flags live (counts .edges .bound)) (run-list ws ce cn node))
+Swept ws vs ce cn counts node live =
+    Edited ws vs ce cn counts node (swept (live-flags live (counts .edges .bound)) (run-list ws ce cn node)) (run-list ws ce cn node)
 
 -- the entry before e in a list, NONE where there is none
 unfoldable pub before-in : ℕ → List ℕ → ℕ
@@ -110,4 +112,4 @@ pub record Unlinkable (ws : List ℕ) (ce cn : ℕ) (counts : Counts) (node befo
 
 -- The run is without the entry.
 abbrev pub TakenOut : (ws vs : List ℕ) (ce cn : ℕ) (counts : Counts) (node e : ℕ) → Type 0
-TakenOut ws vs ce cn counts node e = Edited ws vs ce cn counts node (without e (run-list ws ce cn node))
+TakenOut ws vs ce cn counts node e = Edited ws vs ce cn counts node (without e (run-list ws ce cn node)) (run-list ws ce cn node)

@@ -3,11 +3,12 @@
 use Prim.Native.Nat.{ℕ, _+_, _*_, _≤_, _<_}
 use native.Mathlib.Nat.{le-refl, le-trans}
 use native.Mathlib.Omega.{arith}
-use mathlib.Core.Path.{_≡_, refl, _∙_}
+use mathlib.Core.Path.{_≡_, refl, sym, _∙_}
 use mathlib.Core.Logic.{_⊎_, inl, inr, ⊎-elim}
 use mathlib.Core.List.{List}
 use lib.ListN.{length, getD}
 use Rattle.plain.specs.declared.TraversalDirection.{TraversalDirection}
+use Rattle.plain.specs.Laws.Booleans.{below-or-not}
 use Rattle.shape.specs.Shape.{Words, axis-words}
 
 -- the words from `from` on, and those of them below `to`
@@ -30,12 +31,17 @@ nothing-spared w = record { live-nodes = λ i h. refl; live-edges = λ i h. refl
 
 -- ---- what an operation of a strip may write
 
--- a mark afterwards: as it was, 0 or 1
+-- the mark of a node afterwards: as it was, or 1 where it was 0; so a mark that is not 0 stays
 abbrev pub Mark : ℕ → ℕ → Type 0
-Mark was is = (is ≡ was) ⊎ ((is ≡ 0) ⊎ (is ≡ 1))
+Mark was is = (is ≡ was) ⊎ ((was ≡ 0) × (is ≡ 1))
 
--- Of one axis, column by column, where nb and eb are the bounds afterwards: no word of the index, none of a slot past the bound, none past the axis.
-pub record AxisKept (ws vs : List ℕ) (ce cn nb eb : ℕ) : Type 0 where
+-- the mark of a new node, whatever stood there
+abbrev pub NewMark : ℕ → Type 0
+NewMark is = (is ≡ 0) ⊎ (is ≡ 1)
+
+-- Of one axis, column by column, where ob is the node bound before, nb and eb are the bounds afterwards: no word of the index, none of a slot past the bound, none
+-- past the axis.
+pub record AxisKept (ws vs : List ℕ) (ce cn ob nb eb : ℕ) : Type 0 where
   -- a word an edge
   pub ends : SameWithin ws vs eb ce
   pub adjacency : SameWithin ws vs ce (2 * ce)
@@ -47,7 +53,9 @@ pub record AxisKept (ws vs : List ℕ) (ce cn nb eb : ℕ) : Type 0 where
   pub tail : SameWithin ws vs (4 * ce + 2 * cn + nb) (4 * ce + 3 * cn)
   pub count : SameWithin ws vs (4 * ce + 3 * cn + nb) (4 * ce + 4 * cn)
   pub mark : SameWithin ws vs (4 * ce + 4 * cn + nb) (4 * ce + 5 * cn)
-  pub marks : (i : ℕ) → 4 * ce + 4 * cn ≤ i → i < 4 * ce + 5 * cn → Mark (getD ws i 0) (getD vs i 0)
+  -- the marks of the nodes that were there, and of those that came
+  pub marks : (i : ℕ) → 4 * ce + 4 * cn ≤ i → i < 4 * ce + 4 * cn + ob → Mark (getD ws i 0) (getD vs i 0)
+  pub new-marks : (i : ℕ) → 4 * ce + 4 * cn + ob ≤ i → i < 4 * ce + 4 * cn + nb → NewMark (getD vs i 0)
   -- the offsets, and the words past the axis
   pub offsets : SameFrom ws vs (4 * ce + 5 * cn)
 
@@ -60,7 +68,7 @@ pub record Kept (w v : Words) : Type 0 where
   pub live-nodes : (i : ℕ) → v .counts .nodes .bound ≤ 64 * i → getD (v .live-nodes) i 0 ≡ getD (w .live-nodes) i 0
   pub live-edges : (i : ℕ) → v .counts .edges .bound ≤ 64 * i → getD (v .live-edges) i 0 ≡ getD (w .live-edges) i 0
   pub axis : (d : TraversalDirection)
-      → AxisKept (axis-words d w) (axis-words d v) (length (w .edges)) (length (w .nodes)) (v .counts .nodes .bound) (v .counts .edges .bound)
+      → AxisKept (axis-words d w) (axis-words d v) (length (w .edges)) (length (w .nodes)) (w .counts .nodes .bound) (v .counts .nodes .bound) (v .counts .edges .bound)
 
 -- ---- what compaction and image reading may write
 
@@ -89,10 +97,15 @@ pub record Renewed (w v : Words) : Type 0 where
 -- ---- laws
 
 pub mark-through : {a b c : ℕ} → Mark a b → Mark b c → Mark a c
-mark-through first second = ⊎-elim (λ q. ⊎-elim (λ p. inl (q ∙ p)) (λ p. inr (⊎-elim (λ z. inl (q ∙ z)) (λ z. inr (q ∙ z)) p)) first) (λ q. inr q) second
+mark-through first second =
+    ⊎-elim (λ q. ⊎-elim (λ p. inl (q ∙ p)) (λ p. inr (p .0, q ∙ p .1)) first)
+    (λ q. ⊎-elim (λ p. inr (sym p ∙ q .0, q .1)) (λ p. inr (p .0, q .1)) first) second
+
+new-mark-through : {b c : ℕ} → NewMark b → Mark b c → NewMark c
+new-mark-through first second = ⊎-elim (λ q. ⊎-elim (λ p. inl (q ∙ p)) (λ p. inr (q ∙ p)) first) (λ q. inr (q .1)) second
 
 -- all as it was
-pub axis-kept-none : (ws : List ℕ) (ce cn nb eb : ℕ) → AxisKept ws ws ce cn nb eb
+pub axis-kept-none : (ws : List ℕ) (ce cn nb eb : ℕ) → AxisKept ws ws ce cn nb nb eb
 axis-kept-none ws ce cn nb eb = record {
   ends = λ i l h. refl;
   adjacency = λ i l h. refl;
@@ -104,13 +117,14 @@ axis-kept-none ws ce cn nb eb = record {
   count = λ i l h. refl;
   mark = λ i l h. refl;
   marks = λ i l h. inl refl;
+  new-marks = λ i l h. absurd (omega arith);
   offsets = λ i l. refl;
 }
 
 -- one after another
-pub axis-kept-through : {ws us vs : List ℕ} {ce cn nb eb nb' eb' : ℕ} → nb ≤ nb' → eb ≤ eb' → AxisKept ws us ce cn nb eb → AxisKept us vs ce cn nb' eb'
-    → AxisKept ws vs ce cn nb' eb'
-axis-kept-through m n a b = record {
+pub axis-kept-through : {ws us vs : List ℕ} {ce cn ob nb eb nb' eb' : ℕ} → ob ≤ nb → nb ≤ nb' → eb ≤ eb' → AxisKept ws us ce cn ob nb eb
+    → AxisKept us vs ce cn nb nb' eb' → AxisKept ws vs ce cn ob nb' eb'
+axis-kept-through {ce = ce} {cn = cn} {nb = nb} grow m n a b = record {
   ends = λ i l h. b .ends i l h ∙ a .ends i (omega arith) h;
   adjacency = λ i l h. b .adjacency i l h ∙ a .adjacency i l h;
   next = λ i l h. b .next i l h ∙ a .next i (omega arith) h;
@@ -120,13 +134,15 @@ axis-kept-through m n a b = record {
   tail = λ i l h. b .tail i l h ∙ a .tail i (omega arith) h;
   count = λ i l h. b .count i l h ∙ a .count i (omega arith) h;
   mark = λ i l h. b .mark i l h ∙ a .mark i (omega arith) h;
-  marks = λ i l h. mark-through (a .marks i l h) (b .marks i l h);
+  marks = λ i l h. mark-through (a .marks i l h) (b .marks i l (omega arith));
+  new-marks = λ i l h. ⊎-elim (λ old. new-mark-through (a .new-marks i l old) (b .marks i (omega arith) old)) (λ new. b .new-marks i new h)
+      (below-or-not i (4 * ce + 4 * cn + nb));
   offsets = λ i l. b .offsets i l ∙ a .offsets i l;
 }
 
 -- with the same bounds
-pub axis-kept-again : {ws us vs : List ℕ} {ce cn nb eb : ℕ} → AxisKept ws us ce cn nb eb → AxisKept us vs ce cn nb eb → AxisKept ws vs ce cn nb eb
-axis-kept-again {nb = nb} {eb = eb} a b = axis-kept-through (le-refl nb) (le-refl eb) a b
+pub axis-kept-again : {ws us vs : List ℕ} {ce cn nb eb : ℕ} → AxisKept ws us ce cn nb nb eb → AxisKept us vs ce cn nb nb eb → AxisKept ws vs ce cn nb nb eb
+axis-kept-again {nb = nb} {eb = eb} a b = axis-kept-through (le-refl nb) (le-refl nb) (le-refl eb) a b
 
 pub kept-none : (w : Words) → Kept w w
 kept-none w = record {
@@ -147,7 +163,7 @@ kept-through {w} {v} {u} nodes edges a b = record {
   edges = λ i h. b .edges i h ∙ a .edges i (omega (arith, b .edges-grow));
   live-nodes = λ i h. b .live-nodes i h ∙ a .live-nodes i (omega (arith, b .nodes-grow));
   live-edges = λ i h. b .live-edges i h ∙ a .live-edges i (omega (arith, b .edges-grow));
-  axis = λ d. axis-kept-through (b .nodes-grow) (b .edges-grow) (a .axis d) (rw (nodes, edges) at (b .axis d));
+  axis = λ d. axis-kept-through (a .nodes-grow) (b .nodes-grow) (b .edges-grow) (a .axis d) (rw (nodes, edges) at (b .axis d));
 }
 
 -- spare words are past the bounds, so they stay

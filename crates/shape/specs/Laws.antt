@@ -17,3 +17,4 @@ pub mod Judging
 pub mod CheckedShape
 pub mod Running
 pub mod Fields
+pub mod Agreeing

@@ -1,28 +1,33 @@
 -- Which words one operation may write, word by word: of the store at entry, w, and at exit, v. `Kept` says the same of a whole strip, by the bounds.
-use Prim.Native.Nat.{ℕ, _+_, _*_, _/_, _≤_, _<_}
+use Prim.Native.Nat.{ℕ, _+_, _*_, _/_}
 use mathlib.Core.Path.{_≡_, refl}
-use mathlib.Core.Logic.{_⊎_}
+use mathlib.Core.Logic.{_⊎_, _≢_}
 use mathlib.Core.List.{List}
 use lib.ListN.{length, getD}
 use Rattle.plain.specs.declared.TraversalDirection.{TraversalDirection}
 use Rattle.plain.specs.declared.TraversalDirection.the-variants.{Outgoing, Incoming}
 use Rattle.plain.specs.declared.Operation.{Operation}
 use Rattle.plain.specs.declared.Operation.the-variants.{AddNode, AddEdge, RemoveEdge, RemoveNode, Redirect, Move, SetPayload, Unknown}
-use Rattle.shape.specs.Columns.{end-at}
-use Rattle.shape.specs.Shape.{Words, axis-words}
+use Rattle.plain.specs.declared.Counts.{Counts}
+use Rattle.plain.specs.Numbers.{NONE}
+use Rattle.plain.specs.Plain.{list-of}
+use Rattle.shape.specs.Columns.{end-at, last-at}
+use Rattle.shape.specs.Chains.{In}
+use Rattle.shape.specs.Shape.{Words, axis-words, adjacency-in, raw, lists}
 
--- the run links of edges below the bound
-abbrev pub OfLinks : ℕ → ℕ → ℕ → Type 0
-OfLinks ce eb i = (3 * ce ≤ i) × (i < 3 * ce + eb)
+-- the run link of one of some edges
+abbrev pub OfLinks : ℕ → List ℕ → ℕ → Type 0
+OfLinks ce es i = (e : ℕ) × (i ≡ 3 * ce + e) × In e es
 
 -- last, first, tail, count and mark of node x
 abbrev pub OfNode : ℕ → ℕ → ℕ → ℕ → Type 0
 OfNode ce cn x i =
     (i ≡ 4 * ce + x) ⊎ ((i ≡ 4 * ce + cn + x) ⊎ ((i ≡ 4 * ce + 2 * cn + x) ⊎ ((i ≡ 4 * ce + 3 * cn + x) ⊎ (i ≡ 4 * ce + 4 * cn + x))))
 
--- no word of an axis but run links and the words of a node
-abbrev pub OnlyNode : List ℕ → List ℕ → ℕ → ℕ → ℕ → ℕ → Type 0
-OnlyNode ws vs ce cn eb node = (i : ℕ) → (OfLinks ce eb i → ⊥) → (OfNode ce cn node i → ⊥) → getD vs i 0 ≡ getD ws i 0
+-- no word of an axis but the words of a node and run links of its entries, dead ones included
+abbrev pub OnlyNode : List ℕ → List ℕ → ℕ → ℕ → Counts → ℕ → Type 0
+OnlyNode ws vs ce cn counts node =
+    (i : ℕ) → (OfLinks ce (raw (adjacency-in ws ce cn counts node)) i → ⊥) → (OfNode ce cn node i → ⊥) → getD vs i 0 ≡ getD ws i 0
 
 -- ---- by operation
 
@@ -64,7 +69,8 @@ abbrev pub WritesEdgeBits : Operation → Words → ℕ → Type 0
 WritesEdgeBits (AddNode payload) w i = ⊥
 WritesEdgeBits (AddEdge source target payload) w i = i ≡ w .counts .edges .bound / 64
 WritesEdgeBits (RemoveEdge e) w i = i ≡ e / 64
-WritesEdgeBits (RemoveNode x) w i = 64 * i < w .counts .edges .bound
+-- of the edges in both its walks
+WritesEdgeBits (RemoveNode x) w i = (e : ℕ) × (In e (list-of Outgoing (lists w) x) ⊎ In e (list-of Incoming (lists w) x)) × (i ≡ e / 64)
 WritesEdgeBits (Redirect d e new) w i = ⊥
 WritesEdgeBits (Move d old new) w i = ⊥
 WritesEdgeBits (SetPayload e payload) w i = ⊥
@@ -75,6 +81,16 @@ abbrev pub end-in : TraversalDirection → ℕ → ℕ → ℕ
 end-in Outgoing source target = source
 end-in Incoming source target = target
 
+-- ring links: the new edge's, and that of the node's last edge where it has one
+abbrev pub OfRing : List ℕ → ℕ → ℕ → ℕ → ℕ → Type 0
+OfRing ws ce node e i = (i ≡ 2 * ce + e) ⊎ ((last-at ws ce node ≢ NONE) × (i ≡ 2 * ce + last-at ws ce node))
+
+-- the words of a node and the run links of its entries: its run or base part and its ring, dead entries included
+abbrev pub OfEntries : Words → TraversalDirection → ℕ → ℕ → Type 0
+OfEntries w d x i =
+    OfLinks (length (w .edges)) (raw (adjacency-in (axis-words d w) (length (w .edges)) (length (w .nodes)) (w .counts) x)) i
+    ⊎ OfNode (length (w .edges)) (length (w .nodes)) x i
+
 -- a word of an axis
 abbrev pub WritesAxis : Operation → Words → TraversalDirection → ℕ → Type 0
 -- last and mark of the new node
@@ -82,18 +98,14 @@ WritesAxis (AddNode payload) w d i =
     (i ≡ 4 * length (w .edges) + w .counts .nodes .bound) ⊎ (i ≡ 4 * length (w .edges) + 4 * length (w .nodes) + w .counts .nodes .bound)
 -- the new edge's end, ring links, the last edge of its end
 WritesAxis (AddEdge source target payload) w d i =
-    (i ≡ w .counts .edges .bound) ⊎ (((2 * length (w .edges) ≤ i) × (i ≤ 2 * length (w .edges) + w .counts .edges .bound))
+    (i ≡ w .counts .edges .bound) ⊎ (OfRing (axis-words d w) (length (w .edges)) (end-in d source target) (w .counts .edges .bound) i
     ⊎ (i ≡ 4 * length (w .edges) + end-in d source target))
 WritesAxis (RemoveEdge e) w d i = ⊥
 WritesAxis (RemoveNode x) w d i = ⊥
--- in one direction the edge's end, run links, the words of both nodes
-WritesAxis (Redirect d' e new) w d i =
-    (d ≡ d') × ((i ≡ e) ⊎ (OfLinks (length (w .edges)) (w .counts .edges .bound) i
-    ⊎ (OfNode (length (w .edges)) (length (w .nodes)) (end-at (axis-words d w) e) i ⊎ OfNode (length (w .edges)) (length (w .nodes)) new i)))
--- the same with the ends of edges
-WritesAxis (Move d' old new) w d i =
-    (d ≡ d') × ((i < w .counts .edges .bound) ⊎ (OfLinks (length (w .edges)) (w .counts .edges .bound) i
-    ⊎ (OfNode (length (w .edges)) (length (w .nodes)) old i ⊎ OfNode (length (w .edges)) (length (w .nodes)) new i)))
+-- in one direction the edge's end and what both nodes have
+WritesAxis (Redirect d' e new) w d i = (d ≡ d') × ((i ≡ e) ⊎ (OfEntries w d (end-at (axis-words d w) e) i ⊎ OfEntries w d new i))
+-- the same with the ends of the edges that move
+WritesAxis (Move d' old new) w d i = (d ≡ d') × (In i (list-of d (lists w) old) ⊎ (OfEntries w d old i ⊎ OfEntries w d new i))
 WritesAxis (SetPayload e payload) w d i = ⊥
 WritesAxis Unknown w d i = ⊥
 

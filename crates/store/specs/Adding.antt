@@ -126,7 +126,7 @@ module _ {w : Words} (pre : NodeAddable w) where
           written Incoming i off = inc .kept i (λ q. off (inl q)) (λ q. off (inr q))
 
           kept : (d : TraversalDirection)
-              → AxisKept (axis-words d w) (axis-words d with-node) (length (w .edges)) (length (w .nodes)) (w .counts .nodes .bound + 1) (w .counts .edges .bound)
+              → AxisKept (axis-words d w) (axis-words d with-node) (length (w .edges)) (length (w .nodes)) (w .counts .nodes .bound) (w .counts .nodes .bound + 1) (w .counts .edges .bound)
           kept Outgoing = opened-kept (w .counts .edges .bound) out (pre .room)
           kept Incoming = opened-kept (w .counts .edges .bound) inc (pre .room)
 
@@ -249,7 +249,7 @@ module _ {w : Words} {source target : ℕ} (pre : EdgeAddable w source target) w
           written Incoming i off = appended-writes inc i off
 
           kept : (d : TraversalDirection)
-              → AxisKept (axis-words d w) (axis-words d with-edge) (length (w .edges)) (length (w .nodes)) (w .counts .nodes .bound) (w .counts .edges .bound + 1)
+              → AxisKept (axis-words d w) (axis-words d with-edge) (length (w .edges)) (length (w .nodes)) (w .counts .nodes .bound) (w .counts .nodes .bound) (w .counts .edges .bound + 1)
           kept Outgoing = appended-kept out (end-below source (pre .source-live)) (pre .checked .nodes .bound-within) (pre .room)
           kept Incoming = appended-kept inc (end-below target (pre .target-live)) (pre .checked .nodes .bound-within) (pre .room)
 

@@ -1,8 +1,9 @@
 -- A store after a node was removed: its slot is dead, the edges of both its walks are dead, and no list is edited.
 use Prim.Native.Nat.{ℕ, _+_, _≤_, _<_}
 use native.Mathlib.Omega.{arith}
-use mathlib.Core.Path.{_≡_, refl, sym, ap, _∙_}
+use mathlib.Core.Path.{_≡_, refl, sym, ap, subst, _∙_}
 use mathlib.Core.Bool.{Bool, true, false}
+use mathlib.Core.Logic.{_⊎_, inl, inr}
 use mathlib.Core.List.{List, _++_, map}
 use lib.ListN.{length, getD, set}
 use lib.Seq.{set-getD}
@@ -13,17 +14,20 @@ use Rattle.plain.specs.declared.TraversalDirection.the-variants.{Outgoing, Inco
 use Rattle.plain.specs.declared.Operation.the-variants.{RemoveNode}
 use Rattle.plain.specs.Numbers.{LIMIT}
 use Rattle.plain.specs.Lists.{from}
-use Rattle.plain.specs.Plain.{NodeSlot, killed-node, no-node}
+use Rattle.plain.specs.Plain.{NodeSlot, killed-node, no-node, list-of}
 use Rattle.plain.specs.Laws.Booleans.{by-test, true-false}
 use Rattle.plain.specs.Laws.Cases.{comes-to, remove-node}
 use Rattle.plain.specs.Laws.Deleting.{getD-set}
 use Rattle.plain.specs.Laws.Rank.{live-below}
 use Rattle.liveness.specs.Calls.{Cleared}
 use Rattle.liveness.specs.FlagLaws.{length-flags}
-use Rattle.shape.specs.Shape.{Words, node-live, edge-live, axis-words, axis-of, shape-of, plain-of, store}
+use Rattle.shape.specs.Chains.{In}
+use Rattle.shape.specs.Shape.{Words, node-live, edge-live, axis-words, axis-of, shape-of, plain-of, lists, store}
 use Rattle.shape.specs.Checked.{AxisChecked, Checked}
 use Rattle.shape.specs.Kept.{AxisKept, axis-kept-none}
 use Rattle.shape.specs.Steps.{acted, walk-in as walk-of-shape}
+use Rattle.shape.specs.Laws.Refining.{list-is-walk}
+use Rattle.shape.specs.Laws.Keeping.{in-either}
 use Rattle.shape.specs.Laws.Reading.{made-at, node-flags-are}
 use Rattle.adjacency.specs.Walk.{walk-in}
 use Rattle.adjacency.specs.Clear.{Retired, Clearable}
@@ -132,17 +136,24 @@ module _ {w : Words} (checked : Checked w) (node : ℕ) (live : getD (node-live 
           nodes = λ x off. refl;
           edges = λ e off. refl;
           live-nodes = cleared-other cleared;
-          live-edges = λ i off. retired-word gone i (omega arith);
+          live-edges = λ i off. gone .others i (λ e m alive q. off (e, walked e m, q));
           axis = written;
         };
       }
         where
+          -- an edge of both walks is of one of them
+          walked : (e : ℕ) → In e incident → In e (list-of Outgoing (lists w) node) ⊎ In e (list-of Incoming (lists w) node)
+          walked e m =
+              in-either e (walk-of-shape Outgoing (shape-of w) node) (walk-of-shape Incoming (shape-of w) node) m
+              (λ k. inl (subst (λ (l : List ℕ). In e l) (sym (list-is-walk (shape-of w) Outgoing node)) k))
+              (λ k. inr (subst (λ (l : List ℕ). In e l) (sym (list-is-walk (shape-of w) Incoming node)) k))
+
           written : (d : TraversalDirection) (i : ℕ) → (⊥ → ⊥) → getD (axis-words d without-node) i 0 ≡ getD (axis-words d w) i 0
           written Outgoing i off = refl
           written Incoming i off = refl
 
           kept : (d : TraversalDirection)
-              → AxisKept (axis-words d w) (axis-words d without-node) (length (w .edges)) (length (w .nodes)) (w .counts .nodes .bound) (w .counts .edges .bound)
+              → AxisKept (axis-words d w) (axis-words d without-node) (length (w .edges)) (length (w .nodes)) (w .counts .nodes .bound) (w .counts .nodes .bound) (w .counts .edges .bound)
           kept Outgoing = axis-kept-none (w .outgoing) (length (w .edges)) (length (w .nodes)) (w .counts .nodes .bound) (w .counts .edges .bound)
           kept Incoming = axis-kept-none (w .incoming) (length (w .edges)) (length (w .nodes)) (w .counts .nodes .bound) (w .counts .edges .bound)
 

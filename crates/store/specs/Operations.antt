@@ -15,7 +15,7 @@ use Rattle.plain.specs.declared.Counts.{Counts}
 use Rattle.plain.specs.Plain.{list-of}
 use Rattle.plain.specs.Numbers.{LIMIT}
 use Rattle.shape.specs.Columns.{end-at}
-use Rattle.shape.specs.Shape.{Words, node-live, edge-live, axis-words, shape-of, lists}
+use Rattle.shape.specs.Shape.{Words, lengths-of, node-live, edge-live, axis-words, shape-of, lists}
 use Rattle.shape.specs.Checked.{Checked}
 use Rattle.shape.specs.Kept.{Kept}
 use Rattle.shape.specs.Writes.{Writes}
@@ -32,6 +32,16 @@ pub record SameLengths (w v : Words) : Type 0 where
 
 pub same-lengths : (w : Words) → SameLengths w w
 same-lengths w = record { nodes = refl; edges = refl; live-nodes = refl; live-edges = refl; outgoing = refl; incoming = refl }
+
+pub lengths-same : {w v : Words} → SameLengths w v → lengths-of v ≡ lengths-of w
+lengths-same same =
+    let n = same .nodes in
+    let e = same .edges in
+    let ln = same .live-nodes in
+    let le = same .live-edges in
+    let out = same .outgoing in
+    let inc = same .incoming in
+    λ i. record { capacities = record { nodes = n i; edges = e i }; live-nodes = ln i; live-edges = le i; outgoing = out i; incoming = inc i }
 
 -- The operation was done.
 pub record Acted (operation : Operation) (w v : Words) : Type 0 where

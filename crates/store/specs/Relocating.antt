@@ -21,6 +21,7 @@ use Rattle.plain.specs.Laws.Rank.{live-below}
 use Rattle.plain.specs.Laws.Stepping.{Fitting}
 use Rattle.liveness.specs.FlagLaws.{length-flags}
 use Rattle.shape.specs.Columns.{end-at}
+use Rattle.shape.specs.Chains.{In}
 use Rattle.shape.specs.Shape.{Words, Axis, capacities, node-live, edge-live, axis-words, axis-of, axis-in, edge-flags-of, live-in, raw, walk-of, adjacency-in, shape-of, plain-of, lists}
 use Rattle.shape.specs.Checked.{AxisChecked, Checked}
 use Rattle.shape.specs.Kept.{AxisKept, Kept, axis-kept-none}
@@ -88,7 +89,7 @@ axis-lengths w Incoming vs long = record { nodes = refl; edges = refl; live-node
 
 -- the words that an operation leaves
 axis-kept : (w : Words) (d : TraversalDirection) (vs : List ℕ)
-    → AxisKept (axis-words d w) vs (length (w .edges)) (length (w .nodes)) (w .counts .nodes .bound) (w .counts .edges .bound) → Kept w (with-axis-words d vs w)
+    → AxisKept (axis-words d w) vs (length (w .edges)) (length (w .nodes)) (w .counts .nodes .bound) (w .counts .nodes .bound) (w .counts .edges .bound) → Kept w (with-axis-words d vs w)
 axis-kept w Outgoing vs frame = record {
   nodes-grow = omega arith;
   edges-grow = omega arith;
@@ -100,7 +101,7 @@ axis-kept w Outgoing vs frame = record {
 }
   where
     directions : (d : TraversalDirection) → AxisKept (axis-words d w) (axis-words d (with-axis-words Outgoing vs w)) (length (w .edges)) (length (w .nodes))
-        (w .counts .nodes .bound) (w .counts .edges .bound)
+        (w .counts .nodes .bound) (w .counts .nodes .bound) (w .counts .edges .bound)
     directions Outgoing = frame
     directions Incoming = axis-kept-none (w .incoming) (length (w .edges)) (length (w .nodes)) (w .counts .nodes .bound) (w .counts .edges .bound)
 axis-kept w Incoming vs frame = record {
@@ -114,7 +115,7 @@ axis-kept w Incoming vs frame = record {
 }
   where
     directions : (d : TraversalDirection) → AxisKept (axis-words d w) (axis-words d (with-axis-words Incoming vs w)) (length (w .edges)) (length (w .nodes))
-        (w .counts .nodes .bound) (w .counts .edges .bound)
+        (w .counts .nodes .bound) (w .counts .nodes .bound) (w .counts .edges .bound)
     directions Outgoing = axis-kept-none (w .outgoing) (length (w .edges)) (length (w .nodes)) (w .counts .nodes .bound) (w .counts .edges .bound)
     directions Incoming = frame
 
@@ -160,7 +161,7 @@ relocated-acted : {w : Words} → Checked w → (d : TraversalDirection) (vs : L
     → step (capacities w) (lists w) operation ≡ o → acts operation o ≡ true → Fitting operation → length vs ≡ length (axis-words d w)
     → shape-of (with-axis-words d vs w) ≡ acted operation (shape-of w)
     → AxisChecked vs (length (w .edges)) (length (w .nodes)) (w .counts) (node-live w) (edge-live w)
-    → AxisKept (axis-words d w) vs (length (w .edges)) (length (w .nodes)) (w .counts .nodes .bound) (w .counts .edges .bound)
+    → AxisKept (axis-words d w) vs (length (w .edges)) (length (w .nodes)) (w .counts .nodes .bound) (w .counts .nodes .bound) (w .counts .edges .bound)
     → ((i : ℕ) → (WritesAxis operation w d i → ⊥) → getD vs i 0 ≡ getD (axis-words d w) i 0) → Acted operation w (with-axis-words d vs w)
 relocated-acted {w} k Outgoing vs operation comes acting fits long shape axis frame words = record {
   shape = shape;
@@ -223,7 +224,8 @@ redirecting {w} {edge} {new} pre d vs done long =
           relocated-acted k d vs (Redirect d edge new) (comes-to (redirect (rw (edge-flags-are w) (pre .alive)) (rw (node-flags-are w) (pre .new-live)) away))
           (rw (ne-eqb (end-of d (lists w) edge) new away)) tt long (axis-shape w d vs (λ f a. redirected-axis f edge new a) (done .changed moved))
           (done .checked (node-live w) (checked-end k d edge (pre .alive)) (pre .new-live) (k .axis d)) (done .frame)
-          (λ i off. done .writes i (λ q. off (refl, inl q)) (λ l. off (refl, inr (inl l))) (λ o. off (refl, inr (inr (inl o)))) (λ n. off (refl, inr (inr (inr n)))));
+          (λ i off. done .writes i (λ q. off (refl, inl q)) (λ l. off (refl, inr (inl (inl l)))) (λ l. off (refl, inr (inr (inl l))))
+          (λ o. off (refl, inr (inl (inr o)))) (λ n. off (refl, inr (inr (inr n)))));
       keeps = λ same. same-words w d vs (done .unchanged (sym (done .previous) ∙ same));
     }
 
@@ -244,6 +246,6 @@ moving {w} {old} {new} d pre vs done long =
           (rw (ne-eqb (length (list-of d (lists w) old)) 0 (λ q. pre .some (no-entries (list-of d (lists w) old) q)))) tt long
           (axis-shape w d vs (λ f a. moved-axis f old new a) (done .axis)) (done .checked (node-live w) (pre .old-live) (pre .new-live) (k .axis d))
           (done .frame)
-          (λ i off. let high : i < w .counts .edges .bound → ⊥ = λ q. off (refl, inl q) in
-          done .writes i (omega arith) (λ l. off (refl, inr (inl l))) (λ o. off (refl, inr (inr (inl o)))) (λ n. off (refl, inr (inr (inr n)))));
+          (λ i off. done .writes i (λ q. off (refl, inl (subst (λ (l : List ℕ). In i l) (sym walked) q))) (λ l. off (refl, inr (inl (inl l))))
+          (λ l. off (refl, inr (inr (inl l)))) (λ o. off (refl, inr (inl (inr o)))) (λ n. off (refl, inr (inr (inr n)))));
     }

@@ -4,4 +4,5 @@ pub mod Faults
 pub mod Relocations
 pub mod Fresh
 pub mod Strip
+pub mod Agreeing
 pub mod Refuted

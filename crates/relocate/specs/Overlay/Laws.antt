@@ -14,7 +14,7 @@ use Rattle.plain.specs.declared.Counts.{Counts}
 use Rattle.plain.specs.Laws.Booleans.{by-test}
 use Rattle.shape.specs.Columns.{mark-at}
 use Rattle.shape.specs.Chains.{In}
-use Rattle.shape.specs.Shape.{adjacency-in, Adjacency, base-of, run-list, run-of, ring-of}
+use Rattle.shape.specs.Shape.{adjacency-in, Adjacency, raw, base-of, run-list, run-of, ring-of}
 use Rattle.shape.specs.Checked.{Index, Rings}
 use Rattle.shape.specs.Kept.{axis-kept-again}
 use Rattle.shape.specs.Laws.Frames.{base-kept, index-kept}
@@ -28,7 +28,7 @@ node-same p q r = λ i. record { base = p i; run = q i; ring = r i }
 
 -- ---- an edit leaves base parts and rings
 
-module _ {ws vs : List ℕ} {ce cn : ℕ} {counts : Counts} {node : ℕ} {ys : List ℕ} (done : Edited ws vs ce cn counts node ys)
+module _ {ws vs : List ℕ} {ce cn : ℕ} {counts : Counts} {node : ℕ} {ys own : List ℕ} (done : Edited ws vs ce cn counts node ys own)
     (nodes-based : counts .nodes .base ≤ counts .nodes .bound) (edges-based : counts .edges .base ≤ counts .edges .bound)
     (index : Index ws ce cn (counts .nodes .base) (counts .edges .base))
   where
@@ -59,11 +59,12 @@ module _ {ws vs : List ℕ} {ce cn : ℕ} {counts : Counts} {node : ℕ} {ys : L
 -- ---- a node that is remade
 
 -- an edit of a node whose ring is empty
-pub remade-run : {ws vs : List ℕ} {ce cn : ℕ} {counts : Counts} {node : ℕ} {ys : List ℕ} → counts .nodes .base ≤ counts .nodes .bound
+pub remade-run : {ws vs : List ℕ} {ce cn : ℕ} {counts : Counts} {node : ℕ} {ys own : List ℕ} → counts .nodes .base ≤ counts .nodes .bound
     → counts .edges .base ≤ counts .edges .bound → Index ws ce cn (counts .nodes .base) (counts .edges .base)
     → Rings ws ce (counts .nodes .bound) (counts .edges .base) (counts .edges .bound)
-    → ring-of ws ce (counts .edges .base) (counts .edges .bound) node ≡ [] → Edited ws vs ce cn counts node ys → Remade ws vs ce cn counts node ys
-remade-run {counts = counts} {node = node} nodes-based edges-based index rings empty done =
+    → ring-of ws ce (counts .edges .base) (counts .edges .bound) node ≡ [] → ((e : ℕ) → In e own → In e (raw (adjacency-in ws ce cn counts node)))
+    → Edited ws vs ce cn counts node ys own → Remade ws vs ce cn counts node ys
+remade-run {counts = counts} {node = node} nodes-based edges-based index rings empty within done =
     record {
       here =
           node-same (edited-base done nodes-based edges-based index node) (done .here)
@@ -74,14 +75,15 @@ remade-run {counts = counts} {node = node} nodes-based edges-based index rings e
       index = edited-index done nodes-based edges-based index;
       below = done .below;
       frame = edited-kept done;
-      writes = edited-writes done;
+      writes = λ i l o. edited-writes done i (λ q. l (q .0, q .1, within (q .0) (q .2))) o;
     }
 
 module _ {ws vs : List ℕ} {ce cn : ℕ} {counts : Counts} {live : List ℕ} {node : ℕ} where
   -- an edit before the node is remade
-  pub edited-remade : {us ys zs : List ℕ} → Ready ws ce cn counts live node → Edited ws us ce cn counts node ys → Remade us vs ce cn counts node zs
-      → Remade ws vs ce cn counts node zs
-  edited-remade {us} {ys} {zs} pre done made =
+  pub edited-remade : {us ys zs own : List ℕ} → Ready ws ce cn counts live node → ((e : ℕ) → In e own → In e (raw (adjacency-in ws ce cn counts node)))
+      → ((e : ℕ) → In e (raw (adjacency-in us ce cn counts node)) → In e (raw (adjacency-in ws ce cn counts node)))
+      → Edited ws us ce cn counts node ys own → Remade us vs ce cn counts node zs → Remade ws vs ce cn counts node zs
+  edited-remade {us} {ys} {zs} pre within there done made =
       record {
         here = made .here ∙ node-same (edited-base done (pre .nodes-based) (pre .edges-based) (pre .index) node) refl refl;
         others = λ x h ne. made .others x h ne ∙ edited-node done (pre .nodes-based) (pre .edges-based) (pre .index) (pre .rings) x h ne;
@@ -90,13 +92,15 @@ module _ {ws vs : List ℕ} {ce cn : ℕ} {counts : Counts} {live : List ℕ} {n
         index = made .index;
         below = λ i h. made .below i h ∙ done .below i h;
         frame = axis-kept-again (edited-kept done) (made .frame);
-        writes = λ i l o. made .writes i l o ∙ edited-writes done i l o;
+        writes = λ i l o. made .writes i (λ q. l (q .0, q .1, there (q .0) (q .2))) o
+            ∙ edited-writes done i (λ q. l (q .0, q .1, within (q .0) (q .2))) o;
       }
 
 -- an edit after it
 pub remade-edited : {ws us vs ys zs : List ℕ} {ce cn : ℕ} {counts : Counts} {node : ℕ} → counts .nodes .base ≤ counts .nodes .bound
-    → counts .edges .base ≤ counts .edges .bound → Remade ws us ce cn counts node ys → Edited us vs ce cn counts node zs → Remade ws vs ce cn counts node zs
-remade-edited {ws} {us} {vs} {ce = ce} {cn = cn} {counts = counts} {node = node} nodes-based edges-based made done =
+    → counts .edges .base ≤ counts .edges .bound → ((e : ℕ) → In e ys → In e (raw (adjacency-in ws ce cn counts node))) → Remade ws us ce cn counts node ys
+    → Edited us vs ce cn counts node zs ys → Remade ws vs ce cn counts node zs
+remade-edited {ws} {us} {vs} {ce = ce} {cn = cn} {counts = counts} {node = node} nodes-based edges-based within made done =
     record {
       here =
           node-same (edited-base done nodes-based edges-based (made .index) node ∙ ap (λ (a : Adjacency). a .base) (made .here)) (done .here)
@@ -107,7 +111,7 @@ remade-edited {ws} {us} {vs} {ce = ce} {cn = cn} {counts = counts} {node = node}
       index = edited-index done nodes-based edges-based (made .index);
       below = λ i h. done .below i h ∙ made .below i h;
       frame = axis-kept-again (made .frame) (edited-kept done);
-      writes = λ i l o. edited-writes done i l o ∙ made .writes i l o;
+      writes = λ i l o. edited-writes done i (λ q. l (q .0, q .1, within (q .0) (q .2))) o ∙ made .writes i l o;
     }
 
 module _ {ws vs : List ℕ} {ce cn : ℕ} {counts : Counts} {node : ℕ} {ys : List ℕ} (made : Remade ws vs ce cn counts node ys) where

@@ -243,7 +243,7 @@ module _
         (λ some-last. columns (2 * ce + getD ws (4 * ce + x) 0) (omega arith)) (λ e m. columns (2 * ce + e) (omega arith)))
 
     -- the words that an operation of a strip leaves
-    pub relabelled-kept : AxisKept ws vs ce cn (counts .nodes .bound) (counts .edges .bound)
+    pub relabelled-kept : AxisKept ws vs ce cn (counts .nodes .bound) (counts .nodes .bound) (counts .edges .bound)
     relabelled-kept =
         record {
           ends = λ i l h. done .kept i (λ m. let low = edges i m in omega arith);
@@ -256,6 +256,7 @@ module _
           count = λ i l h. columns i (omega arith);
           mark = λ i l h. columns i (omega arith);
           marks = λ i l h. inl (columns i (omega arith));
+          new-marks = λ i l h. absurd (omega arith);
           offsets = λ i l. columns i (omega arith);
         }
 

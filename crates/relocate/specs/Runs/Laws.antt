@@ -1,7 +1,7 @@
 -- Laws of runs by their words and of edits, for those who combine them: a run and its mark, one edit after another, and that an edit leaves base parts and rings.
-use Prim.Native.Nat.{ℕ, _+_, _*_, _≤_, _<_}
+use Prim.Native.Nat.{ℕ, _+_, _-_, _*_, _≤_, _<_}
 use native.Mathlib.Omega.{arith}
-use mathlib.Core.Path.{_≡_, refl, sym, ap, _∙_}
+use mathlib.Core.Path.{_≡_, refl, sym, ap, _∙_, subst}
 use mathlib.Core.Logic.{_≢_, inl, inr, ⊎-elim}
 use mathlib.Core.Option.{Option, none, some}
 use mathlib.Core.List.{List, []}
@@ -14,7 +14,7 @@ use Rattle.shape.specs.Columns.{cell, link-at, first-at, tail-at, count-at, mar
 use Rattle.shape.specs.Chains.{In, Run}
 use Rattle.shape.specs.Shape.{run-list, run-of, ring-of}
 use Rattle.shape.specs.Checked.{Runs, Rings}
-use Rattle.shape.specs.Writes.{OnlyNode}
+use Rattle.shape.specs.Writes.{OfLinks, OfNode}
 use Rattle.shape.specs.Kept.{Mark, AxisKept, mark-through}
 use Rattle.shape.specs.Laws.Chains.{run-is, run-agree}
 use Rattle.shape.specs.Laws.Frames.{SameRun, run-list-agree, run-of-agree, run-list-unmarked, run-of-unmarked, ring-kept, rings-kept}
@@ -126,9 +126,9 @@ module _
           apart = apart;
         }
 
-    -- the node's run is edited
-    pub edited : Edited ws vs ce cn counts node ys
-    edited =
+    -- the node's run is edited, where no link is written but those of some edges
+    pub edited : {own : List ℕ} → ((e : ℕ) → e < ce → (In e own → ⊥) → link-at vs ce e ≡ link-at ws ce e) → Edited ws vs ce cn counts node ys own
+    edited written =
         record {
           here = run-of-marked vs ce cn node marked ∙ ap some listed;
           others = λ x h ne. run-of-agree ws vs ce cn x (same x h ne);
@@ -142,6 +142,7 @@ module _
                 edges-within = pre .edges-within;
               };
           below = below;
+          links = written;
           past = past;
           above = above;
           mark = mark;
@@ -151,34 +152,52 @@ module _
 
 module _ {ws : List ℕ} {ce cn : ℕ} {counts : Counts} {node : ℕ} where
   -- nothing has changed
-  pub edited-none : Editable ws ce cn counts node → mark-at ws ce cn node ≢ 0 → Edited ws ws ce cn counts node (run-list ws ce cn node)
+  pub edited-none : {own : List ℕ} → Editable ws ce cn counts node → mark-at ws ce cn node ≢ 0 → Edited ws ws ce cn counts node (run-list ws ce cn node) own
   edited-none pre marked =
       record {
         here = run-of-marked ws ce cn node marked;
         others = λ x h ne. refl;
         editable = pre;
         below = λ i h. refl;
+        links = λ e h out. refl;
         past = λ i l h. refl;
         above = λ i h f t c m. refl;
         mark = inl refl;
       }
 
   -- two edits of one node are one
-  pub edited-again : {vs us ys zs : List ℕ} → Edited ws vs ce cn counts node ys → Edited vs us ce cn counts node zs → Edited ws us ce cn counts node zs
+  pub edited-again : {vs us ys zs own : List ℕ} → Edited ws vs ce cn counts node ys own → Edited vs us ce cn counts node zs own
+      → Edited ws us ce cn counts node zs own
   edited-again a b =
       record {
         here = b .here;
         others = λ x h ne. b .others x h ne ∙ a .others x h ne;
         editable = b .editable;
         below = λ i h. b .below i h ∙ a .below i h;
+        links = λ e h out. b .links e h out ∙ a .links e h out;
         past = λ i l h. b .past i l h ∙ a .past i l h;
         above = λ i h f t c m. b .above i h f t c m ∙ a .above i h f t c m;
         mark = mark-through (a .mark) (b .mark);
       }
 
+  -- links of more edges may be written
+  pub edited-wider : {vs ys own more : List ℕ} → ((e : ℕ) → In e own → In e more) → Edited ws vs ce cn counts node ys own
+      → Edited ws vs ce cn counts node ys more
+  edited-wider within a =
+      record {
+        here = a .here;
+        others = a .others;
+        editable = a .editable;
+        below = a .below;
+        links = λ e h out. a .links e h (λ m. out (within e m));
+        past = a .past;
+        above = a .above;
+        mark = a .mark;
+      }
+
 -- ---- what an edit leaves
 
-module _ {ws vs : List ℕ} {ce cn : ℕ} {counts : Counts} {node : ℕ} {ys : List ℕ} (done : Edited ws vs ce cn counts node ys) where
+module _ {ws vs : List ℕ} {ce cn : ℕ} {counts : Counts} {node : ℕ} {ys own : List ℕ} (done : Edited ws vs ce cn counts node ys own) where
   -- the entries of the node's run
   pub edited-list : run-list vs ce cn node ≡ ys
   edited-list = list-of-run vs ce cn node (done .here)
@@ -213,7 +232,7 @@ module _ {ws vs : List ℕ} {ce cn : ℕ} {counts : Counts} {node : ℕ} {ys : L
       (omega (arith, e .node-below, e .nodes-within)) (omega (arith, e .node-below, e .nodes-within)))
 
   -- the words that an operation of a strip leaves
-  pub edited-kept : AxisKept ws vs ce cn (counts .nodes .bound) (counts .edges .bound)
+  pub edited-kept : AxisKept ws vs ce cn (counts .nodes .bound) (counts .nodes .bound) (counts .edges .bound)
   edited-kept =
       let low = done .editable .node-below in
       let within = done .editable .nodes-within in
@@ -230,6 +249,7 @@ module _ {ws vs : List ℕ} {ce cn : ℕ} {counts : Counts} {node : ℕ} {ys : L
         marks = λ i l h.
             by-test (eqb i (4 * ce + 4 * cn + node)) (λ t. rw (eqb-true i (4 * ce + 4 * cn + node) t) (done .mark))
             (λ t. let ne = eqb-false i (4 * ce + 4 * cn + node) t in inl (above i (omega arith) (omega arith) (omega arith) (omega arith) ne));
+        new-marks = λ i l h. absurd (omega arith);
         offsets = λ i l. above i (omega arith) (omega arith) (omega arith) (omega arith) (omega arith);
       }
     where
@@ -237,13 +257,17 @@ module _ {ws vs : List ℕ} {ce cn : ℕ} {counts : Counts} {node : ℕ} {ys : L
           → getD vs i 0 ≡ getD ws i 0
       above = done .above
 
-  -- no word is written but run links and the node's own
-  pub edited-writes : OnlyNode ws vs ce cn (counts .edges .bound) node
+  -- no word is written but run links of those edges and the node's own
+  pub edited-writes : (i : ℕ) → (OfLinks ce own i → ⊥) → (OfNode ce cn node i → ⊥) → getD vs i 0 ≡ getD ws i 0
   edited-writes i no-link out =
       ⊎-elim (λ h. done .below i h)
-      (λ l. ⊎-elim (λ h. absurd (no-link (l, h)))
-      (λ k. ⊎-elim (λ h. done .past i k h)
+      (λ l. ⊎-elim (λ h. link l h)
       (λ h. done .above i h (λ q. out (inr (inl q))) (λ q. out (inr (inr (inl q)))) (λ q. out (inr (inr (inr (inl q))))) (λ q. out (inr (inr (inr (inr q))))))
       (below-or-not i (4 * ce)))
-      (below-or-not i (3 * ce + counts .edges .bound)))
       (below-or-not i (3 * ce))
+    where
+      link : 3 * ce ≤ i → i < 4 * ce → getD vs i 0 ≡ getD ws i 0
+      link l h =
+          let place : 3 * ce + (i - 3 * ce) ≡ i = omega arith in
+          subst (λ (k : ℕ). getD vs k 0 ≡ getD ws k 0) place
+          (done .links (i - 3 * ce) (omega arith) (λ m. no-link (i - 3 * ce, sym place, m)))

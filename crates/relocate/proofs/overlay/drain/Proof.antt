@@ -35,7 +35,7 @@ loop-again c =
 detach-requires : tie.Need-detach-requires Inv-loop μ-loop
 detach-requires c κs =
     let w = c .before .before .before in
-    record { edges-within = w .keep-one2 .ensures .edited .editable .sized .edges-within; room = omega (arith, w .keep-one2 .ensures .edited .editable) }
+    record { edges-within = w .keep-one2 .ensures .editable .sized .edges-within; room = omega (arith, w .keep-one2 .ensures .editable) }
 
 returns-2 : tie.Need-returns-2 Inv-loop μ-loop
 returns-2 c =
