@@ -65,7 +65,7 @@ retired-dead slots words l = record {
   flags = λ k. sym (before-fails (live-in (live-flags words slots)) l k);
   counted = omega arith;
   packs = λ p. p;
-  others = refl;
+  others = λ i out. refl;
   long = refl;
 }
 

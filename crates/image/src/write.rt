@@ -1,9 +1,9 @@
 // Writing an image: rows of words and records of edges as bits, the image of columns of words, and the image of a store. Document 01, "The image".
 
+use crate::places::image_bytes;
 use bits::least_width;
 use bits::write_field;
 use bits::write_padding;
-use crate::places::image_bytes;
 use plain::Answer;
 use plain::Counts;
 use plain::NONE;
