@@ -5,7 +5,7 @@ use mathlib.Core.List.{List, [], _∷_, map}
 use lib.ListN.{length}
 use Rattle.plain.specs.Lists.{written}
 use Rattle.plain.specs.Plain.{Plain, node-bound, edge-bound}
-use Rattle.plain.specs.Operations.{operations}
+use Rattle.plain.specs.Operations.{operation-words, operations}
 use Rattle.plain.specs.Step.{Capacities, State}
 use Rattle.plain.specs.Reads.{live-edges}
 use Rattle.plain.specs.Image.{broken-image, nodes-in, edges-in}
@@ -36,7 +36,7 @@ all-told (c ∷ called) (request ∷ requests) = told c request ∷ all-told cal
 -- store's own memory, but only where the answer slice, a map or the work slice is too short or an image has more nodes or edges than there is capacity.
 pub data CanAnswer (caps : Capacities) (p : Plain) : Call → ℕ → Type 0 where
   strip-done : {words : List ℕ} {room : ℕ} → CanAnswer caps p (Strip words room) 0
-  strip-ragged : {words : List ℕ} {room : ℕ} → (length words % 4 ≡ 0 → ⊥) → CanAnswer caps p (Strip words room) 3
+  strip-ragged : {words : List ℕ} {room : ℕ} → (length words % operation-words ≡ 0 → ⊥) → CanAnswer caps p (Strip words room) 3
   strip-short : {words : List ℕ} {room : ℕ} → room < 2 * length (operations words) → CanAnswer caps p (Strip words room) 2
   compaction-done : {node-map edge-map work : ℕ} → CanAnswer caps p (Compaction node-map edge-map work) 0
   -- "a node map and an edge map, as long as the bounds before, and a work slice of twice the live edge count"

@@ -1,8 +1,3 @@
-pub mod Put
-pub mod Fields
-pub mod Widths
-pub mod Wrote
-pub mod Replaced
 pub mod Places
 pub mod Checks
 pub mod Strung

@@ -13,7 +13,8 @@ use Rattle.plain.specs.Lists.{from}
 use Rattle.plain.specs.Bits.{fields-at, least-width}
 use Rattle.plain.specs.Compaction.{EdgeRecord, source-of, target-of}
 use Rattle.plain.specs.Image.{record-width, nodes-in, edges-in, edges-start, outs-start, ins-start, image-size, cut, list-lengths, parsed, broken-image}
-use Rattle.plain.specs.Memory.{Lengths, live-words, axis-words}
+use Rattle.plain.specs.Memory.{Lengths, axis-words}
+use Rattle.plain.specs.Calls.{limits}
 use Rattle.plain.specs.Laws.Bits.{length-fields-at}
 use Rattle.plain.specs.Laws.Below.{below-of}
 use Rattle.plain.specs.Laws.Cutting.{joined-cut, sum-list-lengths}
@@ -21,6 +22,7 @@ use Rattle.plain.specs.Laws.Width.{width-most}
 use Rattle.plain.specs.Laws.WellFormed.{Fitted, Sound}
 use Rattle.plain.specs.Laws.Refusals.{Counted, Readable, readable, length-edges-in}
 use Rattle.plain.specs.Laws.ImageLaws.{nodes-length, edges-length, parsed-sound}
+use Rattle.memory.specs.Laws.{Roomy}
 use Rattle.liveness.specs.Calls.{Reset}
 use Rattle.shape.specs.Columns.{Sized}
 use Rattle.shape.specs.Shape.{Words, lengths-of, axis-words as words-of}
@@ -31,34 +33,19 @@ use Rattle.store.specs.Operations.{SameLengths}
 use Rattle.compact.specs.Slots.{rewritten-range}
 use Rattle.compact.specs.Bases.{rebuilt-renewed}
 use Rattle.compact.specs.Holding.{based, front, Holding, reset-same, reset-word, sized-as}
-use Rattle.image.specs.Fields.{Room}
+use Rattle.bits.specs.Fields.{Room}
 use Rattle.image.specs.Places.{records-small, entries-small}
 use Rattle.image.specs.Spread.{spread, SpreadFits, spread-in, fields-spread, spread-at, sources-spread, targets-spread, payloads-spread}
 use Rattle.image.specs.Directions.{AxisReadable, AxisRead, base-readable, read-base}
 
 -- ---- what is asked
 
--- the lengths of a store's slices, in parameter order
-abbrev pub lengths : ℕ → ℕ → ℕ → ℕ → ℕ → ℕ → Lengths
-lengths nodes edges live-nodes live-edges outgoing incoming = record {
-  capacities = record { nodes = nodes; edges = edges };
-  live-nodes = live-nodes;
-  live-edges = live-edges;
-  outgoing = outgoing;
-  incoming = incoming;
-}
-
 -- None of the refusals of a reading holds: 13, 12, 2.
 pub record Accepted (l : Lengths) (bytes : List ℕ) : Type 0 where
-  pub few-nodes : l .capacities .nodes ≤ LIMIT
-  pub few-edges : l .capacities .edges ≤ LIMIT
+  pub roomy : Roomy limits l
   pub image : broken-image bytes ≡ 0
   pub nodes-room : nodes-in bytes ≤ l .capacities .nodes
   pub edges-room : edges-in bytes ≤ l .capacities .edges
-  pub live-nodes-room : live-words (l .capacities .nodes) ≤ l .live-nodes
-  pub live-edges-room : live-words (l .capacities .edges) ≤ l .live-edges
-  pub outgoing-room : axis-words (l .capacities) ≤ l .outgoing
-  pub incoming-room : axis-words (l .capacities) ≤ l .incoming
 
 -- ---- what is read
 
@@ -153,7 +140,7 @@ module _ {l : Lengths} {bytes : List ℕ} (a : Accepted l bytes) where
       → lists + least-width m * m ≤ image-size n m → ((e : ℕ) → e < m → spread bytes ends (record-width (least-width n)) (least-width n) e < n)
       → AxisReadable ws (l .capacities .edges) (l .capacities .nodes) n m bytes ends lists
   axis-readable ws k ends lists room is low inside below = record {
-    sized = record { edges-within = a .few-edges; nodes-within = a .few-nodes; room = room };
+    sized = record { edges-within = a .roomy .few-edges; nodes-within = a .roomy .few-nodes; room = room };
     nodes-fit = a .nodes-room;
     edges-fit = a .edges-room;
     ends-there = spread-in (edges-start n) k ends (record-width (least-width n)) (least-width n) m is (omega arith) (width-most n) (omega (arith, whole))
@@ -186,7 +173,7 @@ module _ {w : Words} {bytes : List ℕ} {v : Words} (a : Accepted (lengths-of w)
   sound = parsed-sound bytes (a .image)
 
   ready : AxesReadable (w .outgoing) (w .incoming) (length (w .edges)) (length (w .nodes)) bytes (nodes-in bytes) (edges-in bytes)
-  ready = axes-readable a (w .outgoing) (w .incoming) (a .outgoing-room) (a .incoming-room)
+  ready = axes-readable a (w .outgoing) (w .incoming) (a .roomy .outgoing-room) (a .roomy .incoming-room)
 
   -- the base of one direction
   base-of : {ws ws' : List ℕ} (end : EdgeRecord → ℕ) (ends lists : ℕ)
@@ -234,8 +221,8 @@ module _ {w : Words} {bytes : List ℕ} {v : Words} (a : Accepted (lengths-of w)
         counts = r .counts ∙ ap₂ {C = Counts} (λ (n m : ℕ). record { nodes = based n; edges = based m }) (sym many-nodes) (sym many-edges);
         nodes-fit = omega (arith, a .nodes-room, same .nodes);
         edges-fit = omega (arith, a .edges-room, same .edges);
-        live-nodes-long = rw (same .nodes, same .live-nodes) (a .live-nodes-room);
-        live-edges-long = rw (same .edges, same .live-edges) (a .live-edges-room);
+        live-nodes-long = rw (same .nodes, same .live-nodes) (a .roomy .live-nodes-room);
+        live-edges-long = rw (same .edges, same .live-edges) (a .roomy .live-edges-room);
         sized = sized-again;
         nodes = ap (front (v .nodes)) many-nodes ∙ rewritten-range (r .payloads .nodes-read) ∙ fields-spread bytes 32 32 (nodes-in bytes);
         edges = ap (front (v .edges)) many-edges ∙ rewritten-range (r .payloads .edges-read)

@@ -12,7 +12,7 @@ use Rattle.plain.specs.Image.{record-width, payload-at, records-at}
 use Rattle.plain.specs.Laws.ListLaws.{length-from, getD-from, getD-map, from-suc}
 use Rattle.plain.specs.Laws.ImageBits.{payload-of}
 use Rattle.shape.specs.Laws.Indexing.{map-from-same}
-use Rattle.image.specs.Fields.{Room}
+use Rattle.bits.specs.Fields.{Room}
 
 -- field number i
 abbrev pub spread : List ℕ → ℕ → ℕ → ℕ → ℕ → ℕ

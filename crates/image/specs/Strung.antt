@@ -14,7 +14,7 @@ use Rattle.plain.specs.Image.{edge-bits}
 use Rattle.plain.specs.Laws.Bits.{row-append}
 use Rattle.plain.specs.Laws.ListLaws.{map-snoc}
 use Rattle.shape.specs.Laws.Indexing.{from-snoc}
-use Rattle.image.specs.Wrote.{Wrote, wrote-none, wrote-then}
+use Rattle.bits.specs.Wrote.{Wrote, wrote-none, wrote-then}
 
 -- f 0, f 1 and so on, n of them, one after the other
 unfoldable pub strung : (ℕ → List ℕ) → ℕ → List ℕ

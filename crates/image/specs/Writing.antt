@@ -17,8 +17,8 @@ use Rattle.plain.specs.Laws.ListLaws.{length-from}
 use Rattle.plain.specs.Laws.Packing.{padding}
 use Rattle.plain.specs.Laws.ImageBits.{length-edge-bits, below-edge-bits}
 use Rattle.plain.specs.Laws.Width.{width-holds, width-most}
-use Rattle.image.specs.Fields.{Room}
-use Rattle.image.specs.Wrote.{Wrote, wrote-then, wrote-pack}
+use Rattle.bits.specs.Fields.{Room}
+use Rattle.bits.specs.Wrote.{Wrote, wrote-then, wrote-pack}
 use Rattle.image.specs.Strung.{WroteTo, PiecesFit, Strung, strung-room, wrote-on, word-bits, record-bits}
 
 -- What an image is written from: the nodes' payloads, the edges' ends and payloads, and the lists of all nodes joined, of each direction.

@@ -2,11 +2,11 @@
 // entries of a direction: they are right exactly when they are below m, none comes twice, and their ends do not descend. As in document 01, w is the width of a
 // node's number and v that of an edge's.
 
-use crate::bits::least_width;
-use crate::bits::read_field;
 use crate::places::image_bytes;
 use crate::places::lists_size;
 use crate::places::outs_start;
+use bits::least_width;
+use bits::read_field;
 use plain::LIMIT;
 use validate::marks::mark;
 ghost use mathlib.Core.Path.{_≡_};

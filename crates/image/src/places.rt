@@ -1,7 +1,6 @@
 // Where the parts of an image stand, in bits, from its two counts: "node count n and edge count m (16 bits each); n payloads (32); per edge source, target
 // (w bits each), payload (32); the out-lists of nodes 0 up to n−1 joined, then the in-lists (v bits an entry)".
 
-use crate::bits;
 ghost use mathlib.Core.Path.{_≡_};
 ghost use Prim.Native.Nat.{_*_};
 ghost use Rattle.plain.specs.Bits.{bytes-for, least-width};

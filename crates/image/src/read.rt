@@ -1,33 +1,29 @@
 // Reading an image into a store's memory: the bytes are checked, and what they hold is put in place of all that was there, all of it in the base. The result is
 // what compaction leaves.
 
-use crate::bits;
 use crate::check;
 use crate::places;
 use adjacency::index;
 use compact;
 use liveness;
+use memory::Lengths;
+use memory::Limits;
 use plain::Answer;
 use plain::Changed;
 use plain::Counts;
-use plain::LIMIT;
 use plain::NONE;
-use plain::numbers;
 ghost use mathlib.Core.Path.{_≡_};
-ghost use Prim.Native.Nat.{_≤_};
 ghost use lib.ListN.{length};
 ghost use Rattle.plain.specs.Bits.{fields-at};
-ghost use Rattle.plain.specs.Numbers.{LIMIT};
-ghost use Rattle.plain.specs.Memory.{first-short};
-ghost use Rattle.plain.specs.Calls.{short-answer, reading-slices, read-image};
+ghost use Rattle.plain.specs.Calls.{read-image};
+ghost use Rattle.memory.specs.Lengths.{lengths, measured};
 ghost use Rattle.shape.specs.Shape.{store};
 ghost use Rattle.shape.specs.Laws.Indexing.{Rewritten};
 ghost use Rattle.compact.specs.Bases.{Rebuilt};
 ghost use Rattle.image.specs.Spread.{spread, SpreadFits};
 ghost use Rattle.image.specs.Directions.{BaseReadable, AxisReadable, AxisRead};
-ghost use Rattle.image.specs.Answering.{lacking as lacking-of};
 ghost use Rattle.image.specs.Calls.{ReadOf};
-ghost use Rattle.image.specs.Reading.{lengths, Accepted, PayloadsReadable, PayloadsRead, AxesReadable, AxesRead, Placed};
+ghost use Rattle.image.specs.Reading.{Accepted, PayloadsReadable, PayloadsRead, AxesReadable, AxesRead, Placed};
 
 // Reads `count` fields of `width` bits, the first at bit `position` and each `stride` bits further, into words from `at` on.
 fn read_fields(
@@ -195,87 +191,17 @@ fn place(
     }
 }
 
-// The answer, or "a lent slice too short | 2 | length needed | everything".
-fn lacking(needs: usize, has: usize, rest: Answer) -> Answer
-    ensures { λ r. ⌜ r ≡ lacking-of needs has rest ⌝ }
-{
-    if needs <= has {
-        return rest;
-    }
-    Answer {
-        number: numbers::TOO_SHORT,
-        value: needs as u64,
-    }
-}
-
-// The answer to an image of two counts, by the lengths of the memory: 2 for the first slice that is too short.
-fn room_for(
-    count_nodes: u32,
-    count_edges: u32,
-    nodes: usize,
-    edges: usize,
-    live_nodes: usize,
-    live_edges: usize,
-    outgoing: usize,
-    incoming: usize,
-) -> Answer
-    requires { ⌜ (nodes ≤ LIMIT) × (edges ≤ LIMIT) ⌝ }
-    ensures { λ r. ⌜ r ≡ short-answer (first-short (reading-slices «count_nodes» «count_edges» (lengths nodes edges «live_nodes» «live_edges» outgoing incoming))) ⌝ }
-{
-    let done = Answer {
-        number: numbers::DONE,
-        value: 0,
-    };
-    let axis_words = 4 * edges + 6 * nodes + 1;
-    let axes = lacking(axis_words, outgoing, lacking(axis_words, incoming, done));
-    let live = lacking((edges + 63) / 64, live_edges, axes);
-    let others = lacking((nodes + 63) / 64, live_nodes, live);
-    let payloads = lacking(count_edges as usize, edges, others);
-    lacking(count_nodes as usize, nodes, payloads)
-}
-
 // The answer of a reading, by the lengths of the memory and the bytes: "13, 12, 2".
-fn answer(
-    nodes: usize,
-    edges: usize,
-    live_nodes: usize,
-    live_edges: usize,
-    outgoing: usize,
-    incoming: usize,
-    bytes: &[u8],
-) -> Answer
-    ensures { λ r. ⌜ r ≡ read-image (lengths nodes edges «live_nodes» «live_edges» outgoing incoming) (now (bytes .entry)) ⌝ }
+fn answer(lengths: Lengths, bytes: &[u8]) -> Answer
+    ensures { λ r. ⌜ r ≡ read-image (measured lengths) (now (bytes .entry)) ⌝ }
 {
-    let limit = LIMIT as usize;
-    if limit < nodes {
-        return Answer {
-            number: numbers::ABOVE_LIMIT,
-            value: nodes as u64,
-        };
-    }
-    if limit < edges {
-        return Answer {
-            number: numbers::ABOVE_LIMIT,
-            value: edges as u64,
-        };
-    }
     let rule = check::first_broken(bytes);
     if rule != 0 {
-        return Answer {
-            number: numbers::UNREADABLE,
-            value: rule as u64,
-        };
+        return memory::reading_answer(Limits::BOX, lengths, rule, 0, 0);
     }
-    room_for(
-        bits::read_field(bytes, 0, 16),
-        bits::read_field(bytes, 16, 16),
-        nodes,
-        edges,
-        live_nodes,
-        live_edges,
-        outgoing,
-        incoming,
-    )
+    let count_nodes = bits::read_field(bytes, 0, 16);
+    let count_edges = bits::read_field(bytes, 16, 16);
+    memory::reading_answer(Limits::BOX, lengths, rule, count_nodes, count_edges)
 }
 
 // Reads an image into a store's memory, whatever stands there. Refused, nothing is written.
@@ -295,12 +221,14 @@ pub fn read_image(
         (store (r .counts) (now (nodes .exit)) (now (edges .exit)) (now («live_nodes» .exit)) (now («live_edges» .exit)) (now (outgoing .exit)) (now (incoming .exit))) ⌝ }
 {
     let told = answer(
-        nodes.len(),
-        edges.len(),
-        live_nodes.len(),
-        live_edges.len(),
-        outgoing.len(),
-        incoming.len(),
+        Lengths {
+            nodes: nodes.len(),
+            edges: edges.len(),
+            live_nodes: live_nodes.len(),
+            live_edges: live_edges.len(),
+            outgoing: outgoing.len(),
+            incoming: incoming.len(),
+        },
         bytes,
     );
     let number = told.number;

@@ -1,9 +1,9 @@
 // Writing an image: rows of words and records of edges as bits, the image of columns of words, and the image of a store. Document 01, "The image".
 
-use crate::bits::least_width;
-use crate::bits::write_field;
-use crate::bits::write_padding;
 use crate::places::image_bytes;
+use bits::least_width;
+use bits::write_field;
+use bits::write_padding;
 use plain::Answer;
 use plain::Counts;
 use plain::NONE;
@@ -26,7 +26,7 @@ ghost use Rattle.image.specs.Calls.{written-image};
 ghost use Rattle.image.specs.WriteCases.{BytesLent};
 ghost use Rattle.image.specs.Stored.{Stored, columns-of};
 ghost use Rattle.image.specs.Strung.{WroteTo, record-bits};
-ghost use Rattle.image.specs.Wrote.{Wrote};
+ghost use Rattle.bits.specs.Wrote.{Wrote};
 ghost use Rattle.image.specs.Writing.{RowFits, RecordFits, EdgesFit, SlotsFit, ListsFit, ImageFits, records-in, count-bits, slot-bits, list-bits, columns, column-bits};
 
 // Writes words one after the other, each in `width` bits, from bit `position` on, and answers the bit after them. Internal: they have room.

@@ -6,7 +6,7 @@ ghost use mathlib.Core.List.{_∷_, _++_, []};
 ghost use Prim.Native.Nat.{_+_, _≤_, _<_, _/_, _%_};
 ghost use lib.ListN.{length};
 ghost use Rattle.plain.specs.Lotstrip.{decimal, answer-lines, hex-digit, hexadecimal};
-ghost use Rattle.image.specs.Put.{Put};
+ghost use Rattle.bits.specs.Put.{Put};
 ghost use Rattle.lotstrip_text.specs.Appending.{Appended};
 ghost use Rattle.lotstrip_text.specs.Lines.{line};
 

@@ -12,6 +12,9 @@ pub const NONE: u32 = 4294967295;
 // The most node slots, and the most edge slots, that a store may have.
 pub const LIMIT: u32 = 32768;
 
+// The words of an operation in a strip: code, first, second, payload.
+pub const OPERATION_WORDS: usize = 4;
+
 // Direction in which a walk follows edges.
 pub enum TraversalDirection {
     // From source to target: an edge is in the list of its source.
@@ -109,7 +112,7 @@ fn sparing(a: u32, b: u32, operation: Operation) -> Operation
 }
 
 impl Operation {
-    // The operation that four words of a strip stand for.
+    // The operation that the words of a strip stand for.
     pub fn decode(code: u32, first: u32, second: u32, payload: u32) -> Operation
         ensures { λ r. ⌜ r ≡ decoded code first second payload ⌝ }
     {

@@ -10,7 +10,7 @@ use lib.Seq.{take-suc, take-all, length-take-le}
 use Rattle.plain.specs.declared.Operation.{Operation}
 use Rattle.plain.specs.declared.Operation.the-variants.{Unknown}
 use Rattle.plain.specs.Lists.{written}
-use Rattle.plain.specs.Operations.{operations}
+use Rattle.plain.specs.Operations.{operation-words, operations}
 use Rattle.plain.specs.Plain.{Plain}
 use Rattle.plain.specs.Step.{Capacities, State, Outcome, step, stepped, run, answers}
 use Rattle.plain.specs.Calls.{Stripped, strip, judged-strip}
@@ -75,8 +75,8 @@ pub record StripOf (w : Words) (words entry : List ℕ) (number value : ℕ) (v 
 
 -- ---- the words
 
--- an operation whose four words are there
-pub operation-there : (words : List ℕ) (i : ℕ) → 4 * i + 4 ≤ length words → i < length (operations words)
+-- an operation whose words are there
+pub operation-there : (words : List ℕ) (i : ℕ) → operation-words * i + operation-words ≤ length words → i < length (operations words)
 operation-there words i h = rw (length-operations words) (omega arith)
 
 -- ---- the answer slice
@@ -154,7 +154,7 @@ pub record Running (w : Words) (words entry : List ℕ) (count : ℕ) (v : Words
   pub same-room : length exit ≡ length entry
   pub ran : Ran w (take i (operations words)) entry v exit
 
-pub running-start : {w : Words} {words entry : List ℕ} → Runnable w words entry → Running w words entry (length words / 4) w entry 0
+pub running-start : {w : Words} {words entry : List ℕ} → Runnable w words entry → Running w words entry (length words / operation-words) w entry 0
 running-start {w} {words} {entry} pre = record {
   counted = sym (length-operations words);
   within = omega arith;
@@ -183,7 +183,7 @@ running-turn {w} {words} {entry} {count} {v} {u} {exit} {exit'} {i} {number} {va
 
 -- its words are there
 pub running-words : {w : Words} {words entry : List ℕ} {count : ℕ} {v : Words} {exit : List ℕ} {i : ℕ} → Running w words entry count v exit i → i < count
-    → 4 * i + 4 ≤ length words
+    → operation-words * i + operation-words ≤ length words
 running-words {words = words} r more = let counted = r .counted ∙ length-operations words in omega arith
 
 -- and so is the room for its answer
@@ -233,24 +233,24 @@ module _ (w : Words) (words entry : List ℕ) where
     told = ap (λ (n : ℕ). judged-strip n (state-of (shape-of w)) (strip (capacities w) (state-of (shape-of w)) words (length entry))) (sym (j .first) ∙ sound)
 
     -- "strip not a multiple of four | 3 | its length | everything"
-    pub strip-ragged : (length words % 4 ≡ 0 → ⊥) → StripOf w words entry 3 (length words) w entry
+    pub strip-ragged : (length words % operation-words ≡ 0 → ⊥) → StripOf w words entry 3 (length words) w entry
     unfolding strip
     strip-ragged ragged =
-        kept (record { number = 3; value = length words; words = []; after = state-of (shape-of w) }) (told ∙ rw (ne-eqb (length words % 4) 0 ragged)) refl refl
+        kept (record { number = 3; value = length words; words = []; after = state-of (shape-of w) }) (told ∙ rw (ne-eqb (length words % operation-words) 0 ragged)) refl refl
         (λ q. omega arith)
 
-    module _ (whole : length words % 4 ≡ 0) where
-      needed : 2 * length (operations words) ≡ length words / 2
+    module _ (whole : length words % operation-words ≡ 0) where
+      needed : 2 * length (operations words) ≡ 2 * (length words / operation-words)
       needed = rw (length-operations words) (omega arith)
 
       -- "a lent slice too short | 2 | length needed | everything"
-      pub strip-short : length entry < length words / 2 → StripOf w words entry 2 (length words / 2) w entry
+      pub strip-short : length entry < 2 * (length words / operation-words) → StripOf w words entry 2 (2 * (length words / operation-words)) w entry
       unfolding strip
       strip-short short =
-          kept (record { number = 2; value = length words / 2; words = []; after = state-of (shape-of w) })
-          (told ∙ rw (eq-eqb (length words % 4) 0 whole, needed, lt-ltb (length entry) (length words / 2) short)) refl refl (λ q. omega arith)
+          kept (record { number = 2; value = 2 * (length words / operation-words); words = []; after = state-of (shape-of w) })
+          (told ∙ rw (eq-eqb (length words % operation-words) 0 whole, needed, lt-ltb (length entry) (2 * (length words / operation-words)) short)) refl refl (λ q. omega arith)
 
-      module _ (room : length words / 2 ≤ length entry) where
+      module _ (room : 2 * (length words / operation-words) ≤ length entry) where
         pub strip-runnable : Runnable w words entry
         strip-runnable = record { checked = j .checked sound; room = rw needed room }
 
@@ -261,7 +261,7 @@ module _ (w : Words) (words entry : List ℕ) where
             let s = state-of (shape-of w) in
             let ops = operations words in
             let is : stripped w words (length entry) ≡ record { number = 0; value = 0; words = answers caps s ops; after = run caps s ops } =
-            told ∙ rw (eq-eqb (length words % 4) 0 whole, needed, le-ltb (length entry) (length words / 2) room) in
+            told ∙ rw (eq-eqb (length words % operation-words) 0 whole, needed, le-ltb (length entry) (2 * (length words / operation-words)) room) in
             record {
               numbered = ap (λ (o : Stripped). o .number) (sym is);
               valued = ap (λ (o : Stripped). o .value) (sym is);

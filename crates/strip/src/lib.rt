@@ -2,9 +2,11 @@
 
 pub mod step;
 
+use memory::Lengths;
+use memory::Limits;
 use plain::Changed;
 use plain::Counts;
-use plain::LIMIT;
+use plain::OPERATION_WORDS;
 use plain::Operation;
 use plain::Slots;
 use plain::numbers;
@@ -12,29 +14,10 @@ ghost use mathlib.Core.Path.{_≡_};
 ghost use Prim.Native.Nat.{_+_, _*_, _≤_};
 ghost use lib.ListN.{length, getD, set};
 ghost use Rattle.plain.specs.declared.Operation.the-variants.{Unknown};
-ghost use Rattle.plain.specs.Operations.{operations};
+ghost use Rattle.plain.specs.Operations.{operation-words, operations};
 ghost use Rattle.shape.specs.Shape.{store};
-ghost use Rattle.strip.specs.Fresh.{empty-counts, FreshOf};
+ghost use Rattle.strip.specs.Fresh.{FreshOf};
 ghost use Rattle.strip.specs.Strip.{Runnable, Ran, StripOf};
-
-// An answer beside the counts of a store with no slot.
-fn empty(number: u32, value: usize) -> Changed
-    ensures { λ r. ⌜ r ≡ record { number = number; value = value; counts = empty-counts } ⌝ }
-{
-    let slots = Slots {
-        bound: 0,
-        base: 0,
-        live: 0,
-    };
-    Changed {
-        number,
-        value: value as u64,
-        counts: Counts {
-            nodes: slots,
-            edges: slots,
-        },
-    }
-}
 
 // A fresh store in the memory lent: "13, nodes before edges, then 2". It is empty with bounds 0, so that no word of it is a field, and none is written.
 pub fn fresh(
@@ -49,39 +32,38 @@ pub fn fresh(
         (store (r .counts) (now (nodes .entry)) (now (edges .entry)) (now («live_nodes» .entry)) (now («live_edges» .entry)) (now (outgoing .entry)) (now (incoming .entry)))
         (r .number) (r .value) ⌝ }
 {
-    let n = nodes.len();
-    let e = edges.len();
-    let limit = LIMIT as usize;
-    if limit < n {
-        return empty(numbers::ABOVE_LIMIT, n);
+    let told = memory::fresh_answer(
+        Limits::BOX,
+        Lengths {
+            nodes: nodes.len(),
+            edges: edges.len(),
+            live_nodes: live_nodes.len(),
+            live_edges: live_edges.len(),
+            outgoing: outgoing.len(),
+            incoming: incoming.len(),
+        },
+    );
+    let slots = Slots {
+        bound: 0,
+        base: 0,
+        live: 0,
+    };
+    Changed {
+        number: told.number,
+        value: told.value,
+        counts: Counts {
+            nodes: slots,
+            edges: slots,
+        },
     }
-    if limit < e {
-        return empty(numbers::ABOVE_LIMIT, e);
-    }
-    let node_words = (n + 63) / 64;
-    if live_nodes.len() < node_words {
-        return empty(numbers::TOO_SHORT, node_words);
-    }
-    let edge_words = (e + 63) / 64;
-    if live_edges.len() < edge_words {
-        return empty(numbers::TOO_SHORT, edge_words);
-    }
-    let axis_words = 4 * e + 6 * n + 1;
-    if outgoing.len() < axis_words {
-        return empty(numbers::TOO_SHORT, axis_words);
-    }
-    if incoming.len() < axis_words {
-        return empty(numbers::TOO_SHORT, axis_words);
-    }
-    empty(numbers::DONE, 0)
 }
 
-// Operation i of a strip, from its four words.
+// Operation i of a strip, from its words.
 fn operation_at(words: &[u32], i: usize) -> Operation
-    requires { ⌜ 4 * i + 4 ≤ length (now words) ⌝ }
+    requires { ⌜ operation-words * i + operation-words ≤ length (now words) ⌝ }
     ensures { λ r. ⌜ r ≡ getD (operations (now (words .entry))) i Unknown ⌝ }
 {
-    let at = 4 * i;
+    let at = OPERATION_WORDS * i;
     Operation::decode(words[at], words[at + 1], words[at + 2], words[at + 3])
 }
 
@@ -95,7 +77,7 @@ fn write_answer(answers: &mut [u32], i: usize, number: u32, value: u32)
     answers[to + 1] = value;
 }
 
-// The operations of a strip in turn, four words each, with two words of answer each. A refused operation changes nothing and the strip goes on.
+// The operations of a strip in turn, with two words of answer each. A refused operation changes nothing and the strip goes on.
 fn run(
     counts: Counts,
     nodes: &mut [u32],
@@ -114,7 +96,7 @@ fn run(
         (store r (now (nodes .exit)) (now (edges .exit)) (now («live_nodes» .exit)) (now («live_edges» .exit)) (now (outgoing .exit)) (now (incoming .exit)))
         (now (answers .exit)) ⌝ }
 {
-    let count = words.len() / 4;
+    let count = words.len() / OPERATION_WORDS;
     let mut counts = counts;
     let mut i: usize = 0;
     while i < count {
@@ -171,14 +153,14 @@ pub fn strip(
         };
     }
     let length = words.len();
-    if length % 4 != 0 {
+    if length % OPERATION_WORDS != 0 {
         return Changed {
             number: numbers::RAGGED,
             value: length as u64,
             counts,
         };
     }
-    let needed = length / 2;
+    let needed = 2 * (length / OPERATION_WORDS);
     if answers.len() < needed {
         return Changed {
             number: numbers::TOO_SHORT,

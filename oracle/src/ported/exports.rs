@@ -59,24 +59,6 @@ unsafe extern "C" {
         entries_length: usize,
         count: usize,
     );
-    pub fn lot_count_starts(
-        ends: *const u32,
-        ends_length: usize,
-        counters: *mut u32,
-        counters_length: usize,
-        count_nodes: usize,
-        count_edges: usize,
-    );
-    pub fn lot_place_in_order(
-        ends: *const u32,
-        ends_length: usize,
-        counters: *mut u32,
-        counters_length: usize,
-        out: *mut u32,
-        out_length: usize,
-        count_nodes: usize,
-        count_edges: usize,
-    );
 
     pub fn lot_count_walk(
         axis: *const u32,

@@ -9,7 +9,7 @@ use lib.ListN.{length}
 use lib.Dec.{eqb, ltb}
 use borrow.Author.Tests.{ltb-true, eqb-false}
 use Rattle.plain.specs.declared.TraversalDirection.the-variants.{Outgoing, Incoming}
-use Rattle.plain.specs.Operations.{operations}
+use Rattle.plain.specs.Operations.{operation-words, operations}
 use Rattle.plain.specs.Step.{Capacities, State}
 use Rattle.plain.specs.Image.{broken-image, nodes-in, edges-in}
 use Rattle.plain.specs.Memory.{Slice, first-short, Lengths, other-slices, exact}
@@ -55,9 +55,9 @@ module _ (caps : Capacities) (s : State) where
   strip-numbers : (words : List ℕ) (room : ℕ) → CanAnswer caps (s .lists) (Strip words room) (strip caps s words room .number)
   unfolding strip
   strip-numbers words room =
-      by-test (eqb (length words % 4) 0)
+      by-test (eqb (length words % operation-words) 0)
       (λ q. rw q (by-test (ltb room (2 * length (operations words))) (λ r. rw r (strip-short (ltb-true room (2 * length (operations words)) r))) (λ r. rw r strip-done)))
-      (λ q. rw q (strip-ragged (eqb-false (length words % 4) 0 q)))
+      (λ q. rw q (strip-ragged (eqb-false (length words % operation-words) 0 q)))
 
   -- 2 where one of the three slices is too short, or done
   too-short : {node-map edge-map work n : ℕ} → FirstShort (compaction-slices (s .lists) node-map edge-map work) n

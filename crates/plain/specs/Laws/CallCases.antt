@@ -15,7 +15,7 @@ use Rattle.plain.specs.declared.Answer.{Answer}
 use Rattle.plain.specs.declared.Record.{Record}
 use Rattle.plain.specs.Numbers.{NONE}
 use Rattle.plain.specs.Plain.{Plain, NodeSlot, EdgeSlot, no-node, no-edge, node-bound, edge-bound, node-flags, edge-flags, list-of, end-of, opposite}
-use Rattle.plain.specs.Operations.{operations}
+use Rattle.plain.specs.Operations.{operation-words, operations}
 use Rattle.plain.specs.Step.{Capacities, State, node-missing, run, answers}
 use Rattle.plain.specs.Reads.{lent, listing, answered, yes-or-no, no-record, walk, neighbors, degree, node-payload, edge-record, live-edge-record, contains-node, contains-edge, is-live, find-fault}
 use Rattle.plain.specs.Compaction.{survivors}
@@ -182,19 +182,19 @@ module _ (p : Plain) (a b : ℕ) where
 -- ---- the strip: 3, then 2
 
 module _ (caps : Capacities) (s : State) (words : List ℕ) (room : ℕ) where
-  pub strip-ragged : (length words % 4 ≡ 0 → ⊥) → strip caps s words room ≡ record { number = 3; value = length words; words = []; after = s }
+  pub strip-ragged : (length words % operation-words ≡ 0 → ⊥) → strip caps s words room ≡ record { number = 3; value = length words; words = []; after = s }
   unfolding strip
-  strip-ragged h = rw (ne-eqb (length words % 4) 0 h)
+  strip-ragged h = rw (ne-eqb (length words % operation-words) 0 h)
 
-  pub strip-short : length words % 4 ≡ 0 → room < 2 * length (operations words)
+  pub strip-short : length words % operation-words ≡ 0 → room < 2 * length (operations words)
       → strip caps s words room ≡ record { number = 2; value = 2 * length (operations words); words = []; after = s }
   unfolding strip
-  strip-short h k = rw (eq-eqb (length words % 4) 0 h, lt-ltb room (2 * length (operations words)) k)
+  strip-short h k = rw (eq-eqb (length words % operation-words) 0 h, lt-ltb room (2 * length (operations words)) k)
 
-  pub strip-done : length words % 4 ≡ 0 → 2 * length (operations words) ≤ room
+  pub strip-done : length words % operation-words ≡ 0 → 2 * length (operations words) ≤ room
       → strip caps s words room ≡ record { number = 0; value = 0; words = answers caps s (operations words); after = run caps s (operations words) }
   unfolding strip
-  strip-done h k = rw (eq-eqb (length words % 4) 0 h, le-ltb room (2 * length (operations words)) k)
+  strip-done h k = rw (eq-eqb (length words % operation-words) 0 h, le-ltb room (2 * length (operations words)) k)
 
 -- ---- fresh and reading: a capacity above its limit, nodes before edges; an image that is none; a slice too short
 

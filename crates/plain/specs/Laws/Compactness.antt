@@ -9,7 +9,7 @@ use lib.Seq.{map-set-same}
 use lib.Dec.{eqb, ltb}
 use Rattle.plain.specs.declared.Operation.{Operation}
 use Rattle.plain.specs.Plain.{Plain, EdgeSlot, no-edge, payload-set}
-use Rattle.plain.specs.Operations.{operations}
+use Rattle.plain.specs.Operations.{operation-words, operations}
 use Rattle.plain.specs.Step.{Capacities, Outcome, State, step, stepped, run}
 use Rattle.plain.specs.Compaction.{Survivors, survivors, of-survivors}
 use Rattle.plain.specs.Image.{image, parsed}
@@ -99,7 +99,7 @@ compacting-honest none s h = record {
 strip-honest : (caps : Capacities) (s : State) (words : List ℕ) (room : ℕ) → Honest s → Honest (strip caps s words room .after)
 unfolding strip
 strip-honest caps s words room h =
-    by-test (eqb (length words % 4) 0) (λ q. rw q (by-test (ltb room (2 * length (operations words))) (λ r. rw r h) (λ r. rw r (run-honest caps s (operations words) h))))
+    by-test (eqb (length words % operation-words) 0) (λ q. rw q (by-test (ltb room (2 * length (operations words))) (λ r. rw r h) (λ r. rw r (run-honest caps s (operations words) h))))
     (λ q. rw q h)
 
 call-honest : (caps : Capacities) (s : State) (c : Call) → Honest s → Honest (call caps s c .after)

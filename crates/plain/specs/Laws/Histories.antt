@@ -10,7 +10,7 @@ use native.Mathlib.Omega.{arith}
 use lib.ListN.{length}
 use lib.Dec.{eqb, ltb}
 use Rattle.plain.specs.Numbers.{LIMIT}
-use Rattle.plain.specs.Operations.{operations}
+use Rattle.plain.specs.Operations.{operation-words, operations}
 use Rattle.plain.specs.Step.{Capacities, State}
 use Rattle.plain.specs.Reads.{Reply, lent}
 use Rattle.plain.specs.Compaction.{Survivors, survivors, compacted}
@@ -82,7 +82,7 @@ strip-well-formed : (caps : Capacities) (s : State) (words : List ℕ) (room : �
     → WellFormed caps (strip caps s words room .after .lists)
 unfolding strip
 strip-well-formed caps s words room fits h =
-    by-test (eqb (length words % 4) 0)
+    by-test (eqb (length words % operation-words) 0)
     (λ q. rw q (by-test (ltb room (2 * length (operations words))) (λ r. rw r h) (λ r. rw r (run-well-formed s (operations-fitting words fits) h))))
     (λ q. rw q h)
 
@@ -108,7 +108,7 @@ compacting-refused (some needed) s h = refl
 strip-refused : (caps : Capacities) (s : State) (words : List ℕ) (room : ℕ) → (strip caps s words room .number ≡ 0 → ⊥) → strip caps s words room .after ≡ s
 unfolding strip
 strip-refused caps s words room =
-    by-test (eqb (length words % 4) 0) (λ q. rw q (by-test (ltb room (2 * length (operations words))) (λ r. rw r (λ h. refl)) (λ r. rw r (λ h. absurd (h refl)))))
+    by-test (eqb (length words % operation-words) 0) (λ q. rw q (by-test (ltb room (2 * length (operations words))) (λ r. rw r (λ h. refl)) (λ r. rw r (λ h. absurd (h refl)))))
     (λ q. rw q (λ h. refl))
 
 pub call-refused : (caps : Capacities) → Within caps → (s : State) (c : Call) → (call caps s c .number ≡ 0 → ⊥) → call caps s c .after ≡ s

@@ -6,11 +6,11 @@ use native.Mathlib.Omega.{arith}
 use lib.ListN.{length, getD}
 use Rattle.plain.specs.declared.Operation.{Operation}
 use Rattle.plain.specs.declared.Operation.the-variants.{Unknown}
-use Rattle.plain.specs.Operations.{decoded, operations}
+use Rattle.plain.specs.Operations.{operation-words, decoded, operations}
 use Rattle.plain.specs.Step.{Capacities, State, step, stepped, run, answers}
 
--- a strip of whole operations has a quarter as many operations as words
-pub length-operations : (words : List ℕ) → length (operations words) ≡ length words / 4
+-- as many operations as the words make whole
+pub length-operations : (words : List ℕ) → length (operations words) ≡ length words / operation-words
 unfolding operations
 length-operations [] = refl
 length-operations (a ∷ []) = refl
@@ -18,15 +18,16 @@ length-operations (a ∷ b ∷ []) = refl
 length-operations (a ∷ b ∷ c ∷ []) = refl
 length-operations (a ∷ b ∷ c ∷ d ∷ rest) = let h = length-operations rest in omega arith
 
--- past the first four words
-later : (a b c d : ℕ) (rest : List ℕ) (i j : ℕ) → i ≡ 4 + j → getD (a ∷ b ∷ c ∷ d ∷ rest) i 0 ≡ getD rest j 0
+-- past the words of the first operation
+later : (a b c d : ℕ) (rest : List ℕ) (i j : ℕ) → i ≡ operation-words + j → getD (a ∷ b ∷ c ∷ d ∷ rest) i 0 ≡ getD rest j 0
 later a b c d rest i j e =
     let four : i ≡ suc (suc (suc (suc j))) = omega arith in
     ap (λ (n : ℕ). getD (a ∷ b ∷ c ∷ d ∷ rest) n 0) four
 
--- operation i is decoded from the four words at 4 i
+-- operation i is decoded from its words
 pub operation-at : (words : List ℕ) (i : ℕ) → i < length (operations words)
-    → getD (operations words) i Unknown ≡ decoded (getD words (4 * i) 0) (getD words (4 * i + 1) 0) (getD words (4 * i + 2) 0) (getD words (4 * i + 3) 0)
+    → getD (operations words) i Unknown ≡ decoded (getD words (operation-words * i) 0) (getD words (operation-words * i + 1) 0) (getD words (operation-words * i + 2) 0)
+    (getD words (operation-words * i + 3) 0)
 unfolding operations
 operation-at [] i h = absurd (omega arith)
 operation-at (a ∷ []) i h = absurd (omega arith)
@@ -36,10 +37,10 @@ operation-at (a ∷ b ∷ c ∷ d ∷ rest) zero h = refl
 operation-at (a ∷ b ∷ c ∷ d ∷ rest) (suc i) h =
     operation-at rest i (omega arith)
     ∙ sym (rw (
-      later a b c d rest (4 * suc i) (4 * i) (omega arith),
-      later a b c d rest (4 * suc i + 1) (4 * i + 1) (omega arith),
-      later a b c d rest (4 * suc i + 2) (4 * i + 2) (omega arith),
-      later a b c d rest (4 * suc i + 3) (4 * i + 3) (omega arith),
+      later a b c d rest (operation-words * suc i) (operation-words * i) (omega arith),
+      later a b c d rest (operation-words * suc i + 1) (operation-words * i + 1) (omega arith),
+      later a b c d rest (operation-words * suc i + 2) (operation-words * i + 2) (omega arith),
+      later a b c d rest (operation-words * suc i + 3) (operation-words * i + 3) (omega arith),
     ))
 
 -- one operation more

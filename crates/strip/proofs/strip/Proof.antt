@@ -67,6 +67,7 @@ strip-spec =
     (λ c. search needs)
     (λ c. search needs)
     (λ c. search needs)
+    (λ c. search needs)
     returns-3
     run-requires
     (λ c. search needs)

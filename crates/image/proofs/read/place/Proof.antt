@@ -36,7 +36,7 @@ read-axes-requires c κs =
     let edges = c .before .before in
     let nodes = edges .before in
     let pre = entry nodes .pre in
-    rw (nodes .read-field .ensures, edges .read-field2 .ensures) (axes-readable pre _ _ (pre .outgoing-room) (pre .incoming-room))
+    rw (nodes .read-field .ensures, edges .read-field2 .ensures) (axes-readable pre _ _ (pre .roomy .outgoing-room) (pre .roomy .incoming-room))
 
 read-payloads-requires : tie.Need-read-payloads-requires
 read-payloads-requires c κs =
@@ -49,7 +49,7 @@ reset-all-live-requires-2 : tie.Need-reset-all-live-requires-2
 reset-all-live-requires-2 c κs =
     let edges = counted (directions (slots (c .before .before .before))) in
     let pre = entry (edges .before) .pre in
-    omega (arith, edges .read-field2 .ensures, pre .edges-room, pre .live-edges-room)
+    omega (arith, edges .read-field2 .ensures, pre .edges-room, pre .roomy .live-edges-room)
 
 returns : tie.Need-returns
 returns c =

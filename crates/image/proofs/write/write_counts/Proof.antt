@@ -2,7 +2,7 @@
 use mathlib.Core.Path.{refl}
 use borrow.Author.Needs.{needs}
 use Rattle.plain.specs.Bits.{bits-of}
-use Rattle.image.specs.Wrote.{wrote-then}
+use Rattle.bits.specs.Wrote.{wrote-then}
 use Rattle.image.proofs.write.write_counts.Statement.{statement}
 use Rattle.image.proofs.write.write_counts.Tie as tie
 

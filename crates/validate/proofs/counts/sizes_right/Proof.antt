@@ -31,11 +31,17 @@ within c =
 
 returns : tie.Need-returns
 unfolding sizes-test
-returns c = passed (nodes-right (c .before .before .before)) (passed (edges-right (c .before)) (passed (le-leb _ _ (c .if3 .taken)) refl))
+returns c =
+    let words = c .before in
+    passed (nodes-right (words .before .before .before)) (passed (edges-right (words .before))
+    (rw (sym (words .axis-words .ensures)) (passed (le-leb _ _ (c .if3 .taken)) refl)))
 
 returns-2 : tie.Need-returns-2
 unfolding sizes-test
-returns-2 c = passed (nodes-right (c .before .before .before)) (passed (edges-right (c .before)) (rw (lt-leb _ _ (c .if3 .left))))
+returns-2 c =
+    let words = c .before in
+    passed (nodes-right (words .before .before .before)) (passed (edges-right (words .before))
+    (rw (sym (words .axis-words .ensures)) (rw (lt-leb _ _ (c .if3 .left)))))
 
 returns-3 : tie.Need-returns-3
 unfolding sizes-test
@@ -51,10 +57,7 @@ sizes-right-spec =
     (tie.spec
     (λ c κs. search needs)
     (λ c κs. search needs)
-    (λ c. omega (arith, within c))
-    (λ c. omega (arith, within c))
-    (λ c. omega (arith, within c))
-    (λ c. omega (arith, within c))
+    (λ c κs. let w = within c in record { nodes-few = record { few = omega (arith, w .0) }; edges-few = record { few = omega (arith, w .1) } })
     returns
     returns-2
     returns-3

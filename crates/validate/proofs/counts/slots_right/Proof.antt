@@ -14,8 +14,14 @@ returns-3 : tie.Need-returns-3
 returns-3 c = simp (le-leb _ _ (c .before .before .before .before .if1 .left), le-leb _ _ (c .before .before .if2 .left), lt-leb _ _ (c .if3 .taken))
 
 returns-4 : tie.Need-returns-4
-returns-4 c = simp (le-leb _ _ (c .before .before .before .before .if1 .left), le-leb _ _ (c .before .before .if2 .left), le-leb _ _ (c .if3 .left))
+returns-4 c =
+    simp (
+      le-leb _ _ (c .before .before .before .before .before .if1 .left),
+      le-leb _ _ (c .before .before .before .if2 .left),
+      le-leb _ _ (c .before .if3 .left),
+      c .live-words .ensures,
+    )
 
 pub slots-right-spec : {M : Type 1} → statement M
 slots-right-spec =
-    tie.close (tie.spec (λ c. search needs) returns (λ c. search needs) returns-2 returns-3 (λ c. search needs) returns-4)
+    tie.close (tie.spec (λ c. search needs) returns (λ c. search needs) returns-2 returns-3 (λ c κs. search needs) returns-4)

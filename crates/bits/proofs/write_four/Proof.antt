@@ -1,0 +1,15 @@
+-- `bits::write_four` meets its contract: two writes that follow each other.
+use native.Mathlib.Omega.{arith}
+use borrow.Author.Needs.{needs}
+use Rattle.bits.specs.Wrote.{wrote-pair}
+use Rattle.bits.proofs.write_four.Statement.{statement}
+use Rattle.bits.proofs.write_four.Tie as tie
+
+returns : tie.Need-returns
+returns c =
+    let second = c .before .before in
+    let first = second .before .before .before .before in
+    wrote-pair 16 16 (first .before .before .before .args .x) (first .write-two .ensures) (second .write-two2 .ensures) (omega arith)
+
+pub write-four-spec : {M : Type 1} → statement M
+write-four-spec = tie.close (tie.spec (λ c κs. search needs) (λ c. search needs) (λ c κs. search needs) (λ c. search needs) returns)

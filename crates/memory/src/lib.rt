@@ -1,0 +1,123 @@
+// The lengths of a store's memory, judged as numbers: capacities within a device's limits, the words that each slice needs, and the first slice that is too short.
+// Making a store and reading an image answer by these functions alone, so that no length is worked out twice.
+
+use plain::Answer;
+use plain::LIMIT;
+use plain::numbers;
+ghost use mathlib.Core.Path.{_≡_};
+ghost use Rattle.plain.specs.Memory.{first-short, other-slices, live-words, axis-words};
+ghost use Rattle.plain.specs.Calls.{fresh-within, short-answer};
+ghost use Rattle.memory.specs.Lengths.{caps, measured, limits-of, lacking as lacking-of, Few, FewSlots, reading-within};
+
+// The lengths of a store's slices, in parameter order. Those of the payloads are the capacities.
+pub struct Lengths {
+    pub nodes: usize,
+    pub edges: usize,
+    pub live_nodes: usize,
+    pub live_edges: usize,
+    pub outgoing: usize,
+    pub incoming: usize,
+}
+
+// The most nodes and edges that a device takes, and the number that it refuses more with.
+pub struct Limits {
+    pub nodes: u32,
+    pub edges: u32,
+    pub number: u32,
+}
+
+impl Limits {
+    // "capacity above 32,768 | 13"
+    pub const BOX: Limits = Limits {
+        nodes: LIMIT,
+        edges: LIMIT,
+        number: numbers::ABOVE_LIMIT,
+    };
+}
+
+// The live words of so many slots.
+pub fn live_words(slots: usize) -> usize
+    requires { ⌜ FewSlots slots ⌝ }
+    ensures { λ r. ⌜ r ≡ live-words slots ⌝ }
+{
+    (slots + 63) / 64
+}
+
+// The words of an axis.
+pub fn axis_words(nodes: usize, edges: usize) -> usize
+    requires { ⌜ Few nodes edges ⌝ }
+    ensures { λ r. ⌜ r ≡ axis-words (caps nodes edges) ⌝ }
+{
+    4 * edges + 6 * nodes + 1
+}
+
+// The answer, or "a lent slice too short | 2 | length needed".
+fn lacking(needs: usize, has: usize, rest: Answer) -> Answer
+    ensures { λ r. ⌜ r ≡ lacking-of needs has rest ⌝ }
+{
+    if needs <= has {
+        return rest;
+    }
+    Answer {
+        number: numbers::TOO_SHORT,
+        value: needs as u64,
+    }
+}
+
+// 2 for the first slice beside the payloads that is too short.
+fn others(lengths: Lengths) -> Answer
+    requires { ⌜ Few (lengths .nodes) (lengths .edges) ⌝ }
+    ensures { λ r. ⌜ r ≡ short-answer (first-short (other-slices (measured lengths))) ⌝ }
+{
+    let done = Answer {
+        number: numbers::DONE,
+        value: 0,
+    };
+    let axis = axis_words(lengths.nodes, lengths.edges);
+    let incoming = lacking(axis, lengths.incoming, done);
+    let outgoing = lacking(axis, lengths.outgoing, incoming);
+    let live = lacking(live_words(lengths.edges), lengths.live_edges, outgoing);
+    lacking(live_words(lengths.nodes), lengths.live_nodes, live)
+}
+
+// The answer of reading an image into memory of these lengths, by the image's first broken rule, 0 for none, and its two counts: the limits, 12, 2.
+pub fn reading_answer(
+    limits: Limits,
+    lengths: Lengths,
+    rule: u32,
+    count_nodes: u32,
+    count_edges: u32,
+) -> Answer
+    ensures { λ r. ⌜ r ≡ reading-within (limits-of limits) (limits .number) (measured lengths) rule «count_nodes» «count_edges» ⌝ }
+{
+    let nodes = lengths.nodes;
+    let edges = lengths.edges;
+    if (limits.nodes as usize) < nodes {
+        return Answer {
+            number: limits.number,
+            value: nodes as u64,
+        };
+    }
+    if (limits.edges as usize) < edges {
+        return Answer {
+            number: limits.number,
+            value: edges as u64,
+        };
+    }
+    if rule != 0 {
+        return Answer {
+            number: numbers::UNREADABLE,
+            value: rule as u64,
+        };
+    }
+    let rest = others(lengths);
+    let edges_there = lacking(count_edges as usize, edges, rest);
+    lacking(count_nodes as usize, nodes, edges_there)
+}
+
+// The answer of making a store in memory of these lengths: the limits, then 2. It is that of an image of nothing.
+pub fn fresh_answer(limits: Limits, lengths: Lengths) -> Answer
+    ensures { λ r. ⌜ r ≡ fresh-within (limits-of limits) (limits .number) (measured lengths) ⌝ }
+{
+    reading_answer(limits, lengths, 0, 0, 0)
+}
