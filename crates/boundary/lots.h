@@ -152,7 +152,7 @@ lot_answer lot_incoming(lot_counts counts, LOT_STORE_READ, uint32_t node, uint32
 lot_answer lot_successors(lot_counts counts, LOT_STORE_READ, uint32_t node, uint32_t *slots, size_t slots_length);
 lot_answer lot_predecessors(lot_counts counts, LOT_STORE_READ, uint32_t node, uint32_t *slots, size_t slots_length);
 
-/* Some live edge from `first` to `second`, or LOT_NONE where there is none and only then. Which one is left open. Refuses 1, first 5, second 5. */
+/* The first edge of the out-list of `first` that ends at `second`, or LOT_NONE where there is none and only then. Refuses 1, first 5, second 5. */
 lot_answer lot_find(lot_counts counts, LOT_STORE_READ, uint32_t first, uint32_t second);
 
 /* ---- reads of a slot */

@@ -136,9 +136,8 @@ pub fn record(lots: &impl Lots, edge: u32, live_only: bool) -> (Answer, [u32; 3]
     }
 }
 
-/// "some live edge from one node to another, or NONE (still number 0) if there is
-/// none and only then; 1, first 5, second 5. Which edge is left open." This is
-/// the first in the out-list.
+/// "NONE (still number 0) if there is none and only then; 1, first 5, second 5."
+/// Request 1: "Finding now gives the earliest in the source lot's out-list."
 pub fn find(lots: &impl Lots, source: u32, target: u32) -> Answer {
     let walk = lots.walk(TraversalDirection::Outgoing, source);
     let (Some(walk), Some(_)) = (walk, lots.payload(target)) else {

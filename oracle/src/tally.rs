@@ -131,7 +131,7 @@ things! {
     BookSlot: "book: payloads, records in both readings, live or not",
         "Record 1, 7; live record 1, 7, 8.";
     BookFind: "book: found edges",
-        "some live edge from one node to another, or NONE (still number 0) if there is none and only then";
+        "Finding now gives the earliest in the source lot's out-list.";
     BookPart: "book: base parts, runs and rings in its memory",
         "`sweep` drops dead slots only if some edge is removed and the run's length is a power of two.";
     BookRefused: "book: calls on damaged stores that are refused, and the words afterwards",

@@ -407,7 +407,8 @@ impl LotBook {
         self.slot_answer(|memory| memory.lot_predecessors(node, slots))
     }
 
-    /// Some live edge from the first node to the second, if there is any.
+    /// The first edge of the first node's out-list that ends at the second, if there is
+    /// any.
     ///
     /// # Errors
     /// 1, first 5, second 5.

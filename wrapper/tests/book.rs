@@ -99,6 +99,16 @@ fn slots() {
 }
 
 #[test]
+fn first_found() {
+    let mut book = book();
+    assert_eq!(book.find(0, 1), Ok(Some(0)));
+    // Taken to another source and back, edge 0 comes last in the out-list.
+    let back = [1, 0].map(|node| Operation::RedirectSource { edge: 0, node });
+    assert_eq!(book.strip(&back), Ok(vec![Ok(0), Ok(1)]));
+    assert_eq!(book.find(0, 1), Ok(Some(1)));
+}
+
+#[test]
 fn whole() {
     let mut book = book();
     assert_eq!(book.operation(Operation::RemoveNode { node: 2 }), Ok(1));

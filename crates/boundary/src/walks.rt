@@ -4,10 +4,9 @@ use plain::Answer;
 use plain::Counts;
 use plain::TraversalDirection;
 ghost use Rattle.plain.specs.declared.TraversalDirection.the-variants.{Outgoing, Incoming};
-ghost use Rattle.plain.specs.Reads.{degree as degree-of, walk as walk-of, neighbors as neighbors-of};
+ghost use Rattle.plain.specs.Reads.{degree as degree-of, walk as walk-of, neighbors as neighbors-of, find as find-of};
 ghost use Rattle.shape.specs.Shape.{store, lists};
 ghost use Rattle.view.specs.Calls.{Answered, Replied};
-ghost use Rattle.view.specs.Finding.{FoundEdge};
 
 #[no_mangle]
 pub extern "C" fn lot_out_degree(
@@ -197,9 +196,9 @@ pub extern "C" fn lot_find(
     first: u32,
     second: u32,
 ) -> Answer
-    ensures { λ r. ⌜ FoundEdge
+    ensures { λ r. ⌜ Answered
         (store counts (now (nodes .entry)) (now (edges .entry)) (now («live_nodes» .entry)) (now («live_edges» .entry)) (now (outgoing .entry)) (now (incoming .entry)))
-        first second r ⌝ }
+        (λ w. find-of (lists w) first second) r ⌝ }
 {
     view::finding::find(
         counts,

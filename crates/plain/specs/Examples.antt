@@ -1,4 +1,4 @@
--- Document 01, "Proof by example": M1 to M12 in a single list, proved by computation from the definitions.
+-- Document 01, "Proof by example": M1 to M12 in a single list, proved by computation from the definitions; the one after them is of document 02.
 use Prim.Native.Nat.{ℕ}
 use mathlib.Core.Path.{_≡_, refl}
 use mathlib.Core.List.{List, [], _∷_, _++_}
@@ -8,7 +8,7 @@ use Rattle.plain.specs.Lists.{member, without, distinct, from, keep, all
 use Rattle.plain.specs.Plain.{node-added, edge-added, edge-removed, edges-removed, node-removed, redirected, moved}
 use Rattle.plain.specs.Operations.{unused, decoded, operations}
 use Rattle.plain.specs.Step.{Capacities, State, step, run, answers}
-use Rattle.plain.specs.Reads.{walk, is-compact, node-bound-answer, edge-bound-answer, contains-node, contains-edge, live-from, answered}
+use Rattle.plain.specs.Reads.{walk, is-compact, node-bound-answer, edge-bound-answer, contains-node, contains-edge, live-from, find, answered}
 use Rattle.plain.specs.Renumbering.{lookup, composed, compose}
 use Rattle.plain.specs.Compaction.{rank, renumbering-from, survivors, of-survivors, compacted, adjacency}
 use Rattle.plain.specs.Bits.{bits-of, value-of, bits, field-at, fields-at, row, bytes-of, pack, least-from, least-width}
@@ -58,6 +58,10 @@ one-edge = booked (op 1 0 0 7 ++ (op 1 0 0 9 ++ op 2 0 1 5)) ∷ Compaction 2 1 
 abbrev first-removed : List ℕ
 first-removed = op 1 0 0 7 ++ (op 2 0 0 1 ++ (op 2 0 0 2 ++ (op 2 0 0 3 ++ op 3 0 0 0)))
 
+-- two edges from node 0 to node 1, the first taken to another source and back, so that it comes second in the out-list of node 0
+abbrev one-taken-back : List ℕ
+one-taken-back = op 1 0 0 7 ++ (op 1 0 0 9 ++ (op 2 0 1 5 ++ (op 2 0 1 6 ++ (op 5 0 1 0 ++ op 5 0 0 0))))
+
 -- M12's input
 abbrev sample : List ℕ
 sample = input 1 0 0 7 ++ (input 1 0 0 9 ++ (input 2 0 1 5 ++ (input 2 0 1 6 ++ (input 5 0 1 0 ++ input 5 0 0 0))))
@@ -104,9 +108,12 @@ pub record Examples : Type 0 where
   -- M12: the program `lotstrip`.
   pub m12 : lotstrip sample
       ≡ codes "0 0 0\n1 0 1\n2 0 0\n3 0 1\n4 0 0\n5 0 1\n000200020000000700000009400000015000000069\n"
+  -- Document 02, No. 1: finding gives the first in the out-list, not the last, nor the one of the lowest slot.
+  pub first-found : (walk Outgoing (after one-taken-back .lists) 0 2 ≡ record { number = 0; value = 2; words = 1 ∷ 0 ∷ [] })
+      × (find (after one-taken-back .lists) 0 1 ≡ answered 1)
 
 pub examples : Examples
-unfolding member without distinct from keep all count joined append-at delete-at set-all node-added edge-added edge-removed edges-removed node-removed redirected moved unused decoded operations step run answers walk is-compact node-bound-answer edge-bound-answer contains-node contains-edge live-from lookup composed compose rank renumbering-from survivors of-survivors compacted adjacency bits-of value-of bits field-at fields-at row bytes-of pack least-from least-width edge-bits image-bits image records-at cut parsed at-their-nodes lists-right broken-image first-short strip within fresh-within fresh compaction write-image read-within read-image words-of codes digits-before hexadecimal answer-lines lotstrip-run lotstrip history-from history call
+unfolding member without distinct from keep all count joined append-at delete-at set-all node-added edge-added edge-removed edges-removed node-removed redirected moved unused decoded operations step run answers walk is-compact node-bound-answer edge-bound-answer contains-node contains-edge live-from find lookup composed compose rank renumbering-from survivors of-survivors compacted adjacency bits-of value-of bits field-at fields-at row bytes-of pack least-from least-width edge-bits image-bits image records-at cut parsed at-their-nodes lists-right broken-image first-short strip within fresh-within fresh compaction write-image read-within read-image words-of codes digits-before hexadecimal answer-lines lotstrip-run lotstrip history-from history call
 examples = record {
   m1 = (refl, refl, refl);
   m2 = refl;
@@ -120,4 +127,5 @@ examples = record {
   m10 = refl;
   m11 = (refl, refl, refl, refl, refl, refl, refl, refl);
   m12 = refl;
+  first-found = (refl, refl);
 }

@@ -10,6 +10,7 @@ pub mod Stepping
 pub mod CallCases
 pub mod Strips
 pub mod Rank
+pub mod Finding
 pub mod Renumberings
 pub mod Fitting
 pub mod Compacting

@@ -1,16 +1,16 @@
 -- What each read of a store answers, on the plain lists. Document 01, "The strip": values, numbers and order.
 use Prim.Native.Nat.{ℕ, zero, suc}
-use mathlib.Core.Bool.{Bool, true, false, cond, _&&_}
+use mathlib.Core.Bool.{Bool, true, false, cond}
 use mathlib.Core.Option.{Option, none, some}
 use mathlib.Core.List.{List, [], _∷_, map}
-use lib.ListN.{length}
+use lib.ListN.{length, getD}
 use lib.Dec.{eqb, leb}
 use Rattle.plain.specs.declared.TraversalDirection.{TraversalDirection}
 use Rattle.plain.specs.declared.TraversalDirection.the-variants.{Outgoing, Incoming}
 use Rattle.plain.specs.declared.Answer.{Answer}
 use Rattle.plain.specs.declared.Record.{Record}
 use Rattle.plain.specs.Numbers.{NONE, done, too-short, out-of-range-node, out-of-range-edge, removed-edge}
-use Rattle.plain.specs.Lists.{member, keep, count}
+use Rattle.plain.specs.Lists.{keep, count}
 use Rattle.plain.specs.Plain.{Plain, NodeSlot, EdgeSlot, node-bound, edge-bound, node-flags, edge-flags, node-slot, edge-slot, list-of, end-of, opposite}
 use Rattle.plain.specs.Step.{State, node-missing, live-node, live-edge}
 
@@ -159,21 +159,14 @@ edge-slots p room = listing room (live-slots (edge-flags p))
 
 -- ---- finding
 
--- the live edges from node a to node b, in slot order
-unfoldable pub edges-between : Plain → ℕ → ℕ → List ℕ
-edges-between p a b = keep (λ e. eqb (end-of Outgoing p e) a && eqb (end-of Incoming p e) b) (live-slots (edge-flags p))
+-- the first of a list, or NONE
+abbrev pub first-or-none : List ℕ → ℕ
+first-or-none l = getD l 0 NONE
 
--- one of the candidates, or NONE "if there is none and only then"
-abbrev pub one-of : List ℕ → ℕ → Bool
-one-of [] value = eqb value NONE
-one-of (e ∷ es) value = member value (e ∷ es)
+-- "Finding now gives the earliest in the source lot's out-list": the first entry of a's out-list whose target is b, or NONE "if there is none and only then"
+abbrev pub found : Plain → ℕ → ℕ → ℕ
+found p a b = first-or-none (keep (λ e. eqb (end-of Incoming p e) b) (list-of Outgoing p a))
 
 -- "1, first 5, second 5."
-abbrev pub find-fault : Plain → ℕ → ℕ → ℕ
-find-fault p a b = cond (eqb (node-missing p a) 0) (node-missing p b) (node-missing p a)
-
--- What finding may answer: "some live edge from one node to another, or NONE (still number 0) if there is none and only then .. Which edge is left open."
-unfoldable pub may-find : Plain → ℕ → ℕ → Answer → Bool
-may-find p a b answer =
-    eqb (answer .number) (find-fault p a b)
-    && cond (eqb (find-fault p a b) 0) (one-of (edges-between p a b) (answer .value)) (eqb (answer .value) NONE)
+unfoldable pub find : Plain → ℕ → ℕ → Answer
+find p a b = answer-unless (node-missing p a) (answer-unless (node-missing p b) (answered (found p a b)))

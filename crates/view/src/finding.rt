@@ -9,10 +9,11 @@ use plain::numbers::DONE;
 use plain::numbers::OUT_OF_RANGE_NODE;
 use validate::judging::judge;
 use validate::judging::no_store;
-ghost use Rattle.shape.specs.Shape.{store};
-ghost use Rattle.view.specs.Finding.{FoundEdge};
+ghost use Rattle.plain.specs.Reads.{find as find-of};
+ghost use Rattle.shape.specs.Shape.{store, lists};
+ghost use Rattle.view.specs.Calls.{Answered};
 
-// Some live edge from `first` to `second`, or NONE where there is none and only then.
+// The first edge of `first`'s out-list that ends at `second`, or NONE where there is none and only then.
 pub fn find(
     counts: Counts,
     nodes: &[u32],
@@ -24,9 +25,9 @@ pub fn find(
     first: u32,
     second: u32,
 ) -> Answer
-    ensures { λ r. ⌜ FoundEdge
+    ensures { λ r. ⌜ Answered
         (store counts (now (nodes .entry)) (now (edges .entry)) (now («live_nodes» .entry)) (now («live_edges» .entry)) (now (outgoing .entry)) (now (incoming .entry)))
-        first second r ⌝ }
+        (λ w. find-of (lists w) first second) r ⌝ }
 {
     let rule = judge(
         counts,

@@ -338,21 +338,13 @@ impl Shelf {
         tally.same(Thing::BookSlot, place, expected, book.contains_edge(edge))
     }
 
-    /// The found edge is a live edge from the one to the other.
+    /// The found edge is the first of the Rust's out-list that ends at the other.
     fn compare_find(&self, source: u32, target: u32, tally: &mut Tally) -> Same {
         let place = || format!("from node {source} to node {target}");
         let given = self.book.find(source, target).map_err(Answer::from);
-        // One of those that the Rust has is as good as its first.
-        let between = |edge: &u32| {
-            self.rust
-                .record(*edge)
-                .is_some_and(|([from, to, _], live)| live && [from, to] == [source, target])
-        };
         let expected = match calls::find(&self.rust, source, target) {
             Answer { number: 0, value } if value == u64::from(NONE) => Ok(None),
-            Answer { number: 0, value } => {
-                Ok(given.ok().flatten().filter(between).or(Some(value as u32)))
-            }
+            Answer { number: 0, value } => Ok(Some(value as u32)),
             refused => Err(refused),
         };
         tally.same(Thing::BookFind, place, expected, given)

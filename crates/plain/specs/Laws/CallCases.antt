@@ -17,7 +17,7 @@ use Rattle.plain.specs.Numbers.{NONE}
 use Rattle.plain.specs.Plain.{Plain, NodeSlot, EdgeSlot, no-node, no-edge, node-bound, edge-bound, node-flags, edge-flags, list-of, end-of, opposite}
 use Rattle.plain.specs.Operations.{operation-words, operations}
 use Rattle.plain.specs.Step.{Capacities, State, node-missing, run, answers}
-use Rattle.plain.specs.Reads.{lent, listing, answered, yes-or-no, no-record, walk, neighbors, degree, node-payload, edge-record, live-edge-record, contains-node, contains-edge, is-live, find-fault}
+use Rattle.plain.specs.Reads.{lent, listing, answered, yes-or-no, no-record, walk, neighbors, degree, node-payload, edge-record, live-edge-record, contains-node, contains-edge, is-live, found, find}
 use Rattle.plain.specs.Compaction.{survivors}
 use Rattle.plain.specs.Image.{image, broken-image, nodes-in, edges-in}
 use Rattle.plain.specs.Memory.{Slice, first-short, Lengths, other-slices}
@@ -170,13 +170,16 @@ contains-edge-is p e = rw (flag-there (λ (s : EdgeSlot). s .live) (p .edges) e)
 
 -- finding refuses a node at or above the bound, the first before the second, and nothing else
 module _ (p : Plain) (a b : ℕ) where
-  pub find-first-absent : Absent (node-flags p) a → find-fault p a b ≡ 5
+  pub find-first-absent : Absent (node-flags p) a → find p a b ≡ record { number = 5; value = NONE }
+  unfolding find
   find-first-absent h = rw (missing p a h)
 
-  pub find-second-absent : a < node-bound p → Absent (node-flags p) b → find-fault p a b ≡ 5
+  pub find-second-absent : a < node-bound p → Absent (node-flags p) b → find p a b ≡ record { number = 5; value = NONE }
+  unfolding find
   find-second-absent h k = rw (there p a h, missing p b k)
 
-  pub find-there : a < node-bound p → b < node-bound p → find-fault p a b ≡ 0
+  pub find-there : a < node-bound p → b < node-bound p → find p a b ≡ answered (found p a b)
+  unfolding find
   find-there h k = rw (there p a h, there p b k)
 
 -- ---- the strip: 3, then 2

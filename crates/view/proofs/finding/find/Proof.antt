@@ -3,7 +3,8 @@ use native.Mathlib.Omega.{arith}
 use borrow.Author.Needs.{needs}
 use Rattle.plain.specs.declared.TraversalDirection.the-variants.{Outgoing, Incoming}
 use Rattle.adjacency.specs.StoreWalks.{checked-walkable}
-use Rattle.view.specs.Finding.{find-refuses, first-past, second-past, find-done}
+use Rattle.view.specs.Calls.{answer-refuses}
+use Rattle.view.specs.Finding.{first-past, second-past, find-done}
 use Rattle.view.proofs.finding.find.Statement.{statement}
 use Rattle.view.proofs.finding.find.Tie as tie
 
@@ -51,7 +52,7 @@ find-spec =
     (tie.spec
     (λ c κs. search needs)
     (λ c κs. search needs)
-    (λ c. find-refuses (c .before .before .judge .ensures) (c .before .if1 .taken) (c .no-store .ensures))
+    (λ c. answer-refuses (c .before .before .judge .ensures) (c .before .if1 .taken) (c .no-store .ensures))
     (λ c. search needs)
     returns-2
     (λ c. search needs)
