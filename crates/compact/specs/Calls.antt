@@ -65,6 +65,6 @@ pub record CompactOf (w : Words) (node-map edge-map work : List ℕ) (number val
   pub again : number ≡ 0 → Canonical w → v ≡ w
   pub lengths : SameLengths w v
   pub refused-keeps : (number ≡ 0 → ⊥) → v ≡ w
-  -- of the words that are no field: none past the bounds, no link, no first, tail or count, and no spare one is written
+  -- of the words that are no field: none past the bounds, no link, no first, tail or count, and no spare one is written; every field is fixed (Agreeing)
   pub renewed : Renewed w v
   pub spared : Spared w v

@@ -30,6 +30,6 @@ pub record ReadOf (w : Words) (bytes : List ℕ) (number value : ℕ) (v : Words
   pub lengths : SameLengths w v
   -- not a word and not a count
   pub refused-keeps : (number ≡ 0 → ⊥) → v ≡ w
-  -- of the words that are no field: none past the bounds, no link, no first, tail or count, and no spare one is written
+  -- of the words that are no field: none past the bounds, no link, no first, tail or count, and no spare one is written; every field is fixed (Agreeing)
   pub renewed : Renewed w v
   pub spared : Spared w v

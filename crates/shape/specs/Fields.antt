@@ -1,6 +1,7 @@
 -- The fields of a store, and what is no field. "A field is a count of the record or a word of the store's own memory (no map, work or answer word) whose content
 -- can change an answer of the check or of a read of the store." `Field` names the words of a checked store that the shape and the rules read; every other word is
--- `NoField`, and of those `Kept` and `Renewed` say which a call leaves. That no other word is read is `fields-shape` of Laws.Fields.
+-- `NoField`, and of those `Kept` and `Renewed` say which a call leaves. That no other word is read is `fields-shape` of Laws.Fields. That no field is left to the
+-- program, so that two outcomes of one call have `SameFields`, is Agreeing of crates strip, compact and image, from Laws.Agreeing.
 use Prim.Native.Nat.{ℕ, _+_, _*_, _≤_, _<_}
 use mathlib.Core.Path.{_≡_}
 use mathlib.Core.Logic.{_≢_}

@@ -68,7 +68,8 @@ pub record StripOf (w : Words) (words entry : List ℕ) (number value : ℕ) (v 
   pub steps : number ≡ 0 → Steps w (operations words) v
   -- "a lent slice too short .. everything": not a word of the store changes
   pub refused-keeps : (number ≡ 0 → ⊥) → v ≡ w
-  -- of the words that are no field: none of the index, none past the bounds and no spare one is written, and marks are 0, 1 or as they were
+  -- of the words that are no field: none of the index, none past the bounds and no spare one is written; and a mark is as it was, or 1 where it was 0, so that
+  -- every field is fixed (Agreeing)
   pub kept : Kept w v
   pub spared : Spared w v
 

@@ -4,10 +4,10 @@ use Prim.Native.Nat.{ℕ, zero, suc, _+_, _-_, _*_, _^_, _≤_, _<_}
 use native.Mathlib.Nat.{zero-add}
 use native.Mathlib.Omega.{arith}
 use mathlib.Core.Path.{_≡_, refl, sym, ap, ap₂, _∙_, subst, subst₂}
-use mathlib.Core.Bool.{Bool, true, false}
+use mathlib.Core.Bool.{Bool, false}
 use mathlib.Core.Logic.{_⊎_, inl, inr, ⊎-elim, _≢_}
 use mathlib.Core.Option.{Option, none, some}
-use mathlib.Core.List.{List, [], _∷_, _++_, map}
+use mathlib.Core.List.{List, [], _∷_, _++_}
 use lib.ListN.{length, getD, length-map, length-append}
 use lib.Dec.{eqb}
 use borrow.Author.Tests.{ne-eqb, eqb-true, eqb-false, lt-ltb}
@@ -22,7 +22,7 @@ use Rattle.plain.specs.Laws.Booleans.{by-test, below-or-not}
 use Rattle.plain.specs.Laws.ListLaws.{length-from, getD-from, getD-map}
 use Rattle.liveness.specs.Flags.{live-flags, packed}
 use Rattle.liveness.specs.FlagLaws.{words-same}
-use Rattle.shape.specs.Columns.{cell, end-at, adjacency-at, next-at, last-at, first-at, tail-at, count-at, mark-at, offset-at}
+use Rattle.shape.specs.Columns.{cell, adjacency-at, last-at, first-at, tail-at, count-at, mark-at, offset-at}
 use Rattle.shape.specs.Chains.{In, Seg, Line, Run, Ring}
 use Rattle.shape.specs.Shape.{Words, lengths-of, axis-words, node-live, edge-live, base-of, run-list, run-of, ring-of, Adjacency, Axis, Shape, adjacency-in, axis-in, axis-of, shape-of, no-adjacency, node-flags-of, edge-flags-of}
 use Rattle.shape.specs.Checked.{Indexed, Index, AxisChecked, Checked}
@@ -250,7 +250,7 @@ module _
       fields-agree first x f = line-same x (f .0) (f .1) (f .2) .1
       fields-agree tail x f = line-same x (f .0) (f .1) (f .2) .0
       fields-agree count x f = count-same x (f .0) (f .1)
-      fields-agree marks x h = marked-same x h
+      fields-agree marks x h = marked-same x (omega arith)
       fields-agree offsets x f = offset-same (f .1) x (f .0)
 
 -- ---- the store
