@@ -4,23 +4,36 @@
 ghost use mathlib.Core.Path.{_≡_};
 ghost use Prim.Native.Nat.{_+_, _*_, _/_, _%_, _^_, _<_, _≤_, min};
 ghost use lib.ListN.{length};
+ghost use Rattle.plain.specs.Numbers.{LIMIT};
 ghost use Rattle.plain.specs.Bits.{bits-of, field-at, bytes-for, least-width};
 ghost use Rattle.plain.specs.Laws.Packing.{padding};
 ghost use Rattle.bits.specs.Fields.{Room, Part};
 ghost use Rattle.bits.specs.Replaced.{replaced as replaced-by, Replacing};
 ghost use Rattle.bits.specs.Wrote.{Wrote};
 
-// The least width that holds every number below n.
+// The width of a lot number, or of a transfer number, by how many there are: the weighing inspector's sheet, line by line.
 pub fn least_width(n: u32) -> u32
+    requires { ⌜ n ≤ LIMIT ⌝ }
     ensures { λ r. ⌜ r ≡ least-width n ⌝ }
 {
-    let mut width: u32 = 0;
-    let mut power: u64 = 1;
-    while power < n as u64 {
-        power = power * 2;
-        width += 1;
+    match n {
+        0..=1 => 0,
+        2 => 1,
+        3..=4 => 2,
+        5..=8 => 3,
+        9..=16 => 4,
+        17..=32 => 5,
+        33..=64 => 6,
+        65..=128 => 7,
+        129..=256 => 8,
+        257..=512 => 9,
+        513..=1024 => 10,
+        1025..=2048 => 11,
+        2049..=4096 => 12,
+        4097..=8192 => 13,
+        8193..=16384 => 14,
+        _ => 15,
     }
-    width
 }
 
 // The lesser of two numbers.

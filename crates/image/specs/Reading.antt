@@ -57,6 +57,7 @@ abbrev pub edge-payload : List ℕ → ℕ → ℕ → ℕ
 edge-payload bytes n = spread bytes (edges-start n + (least-width n + least-width n)) (record-width (least-width n)) 32
 
 pub record PayloadsReadable (nodes edges bytes : List ℕ) (n m : ℕ) : Type 0 where
+  pub few : n ≤ LIMIT
   pub nodes-there : SpreadFits bytes 32 32 32 nodes 0 n
   pub edges-there : SpreadFits bytes (edges-start n + (least-width n + least-width n)) (record-width (least-width n)) 32 edges 0 m
 
@@ -126,6 +127,7 @@ module _ {l : Lengths} {bytes : List ℕ} (a : Accepted l bytes) where
 
   pub payloads-readable : (nodes edges : List ℕ) → n ≤ length nodes → m ≤ length edges → PayloadsReadable nodes edges bytes n m
   payloads-readable nodes edges nodes-room edges-room = record {
+    few = omega (arith, a .nodes-room, a .roomy .few-nodes);
     nodes-there = spread-in 32 0 32 32 32 n refl (omega arith) (omega arith) (omega (arith, whole)) (omega (arith, small)) (omega arith);
     edges-there = spread-in (edges-start n) (least-width n + least-width n) (edges-start n + (least-width n + least-width n)) (record-width (least-width n)) 32 m refl
         (omega arith) (omega arith) (omega (arith, whole)) (omega (arith, small, width-most n)) (omega arith);

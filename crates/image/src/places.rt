@@ -2,12 +2,14 @@
 // (w bits each), payload (32); the out-lists of nodes 0 up to n−1 joined, then the in-lists (v bits an entry)".
 
 ghost use mathlib.Core.Path.{_≡_};
-ghost use Prim.Native.Nat.{_*_};
+ghost use Prim.Native.Nat.{_*_, _≤_};
+ghost use Rattle.plain.specs.Numbers.{LIMIT};
 ghost use Rattle.plain.specs.Bits.{bytes-for, least-width};
 ghost use Rattle.plain.specs.Image.{record-width, edges-start, outs-start, ins-start, image-size};
 
 // The bits of one edge's record.
 pub fn record_width(nodes: u32) -> usize
+    requires { ⌜ nodes ≤ LIMIT ⌝ }
     ensures { λ r. ⌜ r ≡ record-width (least-width nodes) ⌝ }
 {
     let width = bits::least_width(nodes) as usize;
@@ -23,6 +25,7 @@ pub fn edges_start(nodes: u32) -> usize
 
 // Where the joined out-lists begin.
 pub fn outs_start(nodes: u32, edges: u32) -> usize
+    requires { ⌜ nodes ≤ LIMIT ⌝ }
     ensures { λ r. ⌜ r ≡ outs-start nodes edges ⌝ }
 {
     edges_start(nodes) + record_width(nodes) * edges as usize
@@ -30,6 +33,7 @@ pub fn outs_start(nodes: u32, edges: u32) -> usize
 
 // The bits of the joined lists of one direction.
 pub fn lists_size(edges: u32) -> usize
+    requires { ⌜ edges ≤ LIMIT ⌝ }
     ensures { λ r. ⌜ r ≡ least-width edges * edges ⌝ }
 {
     bits::least_width(edges) as usize * edges as usize
@@ -37,6 +41,7 @@ pub fn lists_size(edges: u32) -> usize
 
 // Where the joined in-lists begin.
 pub fn ins_start(nodes: u32, edges: u32) -> usize
+    requires { ⌜ (nodes ≤ LIMIT) × (edges ≤ LIMIT) ⌝ }
     ensures { λ r. ⌜ r ≡ ins-start nodes edges ⌝ }
 {
     outs_start(nodes, edges) + lists_size(edges)
@@ -44,6 +49,7 @@ pub fn ins_start(nodes: u32, edges: u32) -> usize
 
 // How many bytes the image has.
 pub fn image_bytes(nodes: u32, edges: u32) -> usize
+    requires { ⌜ (nodes ≤ LIMIT) × (edges ≤ LIMIT) ⌝ }
     ensures { λ r. ⌜ r ≡ bytes-for (image-size nodes edges) ⌝ }
 {
     (ins_start(nodes, edges) + lists_size(edges) + 7) / 8
