@@ -3,7 +3,7 @@
 use plain::Answer;
 use plain::Changed;
 use plain::Counts;
-ghost use Rattle.shape.specs.Shape.{store};
+ghost use Rattle.shape.specs.Lent.{at-entry, at-exit};
 ghost use Rattle.view.specs.Calls.{Replied};
 ghost use Rattle.image.specs.Calls.{written-image, ReadOf};
 
@@ -19,7 +19,7 @@ pub extern "C" fn lot_write_image(
     bytes: &mut [u8],
 ) -> Answer
     ensures { λ r. ⌜ Replied
-        (store counts (now (nodes .entry)) (now (edges .entry)) (now («live_nodes» .entry)) (now («live_edges» .entry)) (now (outgoing .entry)) (now (incoming .entry)))
+        (at-entry counts nodes edges «live_nodes» «live_edges» outgoing incoming)
         written-image (now (bytes .entry)) r (now (bytes .exit)) ⌝ }
 {
     image::write::write_image(
@@ -46,9 +46,9 @@ pub extern "C" fn lot_read_image(
     bytes: &[u8],
 ) -> Changed
     ensures { λ r. ⌜ ReadOf
-        (store counts (now (nodes .entry)) (now (edges .entry)) (now («live_nodes» .entry)) (now («live_edges» .entry)) (now (outgoing .entry)) (now (incoming .entry)))
+        (at-entry counts nodes edges «live_nodes» «live_edges» outgoing incoming)
         (now (bytes .entry)) (r .number) (r .value)
-        (store (r .counts) (now (nodes .exit)) (now (edges .exit)) (now («live_nodes» .exit)) (now («live_edges» .exit)) (now (outgoing .exit)) (now (incoming .exit))) ⌝ }
+        (at-exit (r .counts) nodes edges «live_nodes» «live_edges» outgoing incoming) ⌝ }
 {
     image::read::read_image(
         counts,

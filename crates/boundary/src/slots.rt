@@ -4,7 +4,8 @@ use plain::Answer;
 use plain::Counts;
 use plain::Record;
 ghost use Rattle.plain.specs.Reads.{node-payload, edge-record, live-edge-record, contains-node, contains-edge};
-ghost use Rattle.shape.specs.Shape.{store, lists};
+ghost use Rattle.shape.specs.Shape.{lists};
+ghost use Rattle.shape.specs.Lent.{at-entry};
 ghost use Rattle.view.specs.Calls.{Answered, Recorded};
 
 #[no_mangle]
@@ -19,7 +20,7 @@ pub extern "C" fn lot_node_payload(
     node: u32,
 ) -> Answer
     ensures { λ r. ⌜ Answered
-        (store counts (now (nodes .entry)) (now (edges .entry)) (now («live_nodes» .entry)) (now («live_edges» .entry)) (now (outgoing .entry)) (now (incoming .entry)))
+        (at-entry counts nodes edges «live_nodes» «live_edges» outgoing incoming)
         (λ w. node-payload (lists w) node) r ⌝ }
 {
     view::slots::node_payload(
@@ -46,7 +47,7 @@ pub extern "C" fn lot_edge_record(
     edge: u32,
 ) -> Record
     ensures { λ r. ⌜ Recorded
-        (store counts (now (nodes .entry)) (now (edges .entry)) (now («live_nodes» .entry)) (now («live_edges» .entry)) (now (outgoing .entry)) (now (incoming .entry)))
+        (at-entry counts nodes edges «live_nodes» «live_edges» outgoing incoming)
         (λ w. edge-record (lists w) edge) r ⌝ }
 {
     view::slots::edge_record(
@@ -73,7 +74,7 @@ pub extern "C" fn lot_live_edge_record(
     edge: u32,
 ) -> Record
     ensures { λ r. ⌜ Recorded
-        (store counts (now (nodes .entry)) (now (edges .entry)) (now («live_nodes» .entry)) (now («live_edges» .entry)) (now (outgoing .entry)) (now (incoming .entry)))
+        (at-entry counts nodes edges «live_nodes» «live_edges» outgoing incoming)
         (λ w. live-edge-record (lists w) edge) r ⌝ }
 {
     view::slots::live_edge_record(
@@ -100,7 +101,7 @@ pub extern "C" fn lot_contains_node(
     node: u32,
 ) -> Answer
     ensures { λ r. ⌜ Answered
-        (store counts (now (nodes .entry)) (now (edges .entry)) (now («live_nodes» .entry)) (now («live_edges» .entry)) (now (outgoing .entry)) (now (incoming .entry)))
+        (at-entry counts nodes edges «live_nodes» «live_edges» outgoing incoming)
         (λ w. contains-node (lists w) node) r ⌝ }
 {
     view::slots::contains_node(
@@ -127,7 +128,7 @@ pub extern "C" fn lot_contains_edge(
     edge: u32,
 ) -> Answer
     ensures { λ r. ⌜ Answered
-        (store counts (now (nodes .entry)) (now (edges .entry)) (now («live_nodes» .entry)) (now («live_edges» .entry)) (now (outgoing .entry)) (now (incoming .entry)))
+        (at-entry counts nodes edges «live_nodes» «live_edges» outgoing incoming)
         (λ w. contains-edge (lists w) edge) r ⌝ }
 {
     view::slots::contains_edge(

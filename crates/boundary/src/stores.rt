@@ -5,7 +5,7 @@ use plain::Changed;
 use plain::Counts;
 ghost use mathlib.Core.Path.{_≡_};
 ghost use Rattle.plain.specs.Calls.{check as check-answer};
-ghost use Rattle.shape.specs.Shape.{store};
+ghost use Rattle.shape.specs.Lent.{at-entry, at-exit};
 ghost use Rattle.shape.specs.Rules.{broken};
 ghost use Rattle.strip.specs.Fresh.{FreshOf};
 ghost use Rattle.strip.specs.Strip.{StripOf};
@@ -21,7 +21,7 @@ pub extern "C" fn lot_fresh(
     incoming: &[u32],
 ) -> Changed
     ensures { λ r. ⌜ FreshOf
-        (store (r .counts) (now (nodes .entry)) (now (edges .entry)) (now («live_nodes» .entry)) (now («live_edges» .entry)) (now (outgoing .entry)) (now (incoming .entry)))
+        (at-entry (r .counts) nodes edges «live_nodes» «live_edges» outgoing incoming)
         (r .number) (r .value) ⌝ }
 {
     strip::fresh(nodes, edges, live_nodes, live_edges, outgoing, incoming)
@@ -37,7 +37,7 @@ pub extern "C" fn lot_check(
     outgoing: &[u32],
     incoming: &[u32],
 ) -> Answer
-    ensures { λ r. ⌜ r ≡ check-answer (broken (store counts (now (nodes .entry)) (now (edges .entry)) (now («live_nodes» .entry)) (now («live_edges» .entry)) (now (outgoing .entry)) (now (incoming .entry)))) ⌝ }
+    ensures { λ r. ⌜ r ≡ check-answer (broken (at-entry counts nodes edges «live_nodes» «live_edges» outgoing incoming)) ⌝ }
 {
     validate::check(
         counts,
@@ -63,9 +63,9 @@ pub extern "C" fn lot_strip(
     answers: &mut [u32],
 ) -> Changed
     ensures { λ r. ⌜ StripOf
-        (store counts (now (nodes .entry)) (now (edges .entry)) (now («live_nodes» .entry)) (now («live_edges» .entry)) (now (outgoing .entry)) (now (incoming .entry)))
+        (at-entry counts nodes edges «live_nodes» «live_edges» outgoing incoming)
         (now (words .entry)) (now (answers .entry)) (r .number) (r .value)
-        (store (r .counts) (now (nodes .exit)) (now (edges .exit)) (now («live_nodes» .exit)) (now («live_edges» .exit)) (now (outgoing .exit)) (now (incoming .exit)))
+        (at-exit (r .counts) nodes edges «live_nodes» «live_edges» outgoing incoming)
         (now (answers .exit)) ⌝ }
 {
     strip::strip(
@@ -95,9 +95,9 @@ pub extern "C" fn lot_compact(
     work: &mut [u32],
 ) -> Changed
     ensures { λ r. ⌜ CompactOf
-        (store counts (now (nodes .entry)) (now (edges .entry)) (now («live_nodes» .entry)) (now («live_edges» .entry)) (now (outgoing .entry)) (now (incoming .entry)))
+        (at-entry counts nodes edges «live_nodes» «live_edges» outgoing incoming)
         (now («node_map» .entry)) (now («edge_map» .entry)) (now (work .entry)) (r .number) (r .value)
-        (store (r .counts) (now (nodes .exit)) (now (edges .exit)) (now («live_nodes» .exit)) (now («live_edges» .exit)) (now (outgoing .exit)) (now (incoming .exit)))
+        (at-exit (r .counts) nodes edges «live_nodes» «live_edges» outgoing incoming)
         (now («node_map» .exit)) (now («edge_map» .exit)) (now (work .exit)) ⌝ }
 {
     compact::compact(

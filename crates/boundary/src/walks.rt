@@ -5,7 +5,8 @@ use plain::Counts;
 use plain::TraversalDirection;
 ghost use Rattle.plain.specs.declared.TraversalDirection.the-variants.{Outgoing, Incoming};
 ghost use Rattle.plain.specs.Reads.{degree as degree-of, walk as walk-of, neighbors as neighbors-of, find as find-of};
-ghost use Rattle.shape.specs.Shape.{store, lists};
+ghost use Rattle.shape.specs.Shape.{lists};
+ghost use Rattle.shape.specs.Lent.{at-entry};
 ghost use Rattle.view.specs.Calls.{Answered, Replied};
 
 #[no_mangle]
@@ -20,7 +21,7 @@ pub extern "C" fn lot_out_degree(
     node: u32,
 ) -> Answer
     ensures { λ r. ⌜ Answered
-        (store counts (now (nodes .entry)) (now (edges .entry)) (now («live_nodes» .entry)) (now («live_edges» .entry)) (now (outgoing .entry)) (now (incoming .entry)))
+        (at-entry counts nodes edges «live_nodes» «live_edges» outgoing incoming)
         (λ w. degree-of Outgoing (lists w) node) r ⌝ }
 {
     view::walks::degree(
@@ -48,7 +49,7 @@ pub extern "C" fn lot_in_degree(
     node: u32,
 ) -> Answer
     ensures { λ r. ⌜ Answered
-        (store counts (now (nodes .entry)) (now (edges .entry)) (now («live_nodes» .entry)) (now («live_edges» .entry)) (now (outgoing .entry)) (now (incoming .entry)))
+        (at-entry counts nodes edges «live_nodes» «live_edges» outgoing incoming)
         (λ w. degree-of Incoming (lists w) node) r ⌝ }
 {
     view::walks::degree(
@@ -77,7 +78,7 @@ pub extern "C" fn lot_outgoing(
     slots: &mut [u32],
 ) -> Answer
     ensures { λ r. ⌜ Replied
-        (store counts (now (nodes .entry)) (now (edges .entry)) (now («live_nodes» .entry)) (now («live_edges» .entry)) (now (outgoing .entry)) (now (incoming .entry)))
+        (at-entry counts nodes edges «live_nodes» «live_edges» outgoing incoming)
         (λ w room. walk-of Outgoing (lists w) node room) (now (slots .entry)) r (now (slots .exit)) ⌝ }
 {
     view::walks::walk(
@@ -107,7 +108,7 @@ pub extern "C" fn lot_incoming(
     slots: &mut [u32],
 ) -> Answer
     ensures { λ r. ⌜ Replied
-        (store counts (now (nodes .entry)) (now (edges .entry)) (now («live_nodes» .entry)) (now («live_edges» .entry)) (now (outgoing .entry)) (now (incoming .entry)))
+        (at-entry counts nodes edges «live_nodes» «live_edges» outgoing incoming)
         (λ w room. walk-of Incoming (lists w) node room) (now (slots .entry)) r (now (slots .exit)) ⌝ }
 {
     view::walks::walk(
@@ -137,7 +138,7 @@ pub extern "C" fn lot_successors(
     slots: &mut [u32],
 ) -> Answer
     ensures { λ r. ⌜ Replied
-        (store counts (now (nodes .entry)) (now (edges .entry)) (now («live_nodes» .entry)) (now («live_edges» .entry)) (now (outgoing .entry)) (now (incoming .entry)))
+        (at-entry counts nodes edges «live_nodes» «live_edges» outgoing incoming)
         (λ w room. neighbors-of Outgoing (lists w) node room) (now (slots .entry)) r (now (slots .exit)) ⌝ }
 {
     view::walks::neighbors(
@@ -167,7 +168,7 @@ pub extern "C" fn lot_predecessors(
     slots: &mut [u32],
 ) -> Answer
     ensures { λ r. ⌜ Replied
-        (store counts (now (nodes .entry)) (now (edges .entry)) (now («live_nodes» .entry)) (now («live_edges» .entry)) (now (outgoing .entry)) (now (incoming .entry)))
+        (at-entry counts nodes edges «live_nodes» «live_edges» outgoing incoming)
         (λ w room. neighbors-of Incoming (lists w) node room) (now (slots .entry)) r (now (slots .exit)) ⌝ }
 {
     view::walks::neighbors(
@@ -197,7 +198,7 @@ pub extern "C" fn lot_find(
     second: u32,
 ) -> Answer
     ensures { λ r. ⌜ Answered
-        (store counts (now (nodes .entry)) (now (edges .entry)) (now («live_nodes» .entry)) (now («live_edges» .entry)) (now (outgoing .entry)) (now (incoming .entry)))
+        (at-entry counts nodes edges «live_nodes» «live_edges» outgoing incoming)
         (λ w. find-of (lists w) first second) r ⌝ }
 {
     view::finding::find(

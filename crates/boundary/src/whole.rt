@@ -3,7 +3,8 @@
 use plain::Answer;
 use plain::Counts;
 ghost use Rattle.plain.specs.Reads.{node-bound-answer, edge-bound-answer, node-count, edge-count, is-empty, is-compact, node-slots, edge-slots};
-ghost use Rattle.shape.specs.Shape.{store, shape-of, lists};
+ghost use Rattle.shape.specs.Shape.{shape-of, lists};
+ghost use Rattle.shape.specs.Lent.{at-entry};
 ghost use Rattle.shape.specs.Steps.{state-of};
 ghost use Rattle.view.specs.Calls.{Answered, Replied};
 
@@ -18,7 +19,7 @@ pub extern "C" fn lot_node_bound(
     incoming: &[u32],
 ) -> Answer
     ensures { λ r. ⌜ Answered
-        (store counts (now (nodes .entry)) (now (edges .entry)) (now («live_nodes» .entry)) (now («live_edges» .entry)) (now (outgoing .entry)) (now (incoming .entry)))
+        (at-entry counts nodes edges «live_nodes» «live_edges» outgoing incoming)
         (λ w. node-bound-answer (lists w)) r ⌝ }
 {
     view::whole::node_bound(
@@ -43,7 +44,7 @@ pub extern "C" fn lot_edge_bound(
     incoming: &[u32],
 ) -> Answer
     ensures { λ r. ⌜ Answered
-        (store counts (now (nodes .entry)) (now (edges .entry)) (now («live_nodes» .entry)) (now («live_edges» .entry)) (now (outgoing .entry)) (now (incoming .entry)))
+        (at-entry counts nodes edges «live_nodes» «live_edges» outgoing incoming)
         (λ w. edge-bound-answer (lists w)) r ⌝ }
 {
     view::whole::edge_bound(
@@ -68,7 +69,7 @@ pub extern "C" fn lot_node_count(
     incoming: &[u32],
 ) -> Answer
     ensures { λ r. ⌜ Answered
-        (store counts (now (nodes .entry)) (now (edges .entry)) (now («live_nodes» .entry)) (now («live_edges» .entry)) (now (outgoing .entry)) (now (incoming .entry)))
+        (at-entry counts nodes edges «live_nodes» «live_edges» outgoing incoming)
         (λ w. node-count (lists w)) r ⌝ }
 {
     view::whole::node_count(
@@ -93,7 +94,7 @@ pub extern "C" fn lot_edge_count(
     incoming: &[u32],
 ) -> Answer
     ensures { λ r. ⌜ Answered
-        (store counts (now (nodes .entry)) (now (edges .entry)) (now («live_nodes» .entry)) (now («live_edges» .entry)) (now (outgoing .entry)) (now (incoming .entry)))
+        (at-entry counts nodes edges «live_nodes» «live_edges» outgoing incoming)
         (λ w. edge-count (lists w)) r ⌝ }
 {
     view::whole::edge_count(
@@ -118,7 +119,7 @@ pub extern "C" fn lot_is_empty(
     incoming: &[u32],
 ) -> Answer
     ensures { λ r. ⌜ Answered
-        (store counts (now (nodes .entry)) (now (edges .entry)) (now («live_nodes» .entry)) (now («live_edges» .entry)) (now (outgoing .entry)) (now (incoming .entry)))
+        (at-entry counts nodes edges «live_nodes» «live_edges» outgoing incoming)
         (λ w. is-empty (lists w)) r ⌝ }
 {
     view::whole::is_empty(
@@ -143,7 +144,7 @@ pub extern "C" fn lot_is_compact(
     incoming: &[u32],
 ) -> Answer
     ensures { λ r. ⌜ Answered
-        (store counts (now (nodes .entry)) (now (edges .entry)) (now («live_nodes» .entry)) (now («live_edges» .entry)) (now (outgoing .entry)) (now (incoming .entry)))
+        (at-entry counts nodes edges «live_nodes» «live_edges» outgoing incoming)
         (λ w. is-compact (state-of (shape-of w))) r ⌝ }
 {
     view::compactness::is_compact(
@@ -169,7 +170,7 @@ pub extern "C" fn lot_node_ids(
     slots: &mut [u32],
 ) -> Answer
     ensures { λ r. ⌜ Replied
-        (store counts (now (nodes .entry)) (now (edges .entry)) (now («live_nodes» .entry)) (now («live_edges» .entry)) (now (outgoing .entry)) (now (incoming .entry)))
+        (at-entry counts nodes edges «live_nodes» «live_edges» outgoing incoming)
         (λ w room. node-slots (lists w) room) (now (slots .entry)) r (now (slots .exit)) ⌝ }
 {
     view::ids::node_ids(
@@ -196,7 +197,7 @@ pub extern "C" fn lot_edge_ids(
     slots: &mut [u32],
 ) -> Answer
     ensures { λ r. ⌜ Replied
-        (store counts (now (nodes .entry)) (now (edges .entry)) (now («live_nodes» .entry)) (now («live_edges» .entry)) (now (outgoing .entry)) (now (incoming .entry)))
+        (at-entry counts nodes edges «live_nodes» «live_edges» outgoing incoming)
         (λ w room. edge-slots (lists w) room) (now (slots .entry)) r (now (slots .exit)) ⌝ }
 {
     view::ids::edge_ids(

@@ -12,7 +12,8 @@ use plain::numbers;
 ghost use mathlib.Core.Path.{_≡_};
 ghost use Rattle.plain.specs.Lists.{written};
 ghost use Rattle.plain.specs.Compaction.{survivors, adjacency};
-ghost use Rattle.shape.specs.Shape.{store, shape-of, settled};
+ghost use Rattle.shape.specs.Shape.{shape-of, settled};
+ghost use Rattle.shape.specs.Lent.{lent, at-entry, at-exit};
 ghost use Rattle.compact.specs.Holding.{based};
 ghost use Rattle.compact.specs.Working.{Workable};
 ghost use Rattle.compact.specs.Settling.{Settleable, Settling};
@@ -42,9 +43,9 @@ fn write_work(
     edge_map: &[u32],
     work: &mut [u32],
 )
-    requires { ⌜ Workable (store counts (now nodes) (now edges) (now «live_nodes») (now «live_edges») (now outgoing) (now incoming)) (now «edge_map») (now work) ⌝ }
+    requires { ⌜ Workable (lent counts nodes edges «live_nodes» «live_edges» outgoing incoming) (now «edge_map») (now work) ⌝ }
     ensures { λ _. ⌜ now (work .exit) ≡ written (adjacency (survivors (settled (shape-of
-        (store counts (now (nodes .entry)) (now (edges .entry)) (now («live_nodes» .entry)) (now («live_edges» .entry)) (now (outgoing .entry)) (now (incoming .entry)))))))
+        (at-entry counts nodes edges «live_nodes» «live_edges» outgoing incoming)))))
         (now (work .entry)) ⌝ }
 {
     let edge_slots = counts.edges;
@@ -83,11 +84,11 @@ fn drop_dead(
     node_map: &[u32],
     work: &[u32],
 ) -> Counts
-    requires { ⌜ Droppable (store counts (now nodes) (now edges) (now «live_nodes») (now «live_edges») (now outgoing) (now incoming)) (now «node_map») (now work) ⌝ }
+    requires { ⌜ Droppable (lent counts nodes edges «live_nodes» «live_edges» outgoing incoming) (now «node_map») (now work) ⌝ }
     ensures { λ r. ⌜ Dropped
-        (store counts (now (nodes .entry)) (now (edges .entry)) (now («live_nodes» .entry)) (now («live_edges» .entry)) (now (outgoing .entry)) (now (incoming .entry)))
+        (at-entry counts nodes edges «live_nodes» «live_edges» outgoing incoming)
         (now («node_map» .entry)) (now (work .entry))
-        (store r (now (nodes .exit)) (now (edges .exit)) (now («live_nodes» .exit)) (now («live_edges» .exit)) (now (outgoing .exit)) (now (incoming .exit))) ⌝ }
+        (at-exit r nodes edges «live_nodes» «live_edges» outgoing incoming) ⌝ }
 {
     let node_slots = counts.nodes;
     let edge_slots = counts.edges;
@@ -139,11 +140,11 @@ fn settle(
     edge_map: &mut [u32],
     work: &mut [u32],
 ) -> Counts
-    requires { ⌜ Settleable (store counts (now nodes) (now edges) (now «live_nodes») (now «live_edges») (now outgoing) (now incoming)) (now «node_map») (now «edge_map») (now work) ⌝ }
+    requires { ⌜ Settleable (lent counts nodes edges «live_nodes» «live_edges» outgoing incoming) (now «node_map») (now «edge_map») (now work) ⌝ }
     ensures { λ r. ⌜ Settling
-        (store counts (now (nodes .entry)) (now (edges .entry)) (now («live_nodes» .entry)) (now («live_edges» .entry)) (now (outgoing .entry)) (now (incoming .entry)))
+        (at-entry counts nodes edges «live_nodes» «live_edges» outgoing incoming)
         (now («node_map» .entry)) (now («edge_map» .entry)) (now (work .entry))
-        (store r (now (nodes .exit)) (now (edges .exit)) (now («live_nodes» .exit)) (now («live_edges» .exit)) (now (outgoing .exit)) (now (incoming .exit)))
+        (at-exit r nodes edges «live_nodes» «live_edges» outgoing incoming)
         (now («node_map» .exit)) (now («edge_map» .exit)) (now (work .exit)) ⌝ }
 {
     let node_slots = counts.nodes;
@@ -188,9 +189,9 @@ pub fn compact(
     work: &mut [u32],
 ) -> Changed
     ensures { λ r. ⌜ CompactOf
-        (store counts (now (nodes .entry)) (now (edges .entry)) (now («live_nodes» .entry)) (now («live_edges» .entry)) (now (outgoing .entry)) (now (incoming .entry)))
+        (at-entry counts nodes edges «live_nodes» «live_edges» outgoing incoming)
         (now («node_map» .entry)) (now («edge_map» .entry)) (now (work .entry)) (r .number) (r .value)
-        (store (r .counts) (now (nodes .exit)) (now (edges .exit)) (now («live_nodes» .exit)) (now («live_edges» .exit)) (now (outgoing .exit)) (now (incoming .exit)))
+        (at-exit (r .counts) nodes edges «live_nodes» «live_edges» outgoing incoming)
         (now («node_map» .exit)) (now («edge_map» .exit)) (now (work .exit)) ⌝ }
 {
     let rule = validate::judging::judge(

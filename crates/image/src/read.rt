@@ -17,7 +17,7 @@ ghost use lib.ListN.{length};
 ghost use Rattle.plain.specs.Bits.{fields-at};
 ghost use Rattle.plain.specs.Calls.{read-image};
 ghost use Rattle.memory.specs.Lengths.{lengths, measured};
-ghost use Rattle.shape.specs.Shape.{store};
+ghost use Rattle.shape.specs.Lent.{at-entry, at-exit};
 ghost use Rattle.shape.specs.Laws.Indexing.{Rewritten};
 ghost use Rattle.compact.specs.Bases.{Rebuilt};
 ghost use Rattle.image.specs.Spread.{spread, SpreadFits};
@@ -167,9 +167,9 @@ fn place(
 ) -> Counts
     requires { ⌜ Accepted (lengths (length (now nodes)) (length (now edges)) (length (now «live_nodes»)) (length (now «live_edges»)) (length (now outgoing)) (length (now incoming))) (now bytes) ⌝ }
     ensures { λ r. ⌜ Placed
-        (store r (now (nodes .entry)) (now (edges .entry)) (now («live_nodes» .entry)) (now («live_edges» .entry)) (now (outgoing .entry)) (now (incoming .entry)))
+        (at-entry r nodes edges «live_nodes» «live_edges» outgoing incoming)
         (now (bytes .entry))
-        (store r (now (nodes .exit)) (now (edges .exit)) (now («live_nodes» .exit)) (now («live_edges» .exit)) (now (outgoing .exit)) (now (incoming .exit))) ⌝ }
+        (at-exit r nodes edges «live_nodes» «live_edges» outgoing incoming) ⌝ }
 {
     let count_nodes = bits::read_field(bytes, 0, 16);
     let count_edges = bits::read_field(bytes, 16, 16);
@@ -216,9 +216,9 @@ pub fn read_image(
     bytes: &[u8],
 ) -> Changed
     ensures { λ r. ⌜ ReadOf
-        (store counts (now (nodes .entry)) (now (edges .entry)) (now («live_nodes» .entry)) (now («live_edges» .entry)) (now (outgoing .entry)) (now (incoming .entry)))
+        (at-entry counts nodes edges «live_nodes» «live_edges» outgoing incoming)
         (now (bytes .entry)) (r .number) (r .value)
-        (store (r .counts) (now (nodes .exit)) (now (edges .exit)) (now («live_nodes» .exit)) (now («live_edges» .exit)) (now (outgoing .exit)) (now (incoming .exit))) ⌝ }
+        (at-exit (r .counts) nodes edges «live_nodes» «live_edges» outgoing incoming) ⌝ }
 {
     let told = answer(
         Lengths {

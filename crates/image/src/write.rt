@@ -20,7 +20,7 @@ ghost use Rattle.plain.specs.Numbers.{LIMIT};
 ghost use Rattle.plain.specs.Lists.{written};
 ghost use Rattle.plain.specs.Bits.{row, pack, bytes-for};
 ghost use Rattle.plain.specs.Image.{edge-bits, image-size};
-ghost use Rattle.shape.specs.Shape.{store};
+ghost use Rattle.shape.specs.Lent.{at-entry};
 ghost use Rattle.view.specs.Calls.{Replied};
 ghost use Rattle.image.specs.Calls.{written-image};
 ghost use Rattle.image.specs.WriteCases.{BytesLent};
@@ -195,7 +195,7 @@ pub fn write_image(
     bytes: &mut [u8],
 ) -> Answer
     ensures { λ r. ⌜ Replied
-        (store counts (now (nodes .entry)) (now (edges .entry)) (now («live_nodes» .entry)) (now («live_edges» .entry)) (now (outgoing .entry)) (now (incoming .entry)))
+        (at-entry counts nodes edges «live_nodes» «live_edges» outgoing incoming)
         written-image (now (bytes .entry)) r (now (bytes .exit)) ⌝ }
 {
     let rule = judge(

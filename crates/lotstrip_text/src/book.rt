@@ -8,7 +8,7 @@ use strip;
 ghost use Prim.Native.Nat.{_≤_, _%_, _/_};
 ghost use mathlib.Core.Path.{_≡_};
 ghost use lib.ListN.{length};
-ghost use Rattle.shape.specs.Shape.{store};
+ghost use Rattle.shape.specs.Lent.{lent, at-entry, at-exit};
 ghost use Rattle.lotstrip_text.specs.Booking.{image-room, Bookable, Booked, Held, Closed, Printable, Printed, Closing};
 
 // Runs a strip on a fresh store.
@@ -24,7 +24,7 @@ fn run_strip(
 ) -> Counts
     requires { ⌜ Bookable (now nodes) (now edges) (now «live_nodes») (now «live_edges») (now outgoing) (now incoming) (now words) (now answers) ⌝ }
     ensures { λ r. ⌜ Booked (now (words .entry)) (now (answers .entry))
-        (store r (now (nodes .exit)) (now (edges .exit)) (now («live_nodes» .exit)) (now («live_edges» .exit)) (now (outgoing .exit)) (now (incoming .exit)))
+        (at-exit r nodes edges «live_nodes» «live_edges» outgoing incoming)
         (now (answers .exit)) ⌝ }
 {
     let made = strip::fresh(nodes, edges, live_nodes, live_edges, outgoing, incoming);
@@ -52,10 +52,10 @@ fn close(
     outgoing: &mut [u32],
     incoming: &mut [u32],
 ) -> Counts
-    requires { ⌜ Held (store counts (now nodes) (now edges) (now «live_nodes») (now «live_edges») (now outgoing) (now incoming)) ⌝ }
+    requires { ⌜ Held (lent counts nodes edges «live_nodes» «live_edges» outgoing incoming) ⌝ }
     ensures { λ r. ⌜ Closed
-        (store counts (now (nodes .entry)) (now (edges .entry)) (now («live_nodes» .entry)) (now («live_edges» .entry)) (now (outgoing .entry)) (now (incoming .entry)))
-        (store r (now (nodes .exit)) (now (edges .exit)) (now («live_nodes» .exit)) (now («live_edges» .exit)) (now (outgoing .exit)) (now (incoming .exit))) ⌝ }
+        (at-entry counts nodes edges «live_nodes» «live_edges» outgoing incoming)
+        (at-exit r nodes edges «live_nodes» «live_edges» outgoing incoming) ⌝ }
 {
     let mut node_map: [u32; 512] = [0; 512];
     let mut edge_map: [u32; 1024] = [0; 1024];
@@ -86,9 +86,9 @@ fn print_image(
     incoming: &[u32],
     bytes: &mut [u8],
 ) -> usize
-    requires { ⌜ Printable (store counts (now nodes) (now edges) (now «live_nodes») (now «live_edges») (now outgoing) (now incoming)) (now bytes) ⌝ }
+    requires { ⌜ Printable (lent counts nodes edges «live_nodes» «live_edges» outgoing incoming) (now bytes) ⌝ }
     ensures { λ r. ⌜ Printed
-        (store counts (now (nodes .entry)) (now (edges .entry)) (now («live_nodes» .entry)) (now («live_edges» .entry)) (now (outgoing .entry)) (now (incoming .entry)))
+        (at-entry counts nodes edges «live_nodes» «live_edges» outgoing incoming)
         (now (bytes .entry)) r (now (bytes .exit)) ⌝ }
 {
     let done = image::write::write_image(

@@ -4,6 +4,7 @@ pub mod Shape
 pub mod Checked
 pub mod Steps
 pub mod Rules
+pub mod Lent
 pub mod Kept
 pub mod Fields
 pub mod Writes

@@ -16,7 +16,7 @@ ghost use Prim.Native.Nat.{_≤_};
 ghost use mathlib.Core.Path.{_≡_};
 ghost use Rattle.plain.specs.declared.Operation.the-variants.{AddNode, AddEdge, SetPayload};
 ghost use Rattle.shape.specs.Checked.{Checked};
-ghost use Rattle.shape.specs.Shape.{store};
+ghost use Rattle.shape.specs.Lent.{lent, at-entry, at-exit};
 ghost use Rattle.store.specs.Operations.{Acted, RemovedEdge, RemovedNode, RedirectedEdge, MovedEdges, Raisable, one-more as raised, fewer as lowered, NodeAddable, EdgeAddable, EdgeRedirectable, EdgesMovable, PayloadSettable};
 
 // What removing answers: the counts, and whether something live was there.
@@ -60,10 +60,10 @@ pub fn add_node(
     incoming: &mut [u32],
     payload: u32,
 ) -> Counts
-    requires { ⌜ NodeAddable (store counts (now nodes) (now edges) (now «live_nodes») (now «live_edges») (now outgoing) (now incoming)) ⌝ }
+    requires { ⌜ NodeAddable (lent counts nodes edges «live_nodes» «live_edges» outgoing incoming) ⌝ }
     ensures { λ r. ⌜ Acted (AddNode payload)
-        (store counts (now (nodes .entry)) (now (edges .entry)) (now («live_nodes» .entry)) (now («live_edges» .entry)) (now (outgoing .entry)) (now (incoming .entry)))
-        (store r (now (nodes .exit)) (now (edges .exit)) (now («live_nodes» .exit)) (now («live_edges» .exit)) (now (outgoing .exit)) (now (incoming .exit))) ⌝ }
+        (at-entry counts nodes edges «live_nodes» «live_edges» outgoing incoming)
+        (at-exit r nodes edges «live_nodes» «live_edges» outgoing incoming) ⌝ }
 {
     let slots = counts.nodes;
     let others = counts.edges;
@@ -93,10 +93,10 @@ pub fn add_edge(
     target: u32,
     payload: u32,
 ) -> Counts
-    requires { ⌜ EdgeAddable (store counts (now nodes) (now edges) (now «live_nodes») (now «live_edges») (now outgoing) (now incoming)) source target ⌝ }
+    requires { ⌜ EdgeAddable (lent counts nodes edges «live_nodes» «live_edges» outgoing incoming) source target ⌝ }
     ensures { λ r. ⌜ Acted (AddEdge source target payload)
-        (store counts (now (nodes .entry)) (now (edges .entry)) (now («live_nodes» .entry)) (now («live_edges» .entry)) (now (outgoing .entry)) (now (incoming .entry)))
-        (store r (now (nodes .exit)) (now (edges .exit)) (now («live_nodes» .exit)) (now («live_edges» .exit)) (now (outgoing .exit)) (now (incoming .exit))) ⌝ }
+        (at-entry counts nodes edges «live_nodes» «live_edges» outgoing incoming)
+        (at-exit r nodes edges «live_nodes» «live_edges» outgoing incoming) ⌝ }
 {
     let others = counts.nodes;
     let slots = counts.edges;
@@ -143,11 +143,11 @@ pub fn remove_edge(
     incoming: &[u32],
     edge: u32,
 ) -> Removal
-    requires { ⌜ Checked (store counts (now nodes) (now edges) (now «live_nodes») (now «live_edges») (now outgoing) (now incoming)) ⌝ }
+    requires { ⌜ Checked (lent counts nodes edges «live_nodes» «live_edges» outgoing incoming) ⌝ }
     ensures { λ r. ⌜ RemovedEdge edge
-        (store counts (now (nodes .entry)) (now (edges .entry)) (now («live_nodes» .entry)) (now («live_edges» .entry)) (now (outgoing .entry)) (now (incoming .entry)))
+        (at-entry counts nodes edges «live_nodes» «live_edges» outgoing incoming)
         (r .removed)
-        (store (r .counts) (now (nodes .exit)) (now (edges .exit)) (now («live_nodes» .exit)) (now («live_edges» .exit)) (now (outgoing .exit)) (now (incoming .exit))) ⌝ }
+        (at-exit (r .counts) nodes edges «live_nodes» «live_edges» outgoing incoming) ⌝ }
 {
     let others = counts.nodes;
     let slots = counts.edges;
@@ -180,11 +180,11 @@ pub fn remove_node(
     incoming: &[u32],
     node: u32,
 ) -> Removal
-    requires { ⌜ Checked (store counts (now nodes) (now edges) (now «live_nodes») (now «live_edges») (now outgoing) (now incoming)) ⌝ }
+    requires { ⌜ Checked (lent counts nodes edges «live_nodes» «live_edges» outgoing incoming) ⌝ }
     ensures { λ r. ⌜ RemovedNode node
-        (store counts (now (nodes .entry)) (now (edges .entry)) (now («live_nodes» .entry)) (now («live_edges» .entry)) (now (outgoing .entry)) (now (incoming .entry)))
+        (at-entry counts nodes edges «live_nodes» «live_edges» outgoing incoming)
         (r .removed)
-        (store (r .counts) (now (nodes .exit)) (now (edges .exit)) (now («live_nodes» .exit)) (now («live_edges» .exit)) (now (outgoing .exit)) (now (incoming .exit))) ⌝ }
+        (at-exit (r .counts) nodes edges «live_nodes» «live_edges» outgoing incoming) ⌝ }
 {
     let slots = counts.nodes;
     let others = counts.edges;
@@ -238,11 +238,11 @@ pub fn redirect(
     edge: u32,
     node: u32,
 ) -> u32
-    requires { ⌜ EdgeRedirectable (store counts (now nodes) (now edges) (now «live_nodes») (now «live_edges») (now outgoing) (now incoming)) edge node ⌝ }
+    requires { ⌜ EdgeRedirectable (lent counts nodes edges «live_nodes» «live_edges» outgoing incoming) edge node ⌝ }
     ensures { λ r. ⌜ RedirectedEdge direction edge node
-        (store counts (now (nodes .entry)) (now (edges .entry)) (now («live_nodes» .entry)) (now («live_edges» .entry)) (now (outgoing .entry)) (now (incoming .entry)))
+        (at-entry counts nodes edges «live_nodes» «live_edges» outgoing incoming)
         r
-        (store counts (now (nodes .exit)) (now (edges .exit)) (now («live_nodes» .exit)) (now («live_edges» .exit)) (now (outgoing .exit)) (now (incoming .exit))) ⌝ }
+        (at-exit counts nodes edges «live_nodes» «live_edges» outgoing incoming) ⌝ }
 {
     let some_removed = walk::tombstoned(counts);
     match direction {
@@ -286,11 +286,11 @@ pub fn move_adjacency(
     old: u32,
     new: u32,
 ) -> u32
-    requires { ⌜ EdgesMovable direction (store counts (now nodes) (now edges) (now «live_nodes») (now «live_edges») (now outgoing) (now incoming)) old new ⌝ }
+    requires { ⌜ EdgesMovable direction (lent counts nodes edges «live_nodes» «live_edges» outgoing incoming) old new ⌝ }
     ensures { λ r. ⌜ MovedEdges direction old new
-        (store counts (now (nodes .entry)) (now (edges .entry)) (now («live_nodes» .entry)) (now («live_edges» .entry)) (now (outgoing .entry)) (now (incoming .entry)))
+        (at-entry counts nodes edges «live_nodes» «live_edges» outgoing incoming)
         r
-        (store counts (now (nodes .exit)) (now (edges .exit)) (now («live_nodes» .exit)) (now («live_edges» .exit)) (now (outgoing .exit)) (now (incoming .exit))) ⌝ }
+        (at-exit counts nodes edges «live_nodes» «live_edges» outgoing incoming) ⌝ }
 {
     let some_removed = walk::tombstoned(counts);
     match direction {
@@ -333,10 +333,10 @@ pub fn set_payload(
     edge: u32,
     payload: u32,
 )
-    requires { ⌜ PayloadSettable (store counts (now nodes) (now edges) (now «live_nodes») (now «live_edges») (now outgoing) (now incoming)) edge ⌝ }
+    requires { ⌜ PayloadSettable (lent counts nodes edges «live_nodes» «live_edges» outgoing incoming) edge ⌝ }
     ensures { λ _. ⌜ Acted (SetPayload edge payload)
-        (store counts (now (nodes .entry)) (now (edges .entry)) (now («live_nodes» .entry)) (now («live_edges» .entry)) (now (outgoing .entry)) (now (incoming .entry)))
-        (store counts (now (nodes .exit)) (now (edges .exit)) (now («live_nodes» .exit)) (now («live_edges» .exit)) (now (outgoing .exit)) (now (incoming .exit))) ⌝ }
+        (at-entry counts nodes edges «live_nodes» «live_edges» outgoing incoming)
+        (at-exit counts nodes edges «live_nodes» «live_edges» outgoing incoming) ⌝ }
 {
     edges[edge as usize] = payload;
 }

@@ -15,7 +15,8 @@ ghost use Rattle.plain.specs.Plain.{list-of};
 ghost use Rattle.plain.specs.Numbers.{NONE as none};
 ghost use Rattle.plain.specs.Reads.{no-record, node-payload, edge-record, live-edge-record, contains-node, contains-edge, yes-or-no as answer-of};
 ghost use Rattle.shape.specs.Checked.{Checked};
-ghost use Rattle.shape.specs.Shape.{store, lists};
+ghost use Rattle.shape.specs.Shape.{lists};
+ghost use Rattle.shape.specs.Lent.{lent, at-entry};
 
 // A yes or no as an answer: 1 or 0. Internal.
 pub fn yes_or_no(test: bool) -> Answer
@@ -57,9 +58,9 @@ pub fn node_payload(
     incoming: &[u32],
     node: u32,
 ) -> Answer
-    requires { ⌜ Checked (store counts (now nodes) (now edges) (now «live_nodes») (now «live_edges») (now outgoing) (now incoming)) ⌝ }
+    requires { ⌜ Checked (lent counts nodes edges «live_nodes» «live_edges» outgoing incoming) ⌝ }
     ensures { λ r. ⌜ r ≡ node-payload (lists
-        (store counts (now (nodes .entry)) (now (edges .entry)) (now («live_nodes» .entry)) (now («live_edges» .entry)) (now (outgoing .entry)) (now (incoming .entry)))) node ⌝ }
+        (at-entry counts nodes edges «live_nodes» «live_edges» outgoing incoming)) node ⌝ }
 {
     let slots = counts.nodes;
     let at = node as usize;
@@ -86,9 +87,9 @@ pub fn edge_record(
     incoming: &[u32],
     edge: u32,
 ) -> Record
-    requires { ⌜ Checked (store counts (now nodes) (now edges) (now «live_nodes») (now «live_edges») (now outgoing) (now incoming)) ⌝ }
+    requires { ⌜ Checked (lent counts nodes edges «live_nodes» «live_edges» outgoing incoming) ⌝ }
     ensures { λ r. ⌜ r ≡ edge-record (lists
-        (store counts (now (nodes .entry)) (now (edges .entry)) (now («live_nodes» .entry)) (now («live_edges» .entry)) (now (outgoing .entry)) (now (incoming .entry)))) edge ⌝ }
+        (at-entry counts nodes edges «live_nodes» «live_edges» outgoing incoming)) edge ⌝ }
 {
     let slots = counts.edges;
     let at = edge as usize;
@@ -115,9 +116,9 @@ pub fn live_edge_record(
     incoming: &[u32],
     edge: u32,
 ) -> Record
-    requires { ⌜ Checked (store counts (now nodes) (now edges) (now «live_nodes») (now «live_edges») (now outgoing) (now incoming)) ⌝ }
+    requires { ⌜ Checked (lent counts nodes edges «live_nodes» «live_edges» outgoing incoming) ⌝ }
     ensures { λ r. ⌜ r ≡ live-edge-record (lists
-        (store counts (now (nodes .entry)) (now (edges .entry)) (now («live_nodes» .entry)) (now («live_edges» .entry)) (now (outgoing .entry)) (now (incoming .entry)))) edge ⌝ }
+        (at-entry counts nodes edges «live_nodes» «live_edges» outgoing incoming)) edge ⌝ }
 {
     let slots = counts.edges;
     let bound = slots.bound as usize;
@@ -151,9 +152,9 @@ pub fn contains_node(
     incoming: &[u32],
     node: u32,
 ) -> Answer
-    requires { ⌜ Checked (store counts (now nodes) (now edges) (now «live_nodes») (now «live_edges») (now outgoing) (now incoming)) ⌝ }
+    requires { ⌜ Checked (lent counts nodes edges «live_nodes» «live_edges» outgoing incoming) ⌝ }
     ensures { λ r. ⌜ r ≡ contains-node (lists
-        (store counts (now (nodes .entry)) (now (edges .entry)) (now («live_nodes» .entry)) (now («live_edges» .entry)) (now (outgoing .entry)) (now (incoming .entry)))) node ⌝ }
+        (at-entry counts nodes edges «live_nodes» «live_edges» outgoing incoming)) node ⌝ }
 {
     let slots = counts.nodes;
     let bound = slots.bound as usize;
@@ -171,9 +172,9 @@ pub fn contains_edge(
     incoming: &[u32],
     edge: u32,
 ) -> Answer
-    requires { ⌜ Checked (store counts (now nodes) (now edges) (now «live_nodes») (now «live_edges») (now outgoing) (now incoming)) ⌝ }
+    requires { ⌜ Checked (lent counts nodes edges «live_nodes» «live_edges» outgoing incoming) ⌝ }
     ensures { λ r. ⌜ r ≡ contains-edge (lists
-        (store counts (now (nodes .entry)) (now (edges .entry)) (now («live_nodes» .entry)) (now («live_edges» .entry)) (now (outgoing .entry)) (now (incoming .entry)))) edge ⌝ }
+        (at-entry counts nodes edges «live_nodes» «live_edges» outgoing incoming)) edge ⌝ }
 {
     let slots = counts.edges;
     let bound = slots.bound as usize;
@@ -192,10 +193,10 @@ pub fn degree(
     direction: TraversalDirection,
     node: u32,
 ) -> usize
-    requires { ⌜ Checked (store counts (now nodes) (now edges) (now «live_nodes») (now «live_edges») (now outgoing) (now incoming)) ⌝ }
+    requires { ⌜ Checked (lent counts nodes edges «live_nodes» «live_edges» outgoing incoming) ⌝ }
     requires { ⌜ node < counts .nodes .bound ⌝ }
     ensures { λ r. ⌜ r ≡ length (list-of direction (lists
-        (store counts (now (nodes .entry)) (now (edges .entry)) (now («live_nodes» .entry)) (now («live_edges» .entry)) (now (outgoing .entry)) (now (incoming .entry)))) node) ⌝ }
+        (at-entry counts nodes edges «live_nodes» «live_edges» outgoing incoming)) node) ⌝ }
 {
     let slots = counts.nodes;
     let bound = slots.bound as usize;

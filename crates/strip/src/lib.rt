@@ -15,7 +15,7 @@ ghost use Prim.Native.Nat.{_+_, _*_, _≤_};
 ghost use lib.ListN.{length, getD, set};
 ghost use Rattle.plain.specs.declared.Operation.the-variants.{Unknown};
 ghost use Rattle.plain.specs.Operations.{operation-words, operations};
-ghost use Rattle.shape.specs.Shape.{store};
+ghost use Rattle.shape.specs.Lent.{lent, at-entry, at-exit};
 ghost use Rattle.strip.specs.Fresh.{FreshOf};
 ghost use Rattle.strip.specs.Strip.{Runnable, Ran, StripOf};
 
@@ -29,7 +29,7 @@ pub fn fresh(
     incoming: &[u32],
 ) -> Changed
     ensures { λ r. ⌜ FreshOf
-        (store (r .counts) (now (nodes .entry)) (now (edges .entry)) (now («live_nodes» .entry)) (now («live_edges» .entry)) (now (outgoing .entry)) (now (incoming .entry)))
+        (at-entry (r .counts) nodes edges «live_nodes» «live_edges» outgoing incoming)
         (r .number) (r .value) ⌝ }
 {
     let told = memory::fresh_answer(
@@ -89,11 +89,11 @@ fn run(
     words: &[u32],
     answers: &mut [u32],
 ) -> Counts
-    requires { ⌜ Runnable (store counts (now nodes) (now edges) (now «live_nodes») (now «live_edges») (now outgoing) (now incoming)) (now words) (now answers) ⌝ }
+    requires { ⌜ Runnable (lent counts nodes edges «live_nodes» «live_edges» outgoing incoming) (now words) (now answers) ⌝ }
     ensures { λ r. ⌜ Ran
-        (store counts (now (nodes .entry)) (now (edges .entry)) (now («live_nodes» .entry)) (now («live_edges» .entry)) (now (outgoing .entry)) (now (incoming .entry)))
+        (at-entry counts nodes edges «live_nodes» «live_edges» outgoing incoming)
         (operations (now (words .entry))) (now (answers .entry))
-        (store r (now (nodes .exit)) (now (edges .exit)) (now («live_nodes» .exit)) (now («live_edges» .exit)) (now (outgoing .exit)) (now (incoming .exit)))
+        (at-exit r nodes edges «live_nodes» «live_edges» outgoing incoming)
         (now (answers .exit)) ⌝ }
 {
     let count = words.len() / OPERATION_WORDS;
@@ -131,9 +131,9 @@ pub fn strip(
     answers: &mut [u32],
 ) -> Changed
     ensures { λ r. ⌜ StripOf
-        (store counts (now (nodes .entry)) (now (edges .entry)) (now («live_nodes» .entry)) (now («live_edges» .entry)) (now (outgoing .entry)) (now (incoming .entry)))
+        (at-entry counts nodes edges «live_nodes» «live_edges» outgoing incoming)
         (now (words .entry)) (now (answers .entry)) (r .number) (r .value)
-        (store (r .counts) (now (nodes .exit)) (now (edges .exit)) (now («live_nodes» .exit)) (now («live_edges» .exit)) (now (outgoing .exit)) (now (incoming .exit)))
+        (at-exit (r .counts) nodes edges «live_nodes» «live_edges» outgoing incoming)
         (now (answers .exit)) ⌝ }
 {
     let rule = validate::judging::judge(

@@ -10,7 +10,7 @@ ghost use Prim.Native.Nat.{_*_, _≤_};
 ghost use lib.ListN.{length};
 ghost use Rattle.plain.specs.declared.Operation.the-variants.{AddNode, AddEdge, RemoveEdge, RemoveNode, Redirect, Move, SetPayload};
 ghost use Rattle.shape.specs.Checked.{Checked};
-ghost use Rattle.shape.specs.Shape.{store};
+ghost use Rattle.shape.specs.Lent.{lent, at-entry, at-exit};
 ghost use Rattle.liveness.specs.Flags.{live-flags};
 ghost use Rattle.strip.specs.Faults.{fault-of};
 ghost use Rattle.strip.specs.Step.{StepOf};
@@ -47,10 +47,10 @@ pub fn add_node(
     incoming: &mut [u32],
     payload: u32,
 ) -> Stepped
-    requires { ⌜ Checked (store counts (now nodes) (now edges) (now «live_nodes») (now «live_edges») (now outgoing) (now incoming)) ⌝ }
+    requires { ⌜ Checked (lent counts nodes edges «live_nodes» «live_edges» outgoing incoming) ⌝ }
     ensures { λ r. ⌜ StepOf (AddNode payload)
-        (store counts (now (nodes .entry)) (now (edges .entry)) (now («live_nodes» .entry)) (now («live_edges» .entry)) (now (outgoing .entry)) (now (incoming .entry)))
-        (store (r .counts) (now (nodes .exit)) (now (edges .exit)) (now («live_nodes» .exit)) (now («live_edges» .exit)) (now (outgoing .exit)) (now (incoming .exit)))
+        (at-entry counts nodes edges «live_nodes» «live_edges» outgoing incoming)
+        (at-exit (r .counts) nodes edges «live_nodes» «live_edges» outgoing incoming)
         (r .number) (r .value) ⌝ }
 {
     let slots = counts.nodes;
@@ -92,10 +92,10 @@ pub fn add_edge(
     target: u32,
     payload: u32,
 ) -> Stepped
-    requires { ⌜ Checked (store counts (now nodes) (now edges) (now «live_nodes») (now «live_edges») (now outgoing) (now incoming)) ⌝ }
+    requires { ⌜ Checked (lent counts nodes edges «live_nodes» «live_edges» outgoing incoming) ⌝ }
     ensures { λ r. ⌜ StepOf (AddEdge source target payload)
-        (store counts (now (nodes .entry)) (now (edges .entry)) (now («live_nodes» .entry)) (now («live_edges» .entry)) (now (outgoing .entry)) (now (incoming .entry)))
-        (store (r .counts) (now (nodes .exit)) (now (edges .exit)) (now («live_nodes» .exit)) (now («live_edges» .exit)) (now (outgoing .exit)) (now (incoming .exit)))
+        (at-entry counts nodes edges «live_nodes» «live_edges» outgoing incoming)
+        (at-exit (r .counts) nodes edges «live_nodes» «live_edges» outgoing incoming)
         (r .number) (r .value) ⌝ }
 {
     let others = counts.nodes;
@@ -166,10 +166,10 @@ pub fn remove_edge(
     incoming: &[u32],
     edge: u32,
 ) -> Stepped
-    requires { ⌜ Checked (store counts (now nodes) (now edges) (now «live_nodes») (now «live_edges») (now outgoing) (now incoming)) ⌝ }
+    requires { ⌜ Checked (lent counts nodes edges «live_nodes» «live_edges» outgoing incoming) ⌝ }
     ensures { λ r. ⌜ StepOf (RemoveEdge edge)
-        (store counts (now (nodes .entry)) (now (edges .entry)) (now («live_nodes» .entry)) (now («live_edges» .entry)) (now (outgoing .entry)) (now (incoming .entry)))
-        (store (r .counts) (now (nodes .exit)) (now (edges .exit)) (now («live_nodes» .exit)) (now («live_edges» .exit)) (now (outgoing .exit)) (now (incoming .exit)))
+        (at-entry counts nodes edges «live_nodes» «live_edges» outgoing incoming)
+        (at-exit (r .counts) nodes edges «live_nodes» «live_edges» outgoing incoming)
         (r .number) (r .value) ⌝ }
 {
     let removal = store::remove_edge(
@@ -208,10 +208,10 @@ pub fn remove_node(
     incoming: &[u32],
     node: u32,
 ) -> Stepped
-    requires { ⌜ Checked (store counts (now nodes) (now edges) (now «live_nodes») (now «live_edges») (now outgoing) (now incoming)) ⌝ }
+    requires { ⌜ Checked (lent counts nodes edges «live_nodes» «live_edges» outgoing incoming) ⌝ }
     ensures { λ r. ⌜ StepOf (RemoveNode node)
-        (store counts (now (nodes .entry)) (now (edges .entry)) (now («live_nodes» .entry)) (now («live_edges» .entry)) (now (outgoing .entry)) (now (incoming .entry)))
-        (store (r .counts) (now (nodes .exit)) (now (edges .exit)) (now («live_nodes» .exit)) (now («live_edges» .exit)) (now (outgoing .exit)) (now (incoming .exit)))
+        (at-entry counts nodes edges «live_nodes» «live_edges» outgoing incoming)
+        (at-exit (r .counts) nodes edges «live_nodes» «live_edges» outgoing incoming)
         (r .number) (r .value) ⌝ }
 {
     let removal = store::remove_node(
@@ -252,10 +252,10 @@ pub fn redirect(
     edge: u32,
     node: u32,
 ) -> Stepped
-    requires { ⌜ Checked (store counts (now nodes) (now edges) (now «live_nodes») (now «live_edges») (now outgoing) (now incoming)) ⌝ }
+    requires { ⌜ Checked (lent counts nodes edges «live_nodes» «live_edges» outgoing incoming) ⌝ }
     ensures { λ r. ⌜ StepOf (Redirect direction edge node)
-        (store counts (now (nodes .entry)) (now (edges .entry)) (now («live_nodes» .entry)) (now («live_edges» .entry)) (now (outgoing .entry)) (now (incoming .entry)))
-        (store (r .counts) (now (nodes .exit)) (now (edges .exit)) (now («live_nodes» .exit)) (now («live_edges» .exit)) (now (outgoing .exit)) (now (incoming .exit)))
+        (at-entry counts nodes edges «live_nodes» «live_edges» outgoing incoming)
+        (at-exit (r .counts) nodes edges «live_nodes» «live_edges» outgoing incoming)
         (r .number) (r .value) ⌝ }
 {
     let others = counts.nodes;
@@ -320,10 +320,10 @@ pub fn move_adjacency(
     old: u32,
     new: u32,
 ) -> Stepped
-    requires { ⌜ Checked (store counts (now nodes) (now edges) (now «live_nodes») (now «live_edges») (now outgoing) (now incoming)) ⌝ }
+    requires { ⌜ Checked (lent counts nodes edges «live_nodes» «live_edges» outgoing incoming) ⌝ }
     ensures { λ r. ⌜ StepOf (Move direction old new)
-        (store counts (now (nodes .entry)) (now (edges .entry)) (now («live_nodes» .entry)) (now («live_edges» .entry)) (now (outgoing .entry)) (now (incoming .entry)))
-        (store (r .counts) (now (nodes .exit)) (now (edges .exit)) (now («live_nodes» .exit)) (now («live_edges» .exit)) (now (outgoing .exit)) (now (incoming .exit)))
+        (at-entry counts nodes edges «live_nodes» «live_edges» outgoing incoming)
+        (at-exit (r .counts) nodes edges «live_nodes» «live_edges» outgoing incoming)
         (r .number) (r .value) ⌝ }
 {
     let slots = counts.nodes;
@@ -405,10 +405,10 @@ pub fn set_payload(
     edge: u32,
     payload: u32,
 ) -> Stepped
-    requires { ⌜ Checked (store counts (now nodes) (now edges) (now «live_nodes») (now «live_edges») (now outgoing) (now incoming)) ⌝ }
+    requires { ⌜ Checked (lent counts nodes edges «live_nodes» «live_edges» outgoing incoming) ⌝ }
     ensures { λ r. ⌜ StepOf (SetPayload edge payload)
-        (store counts (now (nodes .entry)) (now (edges .entry)) (now («live_nodes» .entry)) (now («live_edges» .entry)) (now (outgoing .entry)) (now (incoming .entry)))
-        (store (r .counts) (now (nodes .exit)) (now (edges .exit)) (now («live_nodes» .exit)) (now («live_edges» .exit)) (now (outgoing .exit)) (now (incoming .exit)))
+        (at-entry counts nodes edges «live_nodes» «live_edges» outgoing incoming)
+        (at-exit (r .counts) nodes edges «live_nodes» «live_edges» outgoing incoming)
         (r .number) (r .value) ⌝ }
 {
     let slots = counts.edges;
@@ -448,10 +448,10 @@ pub fn step(
     incoming: &mut [u32],
     operation: Operation,
 ) -> Stepped
-    requires { ⌜ Checked (store counts (now nodes) (now edges) (now «live_nodes») (now «live_edges») (now outgoing) (now incoming)) ⌝ }
+    requires { ⌜ Checked (lent counts nodes edges «live_nodes» «live_edges» outgoing incoming) ⌝ }
     ensures { λ r. ⌜ StepOf operation
-        (store counts (now (nodes .entry)) (now (edges .entry)) (now («live_nodes» .entry)) (now («live_edges» .entry)) (now (outgoing .entry)) (now (incoming .entry)))
-        (store (r .counts) (now (nodes .exit)) (now (edges .exit)) (now («live_nodes» .exit)) (now («live_edges» .exit)) (now (outgoing .exit)) (now (incoming .exit)))
+        (at-entry counts nodes edges «live_nodes» «live_edges» outgoing incoming)
+        (at-exit (r .counts) nodes edges «live_nodes» «live_edges» outgoing incoming)
         (r .number) (r .value) ⌝ }
 {
     match operation {

@@ -9,7 +9,8 @@ use validate::judging::no_store;
 ghost use mathlib.Core.Path.{_≡_};
 ghost use Rattle.plain.specs.Reads.{is-compact as compact-answer};
 ghost use Rattle.shape.specs.Checked.{Checked};
-ghost use Rattle.shape.specs.Shape.{store, shape-of, is-compact};
+ghost use Rattle.shape.specs.Shape.{shape-of, is-compact};
+ghost use Rattle.shape.specs.Lent.{lent, at-entry};
 ghost use Rattle.shape.specs.Steps.{state-of};
 ghost use Rattle.view.specs.Calls.{Answered};
 ghost use Rattle.view.specs.Compact.{unmarked, MarksThere};
@@ -32,9 +33,9 @@ pub fn is_compact_checked(
     outgoing: &[u32],
     incoming: &[u32],
 ) -> bool
-    requires { ⌜ Checked (store counts (now nodes) (now edges) (now «live_nodes») (now «live_edges») (now outgoing) (now incoming)) ⌝ }
+    requires { ⌜ Checked (lent counts nodes edges «live_nodes» «live_edges» outgoing incoming) ⌝ }
     ensures { λ r. ⌜ r ≡ is-compact (shape-of
-        (store counts (now (nodes .entry)) (now (edges .entry)) (now («live_nodes» .entry)) (now («live_edges» .entry)) (now (outgoing .entry)) (now (incoming .entry)))) ⌝ }
+        (at-entry counts nodes edges «live_nodes» «live_edges» outgoing incoming)) ⌝ }
 {
     let node_slots = counts.nodes;
     let edge_slots = counts.edges;
@@ -68,7 +69,7 @@ pub fn is_compact(
     incoming: &[u32],
 ) -> Answer
     ensures { λ r. ⌜ Answered
-        (store counts (now (nodes .entry)) (now (edges .entry)) (now («live_nodes» .entry)) (now («live_edges» .entry)) (now (outgoing .entry)) (now (incoming .entry)))
+        (at-entry counts nodes edges «live_nodes» «live_edges» outgoing incoming)
         (λ w. compact-answer (state-of (shape-of w))) r ⌝ }
 {
     let rule = judge(

@@ -10,7 +10,8 @@ use plain::numbers::OUT_OF_RANGE_NODE;
 use validate::judging::judge;
 use validate::judging::no_store;
 ghost use Rattle.plain.specs.Reads.{find as find-of};
-ghost use Rattle.shape.specs.Shape.{store, lists};
+ghost use Rattle.shape.specs.Shape.{lists};
+ghost use Rattle.shape.specs.Lent.{at-entry};
 ghost use Rattle.view.specs.Calls.{Answered};
 
 // The first edge of `first`'s out-list that ends at `second`, or NONE where there is none and only then.
@@ -26,7 +27,7 @@ pub fn find(
     second: u32,
 ) -> Answer
     ensures { λ r. ⌜ Answered
-        (store counts (now (nodes .entry)) (now (edges .entry)) (now («live_nodes» .entry)) (now («live_edges» .entry)) (now (outgoing .entry)) (now (incoming .entry)))
+        (at-entry counts nodes edges «live_nodes» «live_edges» outgoing incoming)
         (λ w. find-of (lists w) first second) r ⌝ }
 {
     let rule = judge(

@@ -11,7 +11,8 @@ ghost use mathlib.Core.Path.{_≡_};
 ghost use Rattle.plain.specs.Lists.{written};
 ghost use Rattle.plain.specs.Reads.{live-slots, node-slots, edge-slots};
 ghost use Rattle.liveness.specs.Flags.{live-flags};
-ghost use Rattle.shape.specs.Shape.{store, lists};
+ghost use Rattle.shape.specs.Shape.{lists};
+ghost use Rattle.shape.specs.Lent.{at-entry};
 ghost use Rattle.view.specs.Calls.{Replied};
 ghost use Rattle.view.specs.Ids.{LiveFits};
 
@@ -41,7 +42,7 @@ pub fn node_ids(
     slots: &mut [u32],
 ) -> Answer
     ensures { λ r. ⌜ Replied
-        (store counts (now (nodes .entry)) (now (edges .entry)) (now («live_nodes» .entry)) (now («live_edges» .entry)) (now (outgoing .entry)) (now (incoming .entry)))
+        (at-entry counts nodes edges «live_nodes» «live_edges» outgoing incoming)
         (λ w room. node-slots (lists w) room) (now (slots .entry)) r (now (slots .exit)) ⌝ }
 {
     let rule = judge(
@@ -83,7 +84,7 @@ pub fn edge_ids(
     slots: &mut [u32],
 ) -> Answer
     ensures { λ r. ⌜ Replied
-        (store counts (now (nodes .entry)) (now (edges .entry)) (now («live_nodes» .entry)) (now («live_edges» .entry)) (now (outgoing .entry)) (now (incoming .entry)))
+        (at-entry counts nodes edges «live_nodes» «live_edges» outgoing incoming)
         (λ w room. edge-slots (lists w) room) (now (slots .entry)) r (now (slots .exit)) ⌝ }
 {
     let rule = judge(

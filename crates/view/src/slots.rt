@@ -8,7 +8,8 @@ use validate::judging::judge;
 use validate::judging::no_store;
 use validate::judging::no_store_record;
 ghost use Rattle.plain.specs.Reads.{node-payload, edge-record, live-edge-record, contains-node, contains-edge};
-ghost use Rattle.shape.specs.Shape.{store, lists};
+ghost use Rattle.shape.specs.Shape.{lists};
+ghost use Rattle.shape.specs.Lent.{at-entry};
 ghost use Rattle.view.specs.Calls.{Answered, Recorded};
 
 // The payload of a node slot, also of a removed one. "Degree and node payload: 1, 5."
@@ -23,7 +24,7 @@ pub fn node_payload(
     node: u32,
 ) -> Answer
     ensures { λ r. ⌜ Answered
-        (store counts (now (nodes .entry)) (now (edges .entry)) (now («live_nodes» .entry)) (now («live_edges» .entry)) (now (outgoing .entry)) (now (incoming .entry)))
+        (at-entry counts nodes edges «live_nodes» «live_edges» outgoing incoming)
         (λ w. node-payload (lists w) node) r ⌝ }
 {
     let rule = judge(
@@ -62,7 +63,7 @@ pub fn edge_record(
     edge: u32,
 ) -> Record
     ensures { λ r. ⌜ Recorded
-        (store counts (now (nodes .entry)) (now (edges .entry)) (now («live_nodes» .entry)) (now («live_edges» .entry)) (now (outgoing .entry)) (now (incoming .entry)))
+        (at-entry counts nodes edges «live_nodes» «live_edges» outgoing incoming)
         (λ w. edge-record (lists w) edge) r ⌝ }
 {
     let rule = judge(
@@ -101,7 +102,7 @@ pub fn live_edge_record(
     edge: u32,
 ) -> Record
     ensures { λ r. ⌜ Recorded
-        (store counts (now (nodes .entry)) (now (edges .entry)) (now («live_nodes» .entry)) (now («live_edges» .entry)) (now (outgoing .entry)) (now (incoming .entry)))
+        (at-entry counts nodes edges «live_nodes» «live_edges» outgoing incoming)
         (λ w. live-edge-record (lists w) edge) r ⌝ }
 {
     let rule = judge(
@@ -140,7 +141,7 @@ pub fn contains_node(
     node: u32,
 ) -> Answer
     ensures { λ r. ⌜ Answered
-        (store counts (now (nodes .entry)) (now (edges .entry)) (now («live_nodes» .entry)) (now («live_edges» .entry)) (now (outgoing .entry)) (now (incoming .entry)))
+        (at-entry counts nodes edges «live_nodes» «live_edges» outgoing incoming)
         (λ w. contains-node (lists w) node) r ⌝ }
 {
     let rule = judge(
@@ -179,7 +180,7 @@ pub fn contains_edge(
     edge: u32,
 ) -> Answer
     ensures { λ r. ⌜ Answered
-        (store counts (now (nodes .entry)) (now (edges .entry)) (now («live_nodes» .entry)) (now («live_edges» .entry)) (now (outgoing .entry)) (now (incoming .entry)))
+        (at-entry counts nodes edges «live_nodes» «live_edges» outgoing incoming)
         (λ w. contains-edge (lists w) edge) r ⌝ }
 {
     let rule = judge(

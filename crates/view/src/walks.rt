@@ -15,7 +15,8 @@ use validate::judging::no_store;
 ghost use mathlib.Core.Path.{_≡_};
 ghost use Rattle.plain.specs.Lists.{written};
 ghost use Rattle.plain.specs.Reads.{degree as degree-of, walk as walk-of, neighbors as neighbors-of};
-ghost use Rattle.shape.specs.Shape.{store, lists};
+ghost use Rattle.shape.specs.Shape.{lists};
+ghost use Rattle.shape.specs.Lent.{lent, at-entry};
 ghost use Rattle.view.specs.Calls.{Answered, Replied};
 ghost use Rattle.view.specs.Walks.{CountAnswer, ListAnswer, ListFits, list-in, far-ends-in};
 
@@ -32,9 +33,9 @@ fn write_list(
     node: u32,
     slots: &mut [u32],
 )
-    requires { ⌜ ListFits (store counts (now nodes) (now edges) (now «live_nodes») (now «live_edges») (now outgoing) (now incoming)) direction node (now slots) ⌝ }
+    requires { ⌜ ListFits (lent counts nodes edges «live_nodes» «live_edges» outgoing incoming) direction node (now slots) ⌝ }
     ensures { λ _. ⌜ now (slots .exit) ≡ written (list-in direction
-        (store counts (now (nodes .entry)) (now (edges .entry)) (now («live_nodes» .entry)) (now («live_edges» .entry)) (now (outgoing .entry)) (now (incoming .entry))) node) (now (slots .entry)) ⌝ }
+        (at-entry counts nodes edges «live_nodes» «live_edges» outgoing incoming) node) (now (slots .entry)) ⌝ }
 {
     let node_slots = counts.nodes;
     let bound = node_slots.bound as usize;
@@ -81,9 +82,9 @@ fn write_far_ends(
     node: u32,
     slots: &mut [u32],
 )
-    requires { ⌜ ListFits (store counts (now nodes) (now edges) (now «live_nodes») (now «live_edges») (now outgoing) (now incoming)) direction node (now slots) ⌝ }
+    requires { ⌜ ListFits (lent counts nodes edges «live_nodes» «live_edges» outgoing incoming) direction node (now slots) ⌝ }
     ensures { λ _. ⌜ now (slots .exit) ≡ written (far-ends-in direction
-        (store counts (now (nodes .entry)) (now (edges .entry)) (now («live_nodes» .entry)) (now («live_edges» .entry)) (now (outgoing .entry)) (now (incoming .entry))) node) (now (slots .entry)) ⌝ }
+        (at-entry counts nodes edges «live_nodes» «live_edges» outgoing incoming) node) (now (slots .entry)) ⌝ }
 {
     let node_slots = counts.nodes;
     let bound = node_slots.bound as usize;
@@ -132,7 +133,7 @@ fn count_answer(
     node: u32,
 ) -> Answer
     ensures { λ r. ⌜ CountAnswer
-        (store counts (now (nodes .entry)) (now (edges .entry)) (now («live_nodes» .entry)) (now («live_edges» .entry)) (now (outgoing .entry)) (now (incoming .entry)))
+        (at-entry counts nodes edges «live_nodes» «live_edges» outgoing incoming)
         direction node r ⌝ }
 {
     let rule = judge(
@@ -184,7 +185,7 @@ fn list_answer(
     room: usize,
 ) -> Answer
     ensures { λ r. ⌜ ListAnswer
-        (store counts (now (nodes .entry)) (now (edges .entry)) (now («live_nodes» .entry)) (now («live_edges» .entry)) (now (outgoing .entry)) (now (incoming .entry)))
+        (at-entry counts nodes edges «live_nodes» «live_edges» outgoing incoming)
         direction node room r ⌝ }
 {
     let counted = count_answer(
@@ -224,7 +225,7 @@ pub fn degree(
     node: u32,
 ) -> Answer
     ensures { λ r. ⌜ Answered
-        (store counts (now (nodes .entry)) (now (edges .entry)) (now («live_nodes» .entry)) (now («live_edges» .entry)) (now (outgoing .entry)) (now (incoming .entry)))
+        (at-entry counts nodes edges «live_nodes» «live_edges» outgoing incoming)
         (λ w. degree-of direction (lists w) node) r ⌝ }
 {
     count_answer(
@@ -254,7 +255,7 @@ pub fn walk(
     slots: &mut [u32],
 ) -> Answer
     ensures { λ r. ⌜ Replied
-        (store counts (now (nodes .entry)) (now (edges .entry)) (now («live_nodes» .entry)) (now («live_edges» .entry)) (now (outgoing .entry)) (now (incoming .entry)))
+        (at-entry counts nodes edges «live_nodes» «live_edges» outgoing incoming)
         (λ w room. walk-of direction (lists w) node room) (now (slots .entry)) r (now (slots .exit)) ⌝ }
 {
     let answer = list_answer(
@@ -301,7 +302,7 @@ pub fn neighbors(
     slots: &mut [u32],
 ) -> Answer
     ensures { λ r. ⌜ Replied
-        (store counts (now (nodes .entry)) (now (edges .entry)) (now («live_nodes» .entry)) (now («live_edges» .entry)) (now (outgoing .entry)) (now (incoming .entry)))
+        (at-entry counts nodes edges «live_nodes» «live_edges» outgoing incoming)
         (λ w room. neighbors-of direction (lists w) node room) (now (slots .entry)) r (now (slots .exit)) ⌝ }
 {
     let answer = list_answer(

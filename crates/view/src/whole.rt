@@ -8,7 +8,8 @@ use validate::judging::judge;
 use validate::judging::no_store;
 ghost use mathlib.Core.Path.{_≡_};
 ghost use Rattle.plain.specs.Reads.{answered as answer-of, node-bound-answer, edge-bound-answer, node-count, edge-count, is-empty};
-ghost use Rattle.shape.specs.Shape.{store, lists};
+ghost use Rattle.shape.specs.Shape.{lists};
+ghost use Rattle.shape.specs.Lent.{at-entry};
 ghost use Rattle.view.specs.Calls.{Answered};
 
 // A number as an answer.
@@ -32,7 +33,7 @@ pub fn node_bound(
     incoming: &[u32],
 ) -> Answer
     ensures { λ r. ⌜ Answered
-        (store counts (now (nodes .entry)) (now (edges .entry)) (now («live_nodes» .entry)) (now («live_edges» .entry)) (now (outgoing .entry)) (now (incoming .entry)))
+        (at-entry counts nodes edges «live_nodes» «live_edges» outgoing incoming)
         (λ w. node-bound-answer (lists w)) r ⌝ }
 {
     let rule = judge(
@@ -61,7 +62,7 @@ pub fn edge_bound(
     incoming: &[u32],
 ) -> Answer
     ensures { λ r. ⌜ Answered
-        (store counts (now (nodes .entry)) (now (edges .entry)) (now («live_nodes» .entry)) (now («live_edges» .entry)) (now (outgoing .entry)) (now (incoming .entry)))
+        (at-entry counts nodes edges «live_nodes» «live_edges» outgoing incoming)
         (λ w. edge-bound-answer (lists w)) r ⌝ }
 {
     let rule = judge(
@@ -90,7 +91,7 @@ pub fn node_count(
     incoming: &[u32],
 ) -> Answer
     ensures { λ r. ⌜ Answered
-        (store counts (now (nodes .entry)) (now (edges .entry)) (now («live_nodes» .entry)) (now («live_edges» .entry)) (now (outgoing .entry)) (now (incoming .entry)))
+        (at-entry counts nodes edges «live_nodes» «live_edges» outgoing incoming)
         (λ w. node-count (lists w)) r ⌝ }
 {
     let rule = judge(
@@ -119,7 +120,7 @@ pub fn edge_count(
     incoming: &[u32],
 ) -> Answer
     ensures { λ r. ⌜ Answered
-        (store counts (now (nodes .entry)) (now (edges .entry)) (now («live_nodes» .entry)) (now («live_edges» .entry)) (now (outgoing .entry)) (now (incoming .entry)))
+        (at-entry counts nodes edges «live_nodes» «live_edges» outgoing incoming)
         (λ w. edge-count (lists w)) r ⌝ }
 {
     let rule = judge(
@@ -148,7 +149,7 @@ pub fn is_empty(
     incoming: &[u32],
 ) -> Answer
     ensures { λ r. ⌜ Answered
-        (store counts (now (nodes .entry)) (now (edges .entry)) (now («live_nodes» .entry)) (now («live_edges» .entry)) (now (outgoing .entry)) (now (incoming .entry)))
+        (at-entry counts nodes edges «live_nodes» «live_edges» outgoing incoming)
         (λ w. is-empty (lists w)) r ⌝ }
 {
     let rule = judge(
