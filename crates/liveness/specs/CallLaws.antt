@@ -1,4 +1,4 @@
--- What callers conclude from the promises: making all live a second time changes nothing, and words made so are words of 64 bits.
+-- What callers conclude from the promise of making all live: the words made so are words of 64 bits.
 use Prim.Native.Nat.{ℕ, _+_, _-_, _*_, _/_, _%_, _^_, _≤_, _<_}
 use native.Mathlib.Omega.{arith}
 use native.Mathlib.Nat.{lt-of-lt-of-le}

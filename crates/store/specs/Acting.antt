@@ -1,5 +1,4 @@
--- What every operation on a store rests on: the walks are well formed again because the shape's own step keeps them so, and live counts follow the flags. And
--- what callers conclude from an operation that was done: the shape and the plain lists are those of the step.
+-- What every operation on a store rests on: the walks are well formed again because the shape's own step keeps them so, and live counts follow the flags.
 use Prim.Native.Nat.{ℕ, _+_, _≤_, _<_}
 use native.Mathlib.Omega.{arith}
 use mathlib.Core.Path.{_≡_}

@@ -1,4 +1,4 @@
--- A whole strip on the shape: its plain lists and compact flag are those of the strip of document 01, and what holds of the shape at its start holds at its end.
+-- A whole strip on the shape: its plain lists and compact flag are those of the strip of document 01.
 use mathlib.Core.Path.{_≡_, refl, ap, ap₂, _∙_}
 use mathlib.Core.Bool.{Bool}
 use mathlib.Core.List.{List, [], _∷_, _++_}
