@@ -159,11 +159,6 @@ retired-over {slots} {n} {es} {entry} {exit} a l =
     subst (λ (m : ℕ). Retired slots (es ++ before-first (live-in (live-flags exit slots)) l) entry exit m) (omega arith)
     (retired-then a (retired-dead slots exit l))
 
--- what was dead stays dead
-pub retired-stays : {slots n : ℕ} {es entry exit : List ℕ} → Retired slots es entry exit n → (k : ℕ) → getD (live-flags entry slots) k false ≡ false
-    → getD (live-flags exit slots) k false ≡ false
-retired-stays gone k dead = gone .flags k ∙ rw dead
-
 -- no more are counted than there are slots
 pub retired-few : {slots n : ℕ} {es entry exit : List ℕ} → Retired slots es entry exit n → n ≤ slots
 retired-few {slots} {entry = entry} a =

@@ -20,7 +20,7 @@ use Rattle.adjacency.specs.declared.cursor.AdjacencyCursor.{AdjacencyCur
 use Rattle.adjacency.specs.declared.cursor.Found.{Found}
 use Rattle.adjacency.specs.declared.cursor.Found.the-variants.{Edge, Done}
 use Rattle.adjacency.specs.declared.cursor.Step.{Step}
-use Rattle.adjacency.specs.Cursor.{word, part-left, part-count, ring-left, remaining, exhausted, base-at, delta-at, ring-step, step-of, found-then, PartWithin, Closed, Ready, from-first, Sought}
+use Rattle.adjacency.specs.Cursor.{word, part-left, part-count, ring-left, remaining, base-at, delta-at, ring-step, step-of, found-then, PartWithin, Closed, Ready, from-first, Sought}
 
 -- as many entries of the run or base part as the cursor's numbers tell
 pub part-counted : (linked : Bool) (entries : List ℕ) (at end : ℕ) → length (part-left linked entries at end) ≡ part-count linked at end
@@ -102,21 +102,6 @@ step-stepped false {entries} {next} {c} r =
     (stepped r (word entries (c .base)) (base-at c (c .base + 1) (c .«base_end»)) (r .short) (omega arith, r .part .1) (r .closed)
     (ap (λ (l : List ℕ). l ++ ring-left next (c .delta) (c .«delta_last»)) (between-some (word entries) (c .base) (c .«base_end») some))))
     (λ q. rw q (ring-stepped r (between-none (word entries) (c .base) (c .«base_end») (ltb-false (c .base) (c .«base_end») q))))
-
--- where nothing remains nothing is found
-pub step-done : (linked : Bool) {entries next : List ℕ} {c : AdjacencyCursor} → Ready linked entries next c → remaining linked entries next c ≡ []
-    → step-of linked entries next c .found ≡ Done
-step-done linked {entries} {next} {c} r none = only (step-of linked entries next c .found) (sym none ∙ step-stepped linked r .left)
-  where
-    only : (f : Found) → [] ≡ found-then f (remaining linked entries next (step-of linked entries next c .cursor)) → f ≡ Done
-    only Done q = refl
-    only (Edge e) q = let z : _≡_ {A = ℕ} 0 1 = cc in absurd (omega arith)
-
--- nothing remains of the exhausted cursor, over any columns
-pub exhausted-remaining : (linked : Bool) (entries next : List ℕ) → remaining linked entries next exhausted ≡ []
-unfolding remaining
-exhausted-remaining true entries next = rw (chain-none (word entries) 0 0 refl)
-exhausted-remaining false entries next = rw (between-none (word entries) 0 0 (omega arith))
 
 -- ---- what a step reads stands in the columns
 

@@ -19,8 +19,8 @@ use Rattle.shape.specs.Columns.{Sized, cell, end-at}
 use Rattle.shape.specs.Kept.{AxisRenewed}
 use Rattle.shape.specs.Laws.Indexing.{Rewritten, before, ends-of, ends-same, length-ends, map-from-same}
 use Rattle.shape.specs.Laws.NewBase.{NewBase, built-by}
-use Rattle.adjacency.specs.Index.{Compressible, Copyable}
-use Rattle.compact.specs.Slots.{Keepable, kept-word, Translatable, translated-word}
+use Rattle.adjacency.specs.Index.{Compressible}
+use Rattle.compact.specs.Slots.{kept-word, Translatable, translated-word}
 
 -- The first m edges have their ends in place, each below n, and the entries are there.
 pub record Rebuildable (ws : List ℕ) (ce cn n m : ℕ) (entries : List ℕ) : Type 0 where
@@ -39,29 +39,9 @@ pub record Rebuilt (ws : List ℕ) (ce cn n m : ℕ) (entries ws' : List ℕ) : 
 
 -- ---- what the calls ask, one after the other
 
-pub copyable : {ws : List ℕ} {ce cn n m : ℕ} {entries a : List ℕ} → Rebuildable ws ce cn n m entries
-    → Rewritten ws a (4 * ce + 5 * cn) (n + 1) (before (ends-of ws m)) → Copyable a ce cn entries m
-copyable pre r =
-    let c = pre .compressible in
-    let sized = c .sized in
-    record {
-      sized = record { edges-within = sized .edges-within; nodes-within = sized .nodes-within; room = rw (r .long) (sized .room) };
-      within = c .edges-fit;
-      there = pre .there;
-    }
-
 -- ---- the axis afterwards
 
 module _ {ws : List ℕ} {ce cn n m : ℕ} {entries ws' : List ℕ} (pre : Rebuildable ws ce cn n m entries) (r : Rebuilt ws ce cn n m entries ws') where
-  -- it is as long as it was
-  pub rebuilt-long : length ws' ≡ length ws
-  rebuilt-long = r .marks .long ∙ r .rings .long ∙ r .lists .long ∙ r .offsets .long
-
-  pub rebuilt-sized : Sized ws' ce cn
-  rebuilt-sized =
-      let sized = pre .compressible .sized in
-      record { edges-within = sized .edges-within; nodes-within = sized .nodes-within; room = rw rebuilt-long (sized .room) }
-
   -- it holds a new base of the ends and the lists
   pub rebuilt-base : (counts : Counts) (lists : List (List ℕ)) → counts .nodes .bound ≡ n → counts .nodes .base ≡ n → counts .edges .bound ≡ m
       → counts .edges .base ≡ m → take m entries ≡ joined lists → Fitted n (ends-of ws m) lists → NewBase ws' ce cn counts (ends-of ws m) lists
@@ -137,9 +117,6 @@ module _ {ws : List ℕ} {ce cn : ℕ} {live : List ℕ} {bound : ℕ} {node-map
   -- there are no more live edges than slots
   few : m ≤ bound
   few = omega (arith, pre .counted, count-length (λ f. f) flags, length-flags live bound)
-
-  pub keepable : Keepable ws live bound
-  keepable = record { there = pre .slots-there; room = omega (arith, pre .slots-fit, pre .sized .room) }
 
   module _ {a : List ℕ} (r : Rewritten ws a 0 (live-count flags) (kept-word ws flags)) where
     -- a live edge's end, moved down

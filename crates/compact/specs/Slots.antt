@@ -3,7 +3,7 @@ use Prim.Native.Nat.{ℕ, _+_, _-_, _*_, _≤_, _<_}
 use mathlib.Core.Path.{_≡_, sym, ap, ap₂, _∙_}
 use mathlib.Core.Bool.{Bool, true, false, cond}
 use mathlib.Core.Logic.{_⊎_, inl, inr}
-use mathlib.Core.List.{List, _++_, map, map-map}
+use mathlib.Core.List.{List, _++_, map}
 use native.Mathlib.Omega.{arith}
 use native.Mathlib.Nat.{zero-add}
 use lib.ListN.{length, getD, take, drop, replicate, length-drop, take-append-drop, List·getD-append}
@@ -14,9 +14,9 @@ use Rattle.plain.specs.Reads.{live-count, live-slots}
 use Rattle.plain.specs.Compaction.{rank, renumbering}
 use Rattle.plain.specs.Renumbering.{lookup}
 use Rattle.plain.specs.Laws.Booleans.{below-or-not}
-use Rattle.plain.specs.Laws.ListLaws.{getD-default, getD-from, map-getD, count-length}
-use Rattle.plain.specs.Laws.Rank.{rank-live, live-below, length-live-slots, live-count-all-live, live-from-all-live}
-use Rattle.plain.specs.Laws.Renumberings.{length-renumbering, lookup-renumbering, renumbering-all-live}
+use Rattle.plain.specs.Laws.ListLaws.{getD-default, getD-from, map-getD}
+use Rattle.plain.specs.Laws.Rank.{live-below, live-count-all-live, live-from-all-live}
+use Rattle.plain.specs.Laws.Renumberings.{length-renumbering, lookup-renumbering}
 use Rattle.shape.specs.Columns.{cell}
 use Rattle.shape.specs.Laws.Indexing.{Rewritten, rewritten-as, rewritten-again, map-from-same, front-range}
 
@@ -57,10 +57,6 @@ map-at flags x live =
     getD-default (renumbering flags) x 0 NONE (let long = length-renumbering 0 flags in let low = live-below flags x live in omega arith)
     ∙ lookup-renumbering flags x
     ∙ ap (λ (b : Bool). cond b (rank flags x) NONE) live
-
--- which is below the number of live slots
-pub map-below : (flags : List Bool) (x : ℕ) → getD flags x false ≡ true → getD (renumbering flags) x 0 < live-count flags
-map-below flags x live = let number = map-at flags x live in let low = rank-live flags x live in omega arith
 
 -- a slice that the map was written to holds it too
 pub written-at : (flags : List Bool) (entry : List ℕ) (x : ℕ) → getD flags x false ≡ true → getD (written (renumbering flags) entry) x 0 ≡ rank flags x
@@ -118,19 +114,6 @@ rewritten-through {b = b} {f = f} entries r s =
 
 -- ---- the words of the live slots
 
--- in slot order
-pub kept-words : (words : List ℕ) (flags : List Bool) → map (kept-word words flags) (from 0 (live-count flags)) ≡ map (λ x. getD words x 0) (live-slots flags)
-kept-words words flags =
-    sym (map-map (λ x. getD words x 0) (λ i. getD (live-slots flags) i 0) (from 0 (live-count flags)))
-    ∙ ap (map (λ x. getD words x 0))
-    (ap (λ (n : ℕ). map (λ i. getD (live-slots flags) i 0) (from 0 n)) (sym (length-live-slots flags)) ∙ map-getD (live-slots flags) 0)
-
--- stand at the front once they are moved down
-pub kept-front : {entry exit : List ℕ} (flags : List Bool) → Rewritten entry exit 0 (live-count flags) (kept-word entry flags) → length flags ≤ length entry
-    → take (live-count flags) exit ≡ map (λ x. getD entry x 0) (live-slots flags)
-kept-front {entry = entry} flags r room =
-    rewritten-front r (let few = count-length (λ f. f) flags in omega arith) ∙ kept-words entry flags
-
 -- ---- where every slot is live
 
 module _ (flags : List Bool) (bound : ℕ) (all : flags ≡ replicate bound true) where
@@ -143,7 +126,3 @@ module _ (flags : List Bool) (bound : ℕ) (all : flags ≡ replicate bound true
   -- no word moves
   pub kept-all-live : {entry exit : List ℕ} → Rewritten entry exit 0 (live-count flags) (kept-word entry flags) → exit ≡ entry
   kept-all-live {entry = entry} r = rewritten-same r (λ i h. ap (λ (x : ℕ). getD entry x 0) (slot-all-live i h ∙ sym (zero-add i)))
-
-  -- the map gives each slot its own number
-  pub written-all-live : (entry : List ℕ) → written (renumbering flags) entry ≡ written (from 0 bound) entry
-  written-all-live entry = ap (λ (l : List ℕ). written l entry) (ap renumbering all ∙ renumbering-all-live 0 bound)

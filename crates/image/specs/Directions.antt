@@ -29,9 +29,6 @@ pub record BaseReadable (ws : List ℕ) (ce cn n m : ℕ) (bytes : List ℕ) (po
   pub entries : SpreadFits bytes position width width ws ce m
 
 module _ {ws : List ℕ} {ce cn n m : ℕ} {bytes : List ℕ} {position width : ℕ} (pre : BaseReadable ws ce cn n m bytes position width) where
-  pub entries-readable : {a : List ℕ} → Rewritten ws a (4 * ce + 5 * cn) (n + 1) (before (ends-of ws m)) → SpreadFits bytes position width width a ce m
-  entries-readable r = spread-as (r .long) (pre .entries)
-
   -- the joined lists that were read, as a list
   pub base-read : {a b c d : List ℕ} → Rewritten ws a (4 * ce + 5 * cn) (n + 1) (before (ends-of ws m)) → Rewritten a b ce m (spread bytes position width width)
       → Rewritten b c (4 * ce) n (λ _. NONE) → Rewritten c d (4 * ce + 4 * cn) n (λ _. 0) → Rebuilt ws ce cn n m (fields-at bytes position width m) d

@@ -1,23 +1,16 @@
--- What callers conclude from the promises: making all live a second time changes nothing, and words made so are words of 64 bits.
+-- What callers conclude from the promise of making all live: the words made so are words of 64 bits.
 use Prim.Native.Nat.{ℕ, _+_, _-_, _*_, _/_, _%_, _^_, _≤_, _<_}
 use native.Mathlib.Omega.{arith}
 use native.Mathlib.Nat.{lt-of-lt-of-le}
 use native.Mathlib.Decide.{decLe}
-use mathlib.Core.Path.{_≡_, sym, ap, _∙_}
+use mathlib.Core.Path.{_≡_, ap, _∙_}
 use mathlib.Core.Bool.{cond}
 use mathlib.Core.List.{List, [], _∷_, _++_, append-assoc}
 use lib.Dec.{eqb}
 use lib.Pow.{pow-pos, pow-mono}
 use lib.ListN.{length, getD, drop, replicate, length-replicate, getD-replicate, List·getD-append}
-use lib.Seq.{drop-append-seam}
 use Rattle.liveness.specs.Calls.{Reset, all-live}
 use Rattle.liveness.specs.FlagLaws.{packed-below}
-
--- words whose slots were all made live are left as they are
-pub reset-again : {entry exit again : List ℕ} {slots : ℕ} → Reset entry slots exit → Reset exit slots again → again ≡ exit
-reset-again {entry} {slots = slots} p q =
-    q .words ∙ ap (λ (l : List ℕ). all-live slots ++ drop (length (all-live slots)) l) (p .words)
-    ∙ ap (λ (l : List ℕ). all-live slots ++ l) (drop-append-seam (all-live slots) (drop (length (all-live slots)) entry)) ∙ sym (p .words)
 
 -- those that hold a bit of a slot have 64 bits
 pub reset-narrow : {entry exit : List ℕ} {slots : ℕ} → Reset entry slots exit → (i : ℕ) → 64 * i < slots → getD exit i 0 < 2 ^ 64

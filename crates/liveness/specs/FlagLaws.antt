@@ -52,11 +52,6 @@ flag-at words n i h = let e : 0 + i ≡ i = omega arith in rw e at (map-from (li
 pub flag-past : (words : List ℕ) (n i : ℕ) → n ≤ i → getD (live-flags words n) i false ≡ false
 flag-past words n i h = List·getD-eq-default (live-flags words n) false (rw (length-flags words n) h)
 
--- no slots, no flags
-pub flags-none : (words : List ℕ) → live-flags words 0 ≡ []
-unfolding live-flags from
-flags-none words = refl
-
 -- one slot more
 pub flags-suc : (words : List ℕ) (n : ℕ) → live-flags words (suc n) ≡ live-flags words n ++ (live-bit words n ∷ [])
 unfolding live-flags

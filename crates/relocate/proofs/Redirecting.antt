@@ -140,10 +140,6 @@ module _ {ws : List ℕ} {ce cn : ℕ} {counts : Counts} {live : List ℕ} {tomb
       abbrev zs : List ℕ
       zs = set vs e new
 
-      -- the other run afterwards
-      abbrev grown-run : List ℕ
-      grown-run = swept flags (taken flags (adjacency-in us ce cn counts new)) ++ (e ∷ [])
-
       room : e < length vs
       room = omega (arith, pre .edge-below, pre .axis .linked .edges-within, come .editable .sized .room)
 

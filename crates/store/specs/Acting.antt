@@ -1,8 +1,7 @@
--- What every operation on a store rests on: the walks are well formed again because the shape's own step keeps them so, and live counts follow the flags. And
--- what callers conclude from an operation that was done: the shape and the plain lists are those of the step.
+-- What every operation on a store rests on: the walks are well formed again because the shape's own step keeps them so, and live counts follow the flags.
 use Prim.Native.Nat.{ℕ, _+_, _≤_, _<_}
 use native.Mathlib.Omega.{arith}
-use mathlib.Core.Path.{_≡_, sym, ap, _∙_}
+use mathlib.Core.Path.{_≡_}
 use mathlib.Core.Bool.{Bool, true, false}
 use mathlib.Core.List.{List}
 use lib.ListN.{getD}
@@ -15,13 +14,12 @@ use Rattle.plain.specs.Laws.WellFormed.{WellFormed}
 use Rattle.liveness.specs.Flags.{live-flags}
 use Rattle.liveness.specs.WordFlags.{count-le}
 use Rattle.liveness.specs.Calls.{Pushed, Cleared}
-use Rattle.shape.specs.Shape.{Words, Shape, capacities, shape-of, plain-of, lists}
+use Rattle.shape.specs.Shape.{Words, Shape, capacities, shape-of, lists}
 use Rattle.shape.specs.Checked.{LiveRight, Checked}
 use Rattle.shape.specs.Steps.{acted, acts, shape-step}
 use Rattle.shape.specs.Laws.CheckedShape.{checked-proper}
-use Rattle.shape.specs.Laws.Stepping.{step-refines}
 use Rattle.shape.specs.Laws.Keeping.{step-proper}
-use Rattle.store.specs.Operations.{SameLengths, Acted, one-more, fewer}
+use Rattle.store.specs.Operations.{SameLengths, one-more, fewer}
 
 -- two shapes with the same parts
 pub shape-ext : {s t : Shape} → s .nodes ≡ t .nodes → s .edges ≡ t .edges → s .base-nodes ≡ t .base-nodes → s .base-edges ≡ t .base-edges
@@ -46,15 +44,6 @@ module _
     pub acted-walks : (v : Words) → Fitting operation → SameLengths w v → shape-of v ≡ acted operation (shape-of w) → WellFormed (capacities v) (lists v)
     acted-walks v fits same shape =
         rw (same .nodes, same .edges, shape, ← step-is) (step-proper (checked-proper w checked) operation fits .walks)
-
-    -- where it was done, the shape is that of the shape's step
-    pub acted-steps : {v : Words} → Acted operation w v → shape-of v ≡ shape-step (capacities w) (shape-of w) operation
-    acted-steps done = done .shape ∙ sym step-is
-
-    -- and the plain lists are those of document 01
-    pub acted-lists : {v : Words} → Acted operation w v → lists v ≡ o .lists
-    acted-lists done =
-        ap plain-of (acted-steps done) ∙ step-refines (checked-proper w checked) operation ∙ ap (λ (q : Outcome). q .lists) comes
 
 -- no more slots are live than there are
 pub live-within : {words : List ℕ} {s : Slots} → LiveRight words (live-flags words (s .bound)) s → s .live ≤ s .bound

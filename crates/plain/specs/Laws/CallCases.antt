@@ -215,10 +215,6 @@ module _ (limits : Capacities) (number : ℕ) (caps : Capacities) (answer : Answ
   within-limits h k = rw (le-ltb (limits .nodes) (caps .nodes) h, le-ltb (limits .edges) (caps .edges) k)
 
 module _ (limits : Capacities) (number : ℕ) (l : Lengths) (h : l .capacities .nodes ≤ limits .nodes) (k : l .capacities .edges ≤ limits .edges) where
-  pub fresh-short : (n : ℕ) → FirstShort (other-slices l) n → fresh-within limits number l ≡ record { number = 2; value = n }
-  unfolding fresh-within
-  fresh-short n s = within-limits limits number (l .capacities) _ h k ∙ ap short-answer (one-short s)
-
   pub fresh-done : LongEnough (other-slices l) → fresh-within limits number l ≡ record { number = 0; value = 0 }
   unfolding fresh-within
   fresh-done s = within-limits limits number (l .capacities) _ h k ∙ ap short-answer (all-long s)

@@ -20,12 +20,6 @@ use Rattle.plain.specs.Laws.ListLaws.{map-snoc, member-append, without-a
 use Rattle.plain.specs.Laws.Rank.{live-below}
 use Rattle.plain.specs.Laws.Directions.{widened-incident, attached-incident, attached-end, detached-incident, detached-list, elsewhere, list-at, end-at, redirected-incident, redirected-end, moved-incident, moved-end}
 
--- a list with no member is empty
-no-member : (l : List ℕ) → ((e : ℕ) → member e l ≡ false) → l ≡ []
-unfolding member
-no-member [] h = refl
-no-member (x ∷ l) h = true-false (rw (eq-eqb x x refl)) (h x)
-
 -- ---- both directions at once
 
 pub each-way : (P : TraversalDirection → Type 0) → P Outgoing → P Incoming → (d : TraversalDirection) → P d
@@ -35,16 +29,6 @@ each-way P o i Incoming = i
 pub incident : {caps : Capacities} {p : Plain} → WellFormed caps p → (d : TraversalDirection) → Incident (edge-flags p) (node-bound p) (incidence d p)
 incident h Outgoing = h .outgoing
 incident h Incoming = h .incoming
-
--- a removed node's lists are empty, and so are those past the bound
-pub dead-node-empty : {caps : Capacities} {p : Plain} → WellFormed caps p → (d : TraversalDirection) (x : ℕ) → getD (node-flags p) x false ≡ false → list-of d p x ≡ []
-dead-node-empty {p = p} h d x dead = no-member (list-of d p x) (λ e. refuted (member e (list-of d p x)) (λ m. true-false (alive e m) dead))
-  where
-    alive : (e : ℕ) → member e (list-of d p x) ≡ true → getD (node-flags p) x false ≡ true
-    alive e m =
-        let k = sym (incident h d .listed x e) ∙ m in
-        let at : end-of d p e ≡ x = eqb-true (end-of d p e) x (and-right (getD (edge-flags p) e false) (eqb (end-of d p e) x) k) in
-        ap (λ (y : ℕ). getD (node-flags p) y false) (sym at) ∙ h .ends-live d e (and-left (getD (edge-flags p) e false) (eqb (end-of d p e) x) k)
 
 -- the flags have the bounds' lengths
 pub length-node-flags : (p : Plain) → length (node-flags p) ≡ node-bound p

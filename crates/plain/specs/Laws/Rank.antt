@@ -6,14 +6,14 @@ use native.Mathlib.Omega.{arith}
 use mathlib.Core.Path.{_≡_, refl, sym, ap, _∙_, subst, fun-ext}
 use mathlib.Core.Bool.{Bool, true, false, cond, _&&_, and-false}
 use mathlib.Core.List.{List, [], _∷_, _++_, map, map-map}
-use lib.ListN.{length, getD, set, take, replicate, length-append, length-set, List·getD-map}
+use lib.ListN.{length, getD, set, take, replicate, length-set, List·getD-map}
 use lib.Dec.{ltb, leb·suc-zero, leb·suc-suc, eqb·suc-zero}
-use borrow.Author.Tests.{ltb-true, ltb-false, lt-ltb, le-ltb}
-use Rattle.plain.specs.Lists.{member, distinct, from, count}
+use borrow.Author.Tests.{ltb-true, ltb-false, lt-ltb}
+use Rattle.plain.specs.Lists.{member, from, count}
 use Rattle.plain.specs.Reads.{live-count, live-from, live-slots}
 use Rattle.plain.specs.Compaction.{rank}
 use Rattle.plain.specs.Laws.Booleans.{by-test, true-false}
-use Rattle.plain.specs.Laws.ListLaws.{getD-default, getD-map, member-map, member-zero-suc, member-at, count-append, from-suc, getD-from, distinct-map, distinct-from, map-unchanged}
+use Rattle.plain.specs.Laws.ListLaws.{getD-default, getD-map, member-map, member-zero-suc, member-at, count-append, from-suc, getD-from, map-unchanged}
 
 -- ---- rank
 
@@ -23,21 +23,6 @@ unfolding rank count
 rank-take flags zero = refl
 rank-take [] (suc x) = refl
 rank-take (b ∷ flags) (suc x) = ap (λ (n : ℕ). cond b 1 0 + n) (rank-take flags x)
-
--- a slot's rank is at most its number
-pub rank-index : (flags : List Bool) (x : ℕ) → rank flags x ≤ x
-unfolding rank
-rank-index flags zero = zero-le
-rank-index [] (suc x) = zero-le
-rank-index (true ∷ flags) (suc x) = let rest = rank-index flags x in omega arith
-rank-index (false ∷ flags) (suc x) = let rest = rank-index flags x in omega arith
-
--- a rank is at most the number of live slots
-pub rank-count : (flags : List Bool) (x : ℕ) → rank flags x ≤ live-count flags
-unfolding rank count
-rank-count flags zero = zero-le
-rank-count [] (suc x) = zero-le
-rank-count (flag ∷ flags) (suc x) = let rest = rank-count flags x in omega arith
 
 -- without slots every rank is 0
 pub rank-none : (x : ℕ) → rank [] x ≡ 0
@@ -65,14 +50,6 @@ live-below [] x h = true-false h refl
 live-below (flag ∷ flags) zero h = suc-le-suc zero-le
 live-below (flag ∷ flags) (suc x) h = suc-le-suc (live-below flags x h)
 
--- ranks ascend with the slots
-pub rank-ascends : (flags : List Bool) (x y : ℕ) → x ≤ y → rank flags x ≤ rank flags y
-unfolding rank
-rank-ascends flags zero y h = zero-le
-rank-ascends [] (suc x) y h = zero-le
-rank-ascends (flag ∷ flags) (suc x) zero h = absurd (not-suc-le-zero h)
-rank-ascends (flag ∷ flags) (suc x) (suc y) h = let rest = rank-ascends flags x y (le-of-suc-le-suc h) in omega arith
-
 -- a slot after a live one has a higher rank
 pub rank-after : (flags : List Bool) (x y : ℕ) → getD flags x false ≡ true → x < y → rank flags x < rank flags y
 unfolding rank
@@ -88,30 +65,6 @@ rank-injective flags x y live-x live-y q =
     (λ h. by-test (ltb y x) (λ k. let more = rank-after flags y x live-y (ltb-true y x k) in absurd (omega arith))
     (λ k. let above = ltb-false x y h in let below = ltb-false y x k in omega arith))
 
--- appended slots leave the ranks below as they were
-pub rank-append : (flags more : List Bool) (x : ℕ) → x ≤ length flags → rank (flags ++ more) x ≡ rank flags x
-unfolding rank
-rank-append flags more zero h = refl
-rank-append [] more (suc x) h = absurd (not-suc-le-zero h)
-rank-append (flag ∷ flags) more (suc x) h = ap (λ (n : ℕ). cond flag 1 0 + n) (rank-append flags more x (le-of-suc-le-suc h))
-
--- the rank of an appended slot is the number of live slots before it
-pub rank-appended : (flags more : List Bool) → rank (flags ++ more) (length flags) ≡ live-count flags
-rank-appended flags more = rank-append flags more (length flags) (omega arith) ∙ rank-end flags (length flags) (omega arith)
-
--- what a live slot appended gives to the ranks: one, after it
-pub rank-pushed : (flags : List Bool) (x : ℕ) → rank (flags ++ (true ∷ [])) x ≡ rank flags x + cond (ltb (length flags) x) 1 0
-unfolding count
-rank-pushed flags x = by-test (ltb (length flags) x) past (λ h. rw h (let same = rank-append flags (true ∷ []) x (ltb-false (length flags) x h) in omega arith))
-  where
-    past : ltb (length flags) x ≡ true → rank (flags ++ (true ∷ [])) x ≡ rank flags x + cond (ltb (length flags) x) 1 0
-    past h =
-        let long = ltb-true (length flags) x h in
-        let one-more = length-append flags (true ∷ []) in
-        let now = rank-end (flags ++ (true ∷ [])) x (omega arith) ∙ count-append (λ f. f) flags (true ∷ []) in
-        let before = rank-end flags x (omega arith) in
-        rw h (omega arith)
-
 -- what a removal takes from the ranks: one, after a live slot removed
 pub rank-removal : (flags : List Bool) (x y : ℕ) → rank flags y ≡ rank (set flags x false) y + cond (getD flags x false && ltb x y) 1 0
 unfolding rank
@@ -120,12 +73,6 @@ rank-removal [] x (suc y) = refl
 rank-removal (true ∷ flags) zero (suc y) = rw (lt-ltb 0 (suc y) (omega arith)) (omega arith)
 rank-removal (false ∷ flags) zero (suc y) = omega arith
 rank-removal (flag ∷ flags) (suc x) (suc y) = rw (leb·suc-suc (suc x) y) (let rest = rank-removal flags x y in omega arith)
-
--- up to the slot removed, itself too, the ranks are as before
-pub rank-before-removed : (flags : List Bool) (x y : ℕ) → y ≤ x → rank (set flags x false) y ≡ rank flags y
-rank-before-removed flags x y h =
-    let law = rw (le-ltb x y h, and-false (getD flags x false)) at (rank-removal flags x y) in
-    omega arith
 
 -- after a live slot removed, each rank is one lower
 pub rank-after-removed : (flags : List Bool) (x y : ℕ) → getD flags x false ≡ true → x < y → suc (rank (set flags x false) y) ≡ rank flags y
@@ -243,26 +190,6 @@ pub getD-at-rank : {A : Type 0} (f : ℕ → A) (flags : List Bool) (x : ℕ) (d
 getD-at-rank f flags x d live =
     getD-map f (live-slots flags) (rank flags x) 0 d (subst (λ (n : ℕ). rank flags x < n) (sym (length-live-slots flags)) (rank-live flags x live))
     ∙ ap f (live-slot-rank flags x 0 live)
-
--- the live slots ascend
-pub live-slots-ascend : (flags : List Bool) (i j : ℕ) → i < j → j < live-count flags → getD (live-slots flags) i 0 < getD (live-slots flags) j 0
-live-slots-ascend flags i j h below =
-    let x = getD (live-slots flags) i 0 in
-    let y = getD (live-slots flags) j 0 in
-    by-test (ltb x y) (ltb-true x y)
-    (λ k.
-    let back = rank-ascends flags y x (ltb-false x y k) in
-    let at-i = rank-live-slot flags i (omega arith) in
-    let at-j = rank-live-slot flags j below in
-    absurd (omega arith))
-
--- no live slot stands there twice
-pub distinct-live-slots : (flags : List Bool) → distinct (live-slots flags) ≡ true
-distinct-live-slots flags =
-    sym (distinct-map (rank flags) (live-slots flags)
-    (λ x y h k. rank-injective flags x y (sym (member-live-slots flags x) ∙ h) (sym (member-live-slots flags y) ∙ k)))
-    ∙ ap distinct (map-rank-live-slots flags)
-    ∙ distinct-from 0 (live-count flags)
 
 -- where every slot is live, as many are live as there are
 pub live-count-all-live : (n : ℕ) → live-count (replicate n true) ≡ n

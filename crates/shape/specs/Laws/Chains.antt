@@ -251,18 +251,6 @@ module _ {link : ℕ → ℕ} {hi f t n : ℕ} {xs : List ℕ} where
 
 -- ---- rings
 
--- up to the last entry, where this is the last
-pub until-last : (link : ℕ → ℕ) (last n e : ℕ) → 0 < n → e ≡ last → until link last n e ≡ e ∷ []
-unfolding until
-until-last link last zero e h q = absurd (not-suc-le-zero h)
-until-last link last (suc n) e h q = rw (eq-eqb e last q)
-
--- up to the last entry, where this is another
-pub until-next : (link : ℕ → ℕ) (last n e : ℕ) → 0 < n → e ≢ last → until link last n e ≡ e ∷ until link last (n - 1) (link e)
-unfolding until
-until-next link last zero e h ne = absurd (not-suc-le-zero h)
-until-next link last (suc n) e h ne = rw (ne-eqb e last ne, sub-one (suc n))
-
 -- a segment up to the last entry, where there is room for all
 pub until-is : (link : ℕ → ℕ) (last n e : ℕ) (ys : List ℕ) → Seg link e ys last → member last ys ≡ false → length ys < n
     → until link last n e ≡ ys ++ (last ∷ [])

@@ -2,32 +2,31 @@
 -- passes rule 4; with every ring empty and no run, that is the whole direction. What compaction and image reading leave.
 use Prim.Native.Nat.{ℕ, suc, _+_, _-_, _*_, _≤_, _<_}
 use mathlib.Core.Path.{_≡_, sym, ap, ap₂, _∙_, subst}
-use mathlib.Core.Bool.{Bool, true, cond, _&&_}
-use mathlib.Core.Logic.{inl, inr, ⊎-elim}
+use mathlib.Core.Bool.{Bool, cond, _&&_}
+use mathlib.Core.Logic.{inl, inr}
 use mathlib.Core.Option.{none}
 use mathlib.Core.List.{List, [], map, map-map}
 use native.Mathlib.Omega.{arith}
 use native.Mathlib.Nat.{zero-add}
-use borrow.Author.Tests.{ne-eqb, lt-ltb, le-ltb, ltb-true}
-use lib.ListN.{length, getD, take, length-map, length-replicate, List·getD-eq-default}
+use borrow.Author.Tests.{lt-ltb, le-ltb, ltb-true}
+use lib.ListN.{length, getD, take}
 use lib.Dec.{eqb, ltb}
 use Rattle.plain.specs.declared.Counts.{Counts}
 use Rattle.plain.specs.Numbers.{NONE}
 use Rattle.plain.specs.Lists.{from, all, count, joined, member, distinct}
 use Rattle.plain.specs.Image.{lists-right, at-their-nodes}
-use Rattle.plain.specs.Laws.Booleans.{by-test, true-false, below-or-not, and-left}
-use Rattle.plain.specs.Laws.ListLaws.{getD-map, map-same, map-getD, length-from, getD-from, member-keep, member-below, distinct-keep, distinct-from}
+use Rattle.plain.specs.Laws.Booleans.{by-test, true-false, and-left}
+use Rattle.plain.specs.Laws.ListLaws.{getD-map, map-same, map-getD, length-from, getD-from, member-below}
 use Rattle.plain.specs.Laws.Below.{Below, below-of, below-all, below-within}
 use Rattle.plain.specs.Laws.Cutting.{sum, length-joined, sum-list-lengths}
 use Rattle.plain.specs.Laws.WellFormed.{Fitted}
-use Rattle.plain.specs.Laws.Fitting.{has-end, live-has-end, incident-fitted}
-use Rattle.shape.specs.Columns.{Sized, cell, end-at, offset-at, last-at, mark-at}
+use Rattle.shape.specs.Columns.{Sized, cell, offset-at, last-at, mark-at}
 use Rattle.shape.specs.Shape.{between, base-of, run-of, run-list, ring-of, Adjacency, Axis, axis-of}
 use Rattle.shape.specs.Chains.{ring}
 use Rattle.shape.specs.Checked.{Index, AxisChecked}
 use Rattle.plain.specs.Laws.Fitting.{fitted-many, fitted-long}
 use Rattle.shape.specs.Laws.Frames.{offset-within}
-use Rattle.shape.specs.Laws.Indexing.{Rewritten, total, before, before-suc, before-zero, before-total, before-all, before-few, ends-of, length-ends, end-of-edge, ends-same, part-of-joined, edges-to, in-order, map-from-same, front-range}
+use Rattle.shape.specs.Laws.Indexing.{Rewritten, total, before, before-suc, before-zero, before-total, before-all, before-few, ends-of, length-ends, end-of-edge, ends-same, part-of-joined, map-from-same, front-range}
 
 -- ---- bounds of a base part
 
@@ -67,60 +66,6 @@ module _ {n : ℕ} {ends : List ℕ} {lists : List (List ℕ)} (f : Fitted n end
   fitted-entries =
       below-all (joined lists)
       (and-left (all (λ e. ltb e (length ends)) (joined lists)) (distinct (joined lists) && at-their-nodes ends 0 lists) (f .right))
-
--- ---- the lists in slot order are fitted
-
-module _ (ws : List ℕ) (n m : ℕ) where
-  -- a list a node
-  pub length-in-order : length (in-order ws n m) ≡ n
-  unfolding in-order
-  length-in-order = length-map (from 0 n) (edges-to ws m) ∙ length-from 0 n
-
-  -- list x has the edges with end x
-  pub list-in-order : (x : ℕ) → x < n → getD (in-order ws n m) x [] ≡ edges-to ws m x
-  unfolding in-order
-  list-in-order x h =
-      getD-map (edges-to ws m) (from 0 n) x 0 [] (rw (length-from 0 n) h) ∙ ap (edges-to ws m) (getD-from 0 n x 0 h ∙ zero-add x)
-
-  -- there is no list past them
-  past-in-order : (x : ℕ) → n ≤ x → getD (in-order ws n m) x [] ≡ []
-  past-in-order x h = List·getD-eq-default (in-order ws n m) [] (let many = length-in-order in omega arith)
-
-  -- its members are those edges
-  member-edges-to : (x e : ℕ) → member e (edges-to ws m x) ≡ (ltb e m && eqb (end-at ws e) x)
-  member-edges-to x e = member-keep (λ d. eqb (end-at ws d) x) e (from 0 m) ∙ ap (λ (b : Bool). b && eqb (end-at ws e) x) (member-below e m)
-
-  -- whether an edge has an end, by its word
-  has-end-of : (x e : ℕ) → has-end (ends-of ws m) x e ≡ (ltb e m && eqb (end-at ws e) x)
-  has-end-of x e =
-      rw (length-ends ws m) (by-test (ltb e m) (λ h. rw (h, end-of-edge ws m e (ltb-true e m h))) (λ h. rw h))
-
-  module _ (below : (e : ℕ) → e < m → end-at ws e < n) where
-    -- every list has the edges with its end, also past the last
-    listed-in-order : (x e : ℕ) → member e (getD (in-order ws n m) x []) ≡ (ltb e m && eqb (end-at ws e) x)
-    unfolding member
-    listed-in-order x e =
-        ⊎-elim (λ h. ap (member e) (list-in-order x h) ∙ member-edges-to x e)
-        (λ h. ap (member e) (past-in-order x h)
-        ∙ sym (by-test (ltb e m) (λ k. let l = below e (ltb-true e m k) in rw (k, ne-eqb (end-at ws e) x (λ q. omega arith))) (λ k. rw k)))
-        (below-or-not x n)
-
-    -- and none twice
-    once-in-order : (x : ℕ) → distinct (getD (in-order ws n m) x []) ≡ true
-    unfolding distinct
-    once-in-order x =
-        ⊎-elim (λ h. ap distinct (list-in-order x h) ∙ distinct-keep (λ d. eqb (end-at ws d) x) (from 0 m) (distinct-from 0 m))
-        (λ h. ap distinct (past-in-order x h)) (below-or-not x n)
-
-    -- the edges with each end, in slot order, are fitted lists
-    pub in-order-fitted : Fitted n (ends-of ws m) (in-order ws n m)
-    in-order-fitted = incident-fitted n m (record { ends = ends-of ws m; lists = in-order ws n m }) (length-ends ws m) (record {
-      ends-length = length-ends ws m ∙ sym (length-replicate m true);
-      lists-length = length-in-order;
-      ends-below = λ e h. let l : e < m = omega (arith, length-replicate m true) in rw (end-of-edge ws m e l) (below e l);
-      listed = λ x e. listed-in-order x e ∙ sym (live-has-end (ends-of ws m) m x e (length-ends ws m) ∙ has-end-of x e);
-      once = once-in-order;
-    })
 
 -- ---- offsets counted from ends
 

@@ -1,5 +1,5 @@
 -- The shape's step is the plain lists' step: what each operation does to base parts, runs and rings is, on the walks, what document 01 says.
-use Prim.Native.Nat.{ℕ, _+_, _≤_, _<_}
+use Prim.Native.Nat.{ℕ, _+_, _<_}
 use mathlib.Core.Path.{_≡_, refl, sym, ap, ap₂, subst, _∙_}
 use mathlib.Core.Bool.{Bool, true, false, cond, _&&_, not}
 use mathlib.Core.Logic.{⊎-elim}
@@ -97,10 +97,6 @@ module _ {caps : Capacities} {s : Shape} (h : Proper caps s) where
   unfolding plain-of
   axis-nodes Outgoing = sym (lists-length (edge-flags-of s) (node-flags-of s) (s .outgoing)) ∙ h .walks .outgoing .lists-length
   axis-nodes Incoming = sym (lists-length (edge-flags-of s) (node-flags-of s) (s .incoming)) ∙ h .walks .incoming .lists-length
-
-  -- past the nodes there is no adjacency
-  past-nodes : (d : TraversalDirection) (x : ℕ) → length (s .nodes) ≤ x → adjacency-of d s x ≡ no-adjacency
-  past-nodes d x l = List·getD-eq-default (axis-in d s .nodes) no-adjacency (rw (axis-nodes d) l)
 
 -- ---- a node added
 

@@ -1,4 +1,4 @@
--- A whole strip on the shape: its plain lists and compact flag are those of the strip of document 01, and what holds of the shape at its start holds at its end.
+-- A whole strip on the shape: its plain lists and compact flag are those of the strip of document 01.
 use mathlib.Core.Path.{_≡_, refl, ap, ap₂, _∙_}
 use mathlib.Core.Bool.{Bool}
 use mathlib.Core.List.{List, [], _∷_, _++_}
@@ -7,12 +7,10 @@ use Rattle.plain.specs.Plain.{Plain}
 use Rattle.plain.specs.Step.{Capacities, State, stepped, run}
 use Rattle.plain.specs.Laws.Stepping.{AllFitting, no-more, one-more}
 use Rattle.shape.specs.Shape.{Shape}
-use Rattle.shape.specs.Checked.{Reached}
 use Rattle.shape.specs.Steps.{shape-step, shape-run, state-of}
 use Rattle.shape.specs.Laws.Refining.{Proper}
 use Rattle.shape.specs.Laws.Stepping.{step-refines}
 use Rattle.shape.specs.Laws.Keeping.{step-proper}
-use Rattle.shape.specs.Laws.Reaching.{step-reached}
 use Rattle.shape.specs.Laws.Compactness.{Based, step-based, step-compact}
 
 -- one operation on lists and flag
@@ -28,18 +26,6 @@ unfolding shape-run run
 run-refines h b no-more = refl
 run-refines {caps} {s} h b (one-more {x} {xs} f fs) =
     run-refines (step-proper h x f) (step-based caps b x) fs ∙ ap (λ (t : State). run caps t xs) (step-state h b x)
-
--- a strip keeps a shape proper
-pub run-proper : {caps : Capacities} {s : Shape} {ops : List Operation} → Proper caps s → AllFitting ops → Proper caps (shape-run caps s ops)
-unfolding shape-run
-run-proper h no-more = h
-run-proper h (one-more {x} f fs) = run-proper (step-proper h x f) fs
-
--- and reached
-pub run-reached : {caps : Capacities} {s : Shape} {ops : List Operation} → Proper caps s → Reached s → AllFitting ops → Reached (shape-run caps s ops)
-unfolding shape-run
-run-reached h r no-more = r
-run-reached h r (one-more {x} f fs) = run-reached (step-proper h x f) (step-reached h r x) fs
 
 -- one operation more
 pub shape-run-snoc : (caps : Capacities) (s : Shape) (ops : List Operation) (x : Operation)
