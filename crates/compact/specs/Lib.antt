@@ -8,9 +8,6 @@ pub mod Working
 pub mod Bases
 pub mod Dropping
 pub mod Settling
-pub mod Compacted
 pub mod Calls
 pub mod Agreeing
-pub mod Again
-pub mod Entry
 pub mod Refuted

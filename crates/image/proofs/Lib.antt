@@ -1,2 +1,4 @@
 pub mod Ordering
 pub mod Checking
+mod Answering
+mod ReadCases

@@ -6,9 +6,7 @@ pub mod Stored
 pub mod Spread
 pub mod Directions
 pub mod Reading
-pub mod Answering
 pub mod Calls
 pub mod Agreeing
 pub mod WriteCases
-pub mod ReadCases
 pub mod Refuted

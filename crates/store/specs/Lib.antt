@@ -1,10 +1,3 @@
-pub mod Made
 pub mod Operations
-pub mod Axes
-pub mod Keeping
 pub mod Acting
-pub mod Adding
-pub mod Editing
-pub mod Clearing
-pub mod Relocating
 pub mod Reads

@@ -1,7 +1,5 @@
 pub mod Step
-pub mod Additions
 pub mod Faults
-pub mod Relocations
 pub mod Fresh
 pub mod Strip
 pub mod Agreeing

@@ -1,6 +1,6 @@
 -- `bits::least_width` meets its contract: each line of the sheet. The arms are met in the order in which the match tests them.
 use native.Mathlib.Omega.{arith}
-use Rattle.bits.specs.Widths.{first-line, line-is}
+use Rattle.bits.proofs.Widths.{first-line, line-is}
 use Rattle.bits.proofs.least_width.Statement.{statement}
 use Rattle.bits.proofs.least_width.Tie as tie
 

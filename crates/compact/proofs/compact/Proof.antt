@@ -1,6 +1,6 @@
 -- `compact` meets its contract: the check, then the three lent slices in order, then the store.
 use borrow.Author.Needs.{needs}
-use Rattle.compact.specs.Entry.{compact-judged, nodes-short, edges-short, work-short, settleable, compact-done}
+use Rattle.compact.proofs.Entry.{compact-judged, nodes-short, edges-short, work-short, settleable, compact-done}
 use Rattle.compact.proofs.compact.Statement.{statement}
 use Rattle.compact.proofs.compact.Tie as tie
 

@@ -1,7 +1,7 @@
 -- `store::add_edge` meets its contract: what it writes is what `edge-acted` asks.
 use borrow.Author.Needs.{needs}
 use Rattle.plain.specs.declared.TraversalDirection.the-variants.{Outgoing, Incoming}
-use Rattle.store.specs.Adding.{edge-raisable, edge-appendable, edge-acted}
+use Rattle.store.proofs.Adding.{edge-raisable, edge-appendable, edge-acted}
 use Rattle.store.proofs.add_edge.Statement.{statement}
 use Rattle.store.proofs.add_edge.Tie as tie
 

@@ -1,7 +1,7 @@
 -- `store::move_adjacency` meets its contract: in either direction `moving`.
 use borrow.Author.Needs.{needs}
 use Rattle.plain.specs.declared.TraversalDirection.the-variants.{Outgoing, Incoming}
-use Rattle.store.specs.Relocating.{told-movable, movable, moving}
+use Rattle.store.proofs.Relocating.{told-movable, movable, moving}
 use Rattle.store.proofs.move_adjacency.Statement.{statement}
 use Rattle.store.proofs.move_adjacency.Tie as tie
 

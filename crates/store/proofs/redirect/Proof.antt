@@ -1,7 +1,7 @@
 -- `store::redirect` meets its contract: in either direction `redirecting`.
 use borrow.Author.Needs.{needs}
 use Rattle.plain.specs.declared.TraversalDirection.the-variants.{Outgoing, Incoming}
-use Rattle.store.specs.Relocating.{redirectable, redirecting}
+use Rattle.store.proofs.Relocating.{redirectable, redirecting}
 use Rattle.store.proofs.redirect.Statement.{statement}
 use Rattle.store.proofs.redirect.Tie as tie
 

@@ -3,7 +3,7 @@ use native.Mathlib.Omega.{arith}
 use mathlib.Core.Path.{refl}
 use borrow.Author.Needs.{needs}
 use Rattle.plain.specs.declared.TraversalDirection.the-variants.{Outgoing, Incoming}
-use Rattle.store.specs.Clearing.{clearing-none, node-counted, node-clearable, edges-counted, edges-few, clearing-live}
+use Rattle.store.proofs.Clearing.{clearing-none, node-counted, node-clearable, edges-counted, edges-few, clearing-live}
 use Rattle.store.proofs.remove_node.Statement.{statement}
 use Rattle.store.proofs.remove_node.Tie as tie
 

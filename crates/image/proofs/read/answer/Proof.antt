@@ -4,7 +4,7 @@ use native.Mathlib.Omega.{arith}
 use borrow.Author.Needs.{needs}
 use Rattle.plain.specs.Image.{broken-image}
 use Rattle.image.specs.Reading.{count-room}
-use Rattle.image.specs.Answering.{whole-told, broken-told}
+use Rattle.image.proofs.Answering.{whole-told, broken-told}
 use Rattle.image.proofs.read.answer.Statement.{statement}
 use Rattle.image.proofs.read.answer.Tie as tie
 

@@ -1,7 +1,7 @@
 -- `read::read_image` meets its contract: the answer, then the store.
 use borrow.Author.Needs.{needs}
 use Rattle.shape.specs.Shape.{store}
-use Rattle.image.specs.ReadCases.{read-refused, accepted, read-done}
+use Rattle.image.proofs.ReadCases.{read-refused, accepted, read-done}
 use Rattle.image.proofs.read.read_image.Statement.{statement}
 use Rattle.image.proofs.read.read_image.Tie as tie
 

@@ -2,7 +2,7 @@
 use mathlib.Core.Path.{sym, _∙_}
 use borrow.Author.Needs.{needs}
 use Rattle.strip.specs.Faults.{no-node-fault}
-use Rattle.strip.specs.Additions.{source-fault, target-fault, edge-full, edge-added}
+use Rattle.strip.proofs.Additions.{source-fault, target-fault, edge-full, edge-added}
 use Rattle.strip.proofs.step.add_edge.Statement.{statement}
 use Rattle.strip.proofs.step.add_edge.Tie as tie
 

@@ -1,6 +1,6 @@
 -- `step::add_node` meets its contract: refused where the bound is the capacity, else the store's addition.
 use borrow.Author.Needs.{needs}
-use Rattle.strip.specs.Additions.{node-full, node-added}
+use Rattle.strip.proofs.Additions.{node-full, node-added}
 use Rattle.strip.proofs.step.add_node.Statement.{statement}
 use Rattle.strip.proofs.step.add_node.Tie as tie
 

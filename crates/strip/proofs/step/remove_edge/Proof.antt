@@ -1,6 +1,6 @@
 -- `step::remove_edge` meets its contract: the value is whether something live was there.
 use borrow.Author.Needs.{needs}
-use Rattle.strip.specs.Additions.{edge-removed, no-edge-removed}
+use Rattle.strip.proofs.Additions.{edge-removed, no-edge-removed}
 use Rattle.strip.proofs.step.remove_edge.Statement.{statement}
 use Rattle.strip.proofs.step.remove_edge.Tie as tie
 

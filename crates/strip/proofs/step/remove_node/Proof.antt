@@ -1,6 +1,6 @@
 -- `step::remove_node` meets its contract: the value is whether something live was there.
 use borrow.Author.Needs.{needs}
-use Rattle.strip.specs.Additions.{node-removed, no-node-removed}
+use Rattle.strip.proofs.Additions.{node-removed, no-node-removed}
 use Rattle.strip.proofs.step.remove_node.Statement.{statement}
 use Rattle.strip.proofs.step.remove_node.Tie as tie
 

@@ -1,6 +1,6 @@
 -- `step::set_payload` meets its contract: refused at or above the bound, else the store's.
 use borrow.Author.Needs.{needs}
-use Rattle.strip.specs.Additions.{payload-absent, payload-set}
+use Rattle.strip.proofs.Additions.{payload-absent, payload-set}
 use Rattle.strip.proofs.step.set_payload.Statement.{statement}
 use Rattle.strip.proofs.step.set_payload.Tie as tie
 

@@ -32,8 +32,8 @@ use Rattle.shape.specs.Laws.Reading.{made-at, node-flags-are}
 use Rattle.adjacency.specs.Walk.{walk-in}
 use Rattle.adjacency.specs.Clear.{Retired, Clearable}
 use Rattle.adjacency.specs.StoreClears.{checked-clearable, retired-slots, retired-within, retired-right, node-retired, node-dead}
-use Rattle.store.specs.Keeping.{cleared-word, cleared-other, retired-word}
-use Rattle.store.specs.Made.{slots-set}
+use Rattle.store.proofs.Keeping.{cleared-word, cleared-other, retired-word}
+use Rattle.store.proofs.Made.{slots-set}
 use Rattle.store.specs.Operations.{SameLengths, Acted, RemovedNode, fewer}
 use Rattle.store.specs.Acting.{shape-ext, acted-walks, live-within, some-live, cleared-right}
 

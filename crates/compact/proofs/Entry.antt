@@ -27,9 +27,9 @@ use Rattle.store.specs.Operations.{same-lengths}
 use Rattle.compact.specs.ListsStore.{settled-well-formed, settled-node-flags, settled-edge-flags}
 use Rattle.compact.specs.Settling.{Settleable, Settling, droppable}
 use Rattle.compact.specs.Holding.{holding-shape, holding-state, holding-reached, holding-checked, holding-canonical}
-use Rattle.compact.specs.Compacted.{dropped-holding, dropped-renewed}
+use Rattle.compact.proofs.Compacted.{dropped-holding, dropped-renewed}
 use Rattle.compact.specs.Calls.{seen, compacting-of, CompactOf}
-use Rattle.compact.specs.Again.{dropped-again}
+use Rattle.compact.proofs.Again.{dropped-again}
 
 module _ (w : Words) (node-map edge-map work : List ℕ) where
   -- refused: not a word changes

@@ -23,10 +23,10 @@ use Rattle.shape.specs.Writes.{WritesAxis}
 use Rattle.shape.specs.Steps.{appended, acted}
 use Rattle.shape.specs.Laws.Reading.{node-bound-is, edge-bound-is, node-flags-are}
 use Rattle.adjacency.specs.Rings.{Openable, Opened, Appendable, Appended}
-use Rattle.store.specs.Keeping.{pushed-word, pushed-other, opened-kept, appended-kept, appended-writes}
-use Rattle.store.specs.Made.{slots-more}
+use Rattle.store.proofs.Keeping.{pushed-word, pushed-other, opened-kept, appended-kept, appended-writes}
+use Rattle.store.proofs.Made.{slots-more}
 use Rattle.store.specs.Operations.{SameLengths, Acted, one-more, with-nodes, with-edges, Raisable, NodeAddable, EdgeAddable}
-use Rattle.store.specs.Axes.{opened-axis, opened-checked, appended-axis, appended-checked}
+use Rattle.store.proofs.Axes.{opened-axis, opened-checked, appended-axis, appended-checked}
 use Rattle.store.specs.Acting.{shape-ext, acted-walks, live-within, pushed-right}
 
 -- ---- a node

@@ -24,8 +24,8 @@ use Rattle.shape.specs.Checked.{AxisChecked, Checked}
 use Rattle.shape.specs.Kept.{AxisKept, axis-kept-none}
 use Rattle.shape.specs.Steps.{retired, acted}
 use Rattle.shape.specs.Laws.Reading.{made-at, edge-bound-is, edge-flags-are}
-use Rattle.store.specs.Keeping.{cleared-word, cleared-other}
-use Rattle.store.specs.Made.{slots-set}
+use Rattle.store.proofs.Keeping.{cleared-word, cleared-other}
+use Rattle.store.proofs.Made.{slots-set}
 use Rattle.store.specs.Operations.{SameLengths, Acted, RemovedEdge, fewer, with-edges, PayloadSettable}
 use Rattle.store.specs.Acting.{shape-ext, acted-walks, some-live, cleared-right}
 

@@ -14,7 +14,7 @@ use Rattle.shape.specs.Kept.{AxisRenewed, Renewed, nothing-spared, renewed-none
 use Rattle.store.specs.Operations.{same-lengths}
 use Rattle.compact.specs.Holding.{holding-shape, holding-state, holding-reached, holding-checked, holding-canonical}
 use Rattle.image.specs.Reading.{Accepted, Placed, placed-holding, placed-renewed}
-use Rattle.image.specs.Answering.{read-accepted}
+use Rattle.image.proofs.Answering.{read-accepted}
 use Rattle.image.specs.Calls.{ReadOf}
 
 module _ (w : Words) (bytes : List ℕ) (answer : Answer) (told : answer ≡ read-image (lengths-of w) bytes) where

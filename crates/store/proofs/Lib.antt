@@ -1,0 +1,7 @@
+mod Adding
+mod Axes
+mod Clearing
+mod Editing
+mod Keeping
+mod Made
+mod Relocating

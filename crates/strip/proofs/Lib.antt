@@ -1,0 +1,2 @@
+mod Additions
+mod Relocations
