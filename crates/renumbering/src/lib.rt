@@ -3,6 +3,7 @@
 
 use plain::Answer;
 use plain::NONE;
+use plain::numbers;
 ghost use mathlib.Core.Path.{_≡_};
 ghost use Rattle.plain.specs.Renumbering.{lookup as found, is-identity-map};
 ghost use Rattle.renumbering.specs.Calls.{through, Lookup, Compose, IsIdentity};
@@ -24,7 +25,7 @@ pub fn lookup(renumbering: &[u32], slot: u32) -> Answer
 {
     let new = translate(renumbering, slot);
     Answer {
-        number: 0,
+        number: numbers::DONE,
         value: new as u64,
     }
 }
@@ -45,7 +46,7 @@ pub fn compose(first: &[u32], second: &[u32], result: &mut [u32]) -> Answer
 {
     if result.len() < first.len() {
         return Answer {
-            number: 2,
+            number: numbers::TOO_SHORT,
             value: first.len() as u64,
         };
     }
@@ -55,7 +56,7 @@ pub fn compose(first: &[u32], second: &[u32], result: &mut [u32]) -> Answer
         i += 1;
     }
     Answer {
-        number: 0,
+        number: numbers::DONE,
         value: 0,
     }
 }
@@ -81,13 +82,13 @@ pub fn is_identity(nodes: &[u32], edges: &[u32]) -> Answer
     if is_identity_map(nodes) {
         if is_identity_map(edges) {
             return Answer {
-                number: 0,
+                number: numbers::DONE,
                 value: 1,
             };
         }
     }
     Answer {
-        number: 0,
+        number: numbers::DONE,
         value: 0,
     }
 }

@@ -24,12 +24,12 @@ pub fn yes_or_no(test: bool) -> Answer
 {
     if test {
         return Answer {
-            number: 0,
+            number: numbers::DONE,
             value: 1,
         };
     }
     Answer {
-        number: 0,
+        number: numbers::DONE,
         value: 0,
     }
 }
@@ -66,7 +66,7 @@ pub fn node_payload(
     let at = node as usize;
     if node < slots.bound {
         return Answer {
-            number: 0,
+            number: numbers::DONE,
             value: nodes[at] as u64,
         };
     }
@@ -95,7 +95,7 @@ pub fn edge_record(
     let at = edge as usize;
     if edge < slots.bound {
         return Record {
-            number: 0,
+            number: numbers::DONE,
             value: 0,
             source: outgoing[at],
             target: incoming[at],

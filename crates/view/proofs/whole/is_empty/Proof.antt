@@ -2,7 +2,7 @@
 use mathlib.Core.Path.{_∙_}
 use borrow.Author.Needs.{needs}
 use Rattle.view.specs.Calls.{answer-refuses, answer-done}
-use Rattle.view.proofs.Whole.{is-empty-read}
+use Rattle.view.specs.Whole.{is-empty-read}
 use Rattle.view.proofs.whole.is_empty.Statement.{statement}
 use Rattle.view.proofs.whole.is_empty.Tie as tie
 

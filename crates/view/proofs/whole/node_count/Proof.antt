@@ -2,7 +2,7 @@
 use mathlib.Core.Path.{_∙_}
 use borrow.Author.Needs.{needs}
 use Rattle.view.specs.Calls.{answer-refuses, answer-done}
-use Rattle.view.proofs.Whole.{node-count-read}
+use Rattle.view.specs.Whole.{node-count-read}
 use Rattle.view.proofs.whole.node_count.Statement.{statement}
 use Rattle.view.proofs.whole.node_count.Tie as tie
 

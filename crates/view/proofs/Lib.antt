@@ -1,2 +1,0 @@
-mod Finding
-mod Whole
