@@ -2,6 +2,7 @@
 use Prim.Native.Nat.{ℕ, zero, suc, _*_, _≤_, _<_}
 use mathlib.Core.Path.{_≡_, refl, sym, ap, _∙_}
 use mathlib.Core.Bool.{Bool, true}
+use mathlib.Core.Logic.{inl}
 use mathlib.Core.List.{List, [], _++_, append-assoc}
 use native.Mathlib.Omega.{arith}
 use lib.ListN.{length, take, drop, length-map, length-append, length-drop}
@@ -26,7 +27,7 @@ use Rattle.validate.specs.Judging.{Judged}
 use Rattle.store.specs.Operations.{same-lengths}
 use Rattle.compact.specs.ListsStore.{settled-well-formed, settled-node-flags, settled-edge-flags}
 use Rattle.compact.specs.Settling.{Settleable, Settling, droppable}
-use Rattle.compact.specs.Holding.{holding-shape, holding-state, holding-reached, holding-checked, holding-canonical}
+use Rattle.compact.specs.Holding.{holding-shape, holding-state, holding-reached, holding-checked, holding-canonical, canonical-leaves}
 use Rattle.compact.proofs.Compacted.{dropped-holding, dropped-renewed}
 use Rattle.compact.specs.Calls.{seen, compacting-of, CompactOf}
 use Rattle.compact.proofs.Again.{dropped-again}
@@ -51,6 +52,7 @@ module _ (w : Words) (node-map edge-map work : List ℕ) where
     refused-keeps = λ h. refl;
     renewed = renewed-none w;
     spared = nothing-spared w;
+    leaves = λ p out. inl refl;
   }
 
   -- "words are no store | 1 | rule 1 to 7 | everything"
@@ -205,4 +207,5 @@ module _ (w : Words) (node-map edge-map work : List ℕ) where
                 spared = let c = holding-checked holding in
                     renewed-spared (omega (arith, c .nodes .bound-within, r .lengths .nodes)) (omega (arith, c .edges .bound-within, r .lengths .edges))
                     (dropped-renewed pre r);
+                leaves = canonical-leaves w v (r .lengths .nodes) (r .lengths .edges) (holding-canonical holding) (dropped-renewed pre r);
               }

@@ -15,6 +15,7 @@ use Rattle.shape.specs.Columns.{cell, offset-at, last-at, mark-at}
 use Rattle.shape.specs.Shape.{Words, axis-words, shape-of, lists, settled, is-compact}
 use Rattle.shape.specs.Checked.{Checked, Reached}
 use Rattle.shape.specs.Kept.{Renewed, Spared}
+use Rattle.shape.specs.Fields.{RenewalLeaves}
 use Rattle.shape.specs.Rules.{broken}
 use Rattle.shape.specs.Steps.{state-of}
 use Rattle.shape.specs.Laws.Indexing.{before, ends-of}
@@ -65,6 +66,8 @@ pub record CompactOf (w : Words) (node-map edge-map work : List ℕ) (number val
   pub again : number ≡ 0 → Canonical w → v ≡ w
   pub lengths : SameLengths w v
   pub refused-keeps : (number ≡ 0 → ⊥) → v ≡ w
-  -- of the words that are no field: none past the bounds, no link, no first, tail or count, and no spare one is written; every field is fixed (Agreeing)
+  -- column by column: no word past the bounds, no link, no first, tail or count, and no spare one is written; every field is fixed (Agreeing)
   pub renewed : Renewed w v
   pub spared : Spared w v
+  -- of what is no field (`NoField`): all is as it was but the offset of a store without a node, and nothing is left to the program
+  pub leaves : RenewalLeaves w v

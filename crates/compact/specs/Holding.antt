@@ -30,9 +30,12 @@ use Rattle.liveness.specs.Calls.{Reset, all-live}
 use Rattle.shape.specs.Columns.{Sized, cell}
 use Rattle.shape.specs.Shape.{Words, capacities, node-live, edge-live, axis-words, shape-of, plain-of, lists}
 use Rattle.shape.specs.Checked.{LiveRight, AxisChecked, Checked, Reached}
+use Rattle.shape.specs.Kept.{Renewed}
+use Rattle.shape.specs.Fields.{RenewalLeaves}
 use Rattle.shape.specs.Steps.{state-of}
-use Rattle.shape.specs.Laws.Indexing.{before, ends-of}
+use Rattle.shape.specs.Laws.Indexing.{before, ends-of, before-zero}
 use Rattle.shape.specs.Laws.NewBase.{NewBase, new-axis, new-checked}
+use Rattle.shape.specs.Laws.NoFields.{renewed-leaves}
 use Rattle.store.specs.Acting.{shape-ext}
 use Rattle.compact.specs.Survivors.{shape-of-survivors, survivors-plain, survivors-state, survivors-reached}
 use Rattle.compact.specs.Calls.{AxisCanonical, Canonical}
@@ -228,3 +231,9 @@ module _ {v : Words} {s : Survivors} (h : Holding v s) where
     edge-words = subst (λ (n : ℕ). Reset (v .live-edges) n (v .live-edges)) (sym edges-bound) (h .live-edges);
     axis = directions;
   }
+
+-- What is no field is as it was where such a store stands in place of another, but for the offset of no node.
+pub canonical-leaves : (w v : Words) → length (v .nodes) ≡ length (w .nodes) → length (v .edges) ≡ length (w .edges) → Canonical v → Renewed w v → RenewalLeaves w v
+canonical-leaves w v nodes edges c k =
+    renewed-leaves w v nodes edges (c .nodes-based, c .edges-based)
+    (λ d. c .axis d .offsets 0 (omega arith) ∙ before-zero (ends-of (axis-words d v) (v .counts .edges .bound))) k

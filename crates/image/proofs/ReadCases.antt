@@ -2,6 +2,7 @@
 use Prim.Native.Nat.{ℕ}
 use native.Mathlib.Omega.{arith}
 use mathlib.Core.Path.{_≡_, refl, sym, ap, _∙_}
+use mathlib.Core.Logic.{inl}
 use mathlib.Core.List.{List}
 use lib.ListN.{length}
 use Rattle.plain.specs.declared.TraversalDirection.{TraversalDirection}
@@ -12,7 +13,7 @@ use Rattle.plain.specs.Calls.{read-image}
 use Rattle.shape.specs.Shape.{Words, store, lengths-of, axis-words}
 use Rattle.shape.specs.Kept.{AxisRenewed, Renewed, nothing-spared, renewed-none, renewed-spared}
 use Rattle.store.specs.Operations.{same-lengths}
-use Rattle.compact.specs.Holding.{holding-shape, holding-state, holding-reached, holding-checked, holding-canonical}
+use Rattle.compact.specs.Holding.{holding-shape, holding-state, holding-reached, holding-checked, holding-canonical, canonical-leaves}
 use Rattle.image.specs.Reading.{Accepted, Placed, placed-holding, placed-renewed}
 use Rattle.image.proofs.Answering.{read-accepted}
 use Rattle.image.specs.Calls.{ReadOf}
@@ -31,6 +32,7 @@ module _ (w : Words) (bytes : List ℕ) (answer : Answer) (told : answer ≡ rea
     refused-keeps = λ h. refl;
     renewed = renewed-none w;
     spared = nothing-spared w;
+    leaves = λ p out. inl refl;
   }
 
   module _ (done : answer .number ≡ 0) where
@@ -70,6 +72,7 @@ module _ (w : Words) (bytes : List ℕ) (answer : Answer) (told : answer ≡ rea
           renewed = renewed;
           spared = let c = holding-checked holding in
               renewed-spared (omega (arith, c .nodes .bound-within, same .nodes)) (omega (arith, c .edges .bound-within, same .edges)) renewed;
+          leaves = canonical-leaves w v (same .nodes) (same .edges) (holding-canonical holding) renewed;
         }
       where
         axis-left : {v : Words} → Placed (store counts (w .nodes) (w .edges) (w .live-nodes) (w .live-edges) (w .outgoing) (w .incoming)) bytes v → (d : TraversalDirection)

@@ -9,6 +9,7 @@ use Rattle.plain.specs.Calls.{read-image, read-state, write-image}
 use Rattle.shape.specs.Shape.{Words, lengths-of, shape-of}
 use Rattle.shape.specs.Checked.{Checked, Reached}
 use Rattle.shape.specs.Kept.{Renewed, Spared}
+use Rattle.shape.specs.Fields.{RenewalLeaves}
 use Rattle.shape.specs.Steps.{state-of}
 use Rattle.store.specs.Operations.{SameLengths}
 use Rattle.compact.specs.Survivors.{shape-of-survivors}
@@ -30,6 +31,8 @@ pub record ReadOf (w : Words) (bytes : List ℕ) (number value : ℕ) (v : Words
   pub lengths : SameLengths w v
   -- not a word and not a count
   pub refused-keeps : (number ≡ 0 → ⊥) → v ≡ w
-  -- of the words that are no field: none past the bounds, no link, no first, tail or count, and no spare one is written; every field is fixed (Agreeing)
+  -- column by column: no word past the bounds, no link, no first, tail or count, and no spare one is written; every field is fixed (Agreeing)
   pub renewed : Renewed w v
   pub spared : Spared w v
+  -- of what is no field (`NoField`): all is as it was but the offset of a store without a node, and nothing is left to the program
+  pub leaves : RenewalLeaves w v

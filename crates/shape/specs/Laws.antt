@@ -17,4 +17,5 @@ pub mod Judging
 pub mod CheckedShape
 pub mod Running
 pub mod Fields
+pub mod NoFields
 pub mod Agreeing

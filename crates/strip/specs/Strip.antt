@@ -19,8 +19,10 @@ use Rattle.shape.specs.Shape.{Words, Shape, capacities, shape-of}
 use Rattle.shape.specs.Checked.{Checked, Reached}
 use Rattle.shape.specs.Rules.{broken}
 use Rattle.shape.specs.Kept.{Kept, Spared, kept-none, kept-through, kept-spared, nothing-spared}
+use Rattle.shape.specs.Fields.{StripLeaves}
 use Rattle.shape.specs.Steps.{shape-step, shape-run, state-of}
 use Rattle.shape.specs.Laws.Running.{shape-run-snoc}
+use Rattle.shape.specs.Laws.NoFields.{kept-leaves}
 use Rattle.adjacency.specs.Reading.{write-one}
 use Rattle.validate.specs.Judging.{Judged}
 use Rattle.store.specs.Operations.{SameLengths, same-lengths}
@@ -68,10 +70,12 @@ pub record StripOf (w : Words) (words entry : List ℕ) (number value : ℕ) (v 
   pub steps : number ≡ 0 → Steps w (operations words) v
   -- "a lent slice too short .. everything": not a word of the store changes
   pub refused-keeps : (number ≡ 0 → ⊥) → v ≡ w
-  -- of the words that are no field: none of the index, none past the bounds and no spare one is written; and a mark is as it was, or 1 where it was 0, so that
-  -- every field is fixed (Agreeing)
+  -- column by column: no word of the index, none past the bounds and no spare one is written; and a mark is as it was, or 1 where it was 0, so that every field is
+  -- fixed (Agreeing)
   pub kept : Kept w v
   pub spared : Spared w v
+  -- of what is no field (`NoField`): which words are as they were, and which are left to the program
+  pub leaves : StripLeaves w v
 
 -- ---- the words
 
@@ -216,6 +220,7 @@ module _ (w : Words) (words entry : List ℕ) where
         refused-keeps = λ h. refl;
         kept = kept-none w;
         spared = nothing-spared w;
+        leaves = λ p out held. refl;
       }
 
   -- "words are no store | 1 | rule 1 to 7 | everything"
@@ -276,4 +281,5 @@ module _ (w : Words) (words entry : List ℕ) where
               kept = ran .kept;
               spared = let c = ran .checked in
                   kept-spared (omega (arith, c .nodes .bound-within, ran .lengths .nodes)) (omega (arith, c .edges .bound-within, ran .lengths .edges)) (ran .kept);
+              leaves = kept-leaves w v (ran .lengths .nodes) (ran .lengths .edges) (ran .kept);
             }
