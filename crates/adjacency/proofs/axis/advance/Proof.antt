@@ -1,5 +1,13 @@
--- `adjacency::axis::advance` meets its contract: a walk of its MIR, by hand. The borrow is opened, the cursor is copied out, the axis is taken apart, `seek` is called on the cursor, two slices of the axis and the liveness words, the cursor that `seek` returned is stored, and the borrow is closed at it.
--- All that the proof knows of `seek` is that it meets its contract. It has a lifetime for each slice: the axis's two are both at 'a, each with half of its token.
+-- `adjacency::axis::advance` meets its contract: a walk of its MIR, by hand, since it writes through `&mut` of a struct and takes a struct of slices. The argument:
+-- 1. At entry the frame owns the borrow of the cursor with its token, the axis with the token of 'a, and the liveness words with theirs.
+-- 2. The borrow is opened: for the time of the call the place of the cursor is the frame's own, and the promise to close it is kept beside.
+-- 3. The cursor is copied out of the place, and the axis is taken apart into its three slices. `seek` reads two of them and the liveness words.
+-- 4. `seek` has a lifetime for each slice; the axis has one. So the token of 'a is split, and each of the two slices goes with half of it; after the call the
+--    halves are joined again.
+-- 5. What the slices own is copied before the call, since they go by `&` and the frame gives them back at the end.
+-- 6. `seek` answers a step: a cursor and what was found, with `Sought` from the cursor that was passed. Its cursor is stored at the place.
+-- 7. The borrow is closed at that cursor, which is then the value at exit that the contract speaks of, and what was found is returned.
+-- Of `seek` the proof knows only that it meets its contract.
 use mathlib.Core.Path.{_≡_, refl, ap, subst}
 use Prim.Native.Nat.{ℕ, _<_, _^_}
 use mathlib.Core.Bool.{Bool}

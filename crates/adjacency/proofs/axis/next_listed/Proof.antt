@@ -1,5 +1,15 @@
--- `adjacency::axis::next_listed` meets its contract: a walk of its MIR, by hand. The cursor is copied to a local, the axis that `Axis::of` returns is held in another, the first is lent to `advance` for a lifetime that is made for the call, and comes back at the last value that `advance` ensures. All that the proof knows of the two is that each meets its contract.
--- In a local of a body MIR erases the lifetime of the struct's type, so the axis is shown to have the type at `erased`.
+-- `adjacency::axis::next_listed` meets its contract: a walk of its MIR, by hand, since the body lends a local and holds a struct of references. The argument:
+-- 1. At entry the frame owns a share of the lifetime token of each lent slice, and what each parameter owns. The cursor is copied to the local `lent` (_9).
+-- 2. What the words own is copied, for the axis borrows them; one copy goes to `Axis::of` with its token, the other is kept for the return (`goes-of`).
+-- 3. `Axis::of` answers some axis r whose parts are the columns of the words (`of-said`). It is put into a local: there MIR erases the lifetime of the struct's
+--    type, so the axis is shown to have the type at `erased` (`αᵉ`).
+-- 4. A lifetime ν is made for the call of `advance`. The local of the cursor becomes a place (`lies-in`) and is lent for ν under the name δ (`lends-ref`): the
+--    frame keeps the lender's part, which gives the place back once ν has ended.
+-- 5. `advance` is called with the borrow, the axis and the liveness words (`goes-adv`). It asks that the cursor is seekable along the axis, which `seekable-along`
+--    has from the contract's `Advanceable` and from what the axis holds. It answers f, and ensures of some last cursor that f was sought from h to there.
+-- 6. ν is ended, and the lender's part gives the local back at that last cursor (`ref-back`, `lies-out`).
+-- 7. Cursor and answer make the step, the locals are freed, and the postcondition is `Advanced`, which `sought-along` has from 3 and 5 (`exits`).
+-- Of the two callees the proof knows only that each meets its contract.
 use mathlib.Core.Path.{_≡_, refl, ap, subst}
 use Prim.Native.Nat.{ℕ, _<_, _^_}
 use mathlib.Core.Bool.{Bool}

@@ -1,5 +1,11 @@
--- `adjacency::axis::Axis::of` meets its contract: a walk of its MIR, by hand. Three covered functions give the three parts of the packed slice, and the axis is built of them. All that the proof knows of the three is that each meets its contract.
--- What each part owns is kept beside the locals, and together it is what the axis owns.
+-- `adjacency::axis::Axis::of` meets its contract: a walk of its MIR, by hand, since it returns a struct of references. The argument:
+-- 1. At entry the frame owns the token of 'a and what the packed words own, a shared slice; that can be copied, as often as a part is taken of it.
+-- 2. Three covered functions are called in turn, each with a copy and the token, which comes back: `offsets_of`, `walk::entries_of`, `walk::next_of`.
+-- 3. Each answers a shared slice at 'a and ensures which part of the words it is. The slice goes into a local; what it owns is kept beside the locals, because
+--    a local holds only the machine value, an address and a length.
+-- 4. The axis is built of the three machine values. What the three slices own, taken together, is what a struct of three slices owns.
+-- 5. What was ensured of the three is, field by field, `Columns` of the axis; the words go back as they came.
+-- Of the three functions the proof knows only that each meets its contract.
 use mathlib.Core.Path.{_≡_, refl, ap, subst}
 use Prim.Native.Nat.{ℕ, _<_, _^_}
 use mathlib.Core.Bool.{Bool}
