@@ -1,4 +1,4 @@
--- What a store is that passes the check, `Checked`, and what holds besides of every store that a fresh one or an image led to, `Reached`.
+-- What a store is that passes the check, `Checked`.
 -- Which words of a checked store are fields, and that no other changes what is read of it or the check, is said in Fields and Laws.Fields.
 use Prim.Native.Nat.{ℕ, suc, _*_, _≤_, _<_}
 use mathlib.Core.Path.{_≡_}
@@ -15,7 +15,7 @@ use Rattle.plain.specs.Laws.WellFormed.{WellFormed}
 use Rattle.liveness.specs.Flags.{packed}
 use Rattle.shape.specs.Columns.{Sized, cell, end-at, adjacency-at, last-at, first-at, tail-at, count-at, mark-at, offset-at}
 use Rattle.shape.specs.Chains.{In, Run, Ring}
-use Rattle.shape.specs.Shape.{Words, capacities, node-live, edge-live, axis-words, run-list, ring-of, Shape, shape-of, plain-of, adjacency-of, part, ascends}
+use Rattle.shape.specs.Shape.{Words, capacities, node-live, edge-live, axis-words, run-list, ring-of, shape-of, plain-of}
 
 -- rule 1 for one kind of slot, of capacity c
 pub record Bounded (c : ℕ) (s : Slots) : Type 0 where
@@ -70,8 +70,3 @@ pub record Checked (w : Words) : Type 0 where
   pub axis : (d : TraversalDirection) → AxisChecked (axis-words d w) (length (w .edges)) (length (w .nodes)) (w .counts) (node-live w) (edge-live w)
   -- rule 7: "each live edge exactly once in its source's out-walk and once in its target's in-walk, both ends live, and no walk listing anything else"
   pub walks : WellFormed (capacities w) (plain-of (shape-of w))
-
--- Stores that a fresh one or an image led to: rings ascend, and a node's run or base entries are below its ring's.
-pub record Reached (s : Shape) : Type 0 where
-  pub rings : (d : TraversalDirection) (x : ℕ) → ascends (adjacency-of d s x .ring) ≡ true
-  pub order : (d : TraversalDirection) (x e f : ℕ) → In e (part (adjacency-of d s x)) → In f (adjacency-of d s x .ring) → e < f

@@ -8,8 +8,6 @@ pub mod Taking
 pub mod Refining
 pub mod Stepping
 pub mod Keeping
-pub mod Reaching
-pub mod Settling
 pub mod Compactness
 pub mod Checking
 pub mod Reading

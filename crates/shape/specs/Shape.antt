@@ -5,11 +5,11 @@ use mathlib.Core.Bool.{Bool, true, false, cond, _&&_, not}
 use mathlib.Core.Option.{Option, none, some}
 use mathlib.Core.List.{List, [], _∷_, _++_, map}
 use lib.ListN.{length, getD}
-use lib.Dec.{eqb, leb, ltb}
+use lib.Dec.{eqb, ltb}
 use Rattle.plain.specs.declared.TraversalDirection.{TraversalDirection}
 use Rattle.plain.specs.declared.TraversalDirection.the-variants.{Outgoing, Incoming}
 use Rattle.plain.specs.declared.Counts.{Counts}
-use Rattle.plain.specs.Lists.{member, keep, all, from}
+use Rattle.plain.specs.Lists.{keep, all, from}
 use Rattle.plain.specs.Plain.{Plain, NodeSlot, EdgeSlot, Incidence}
 use Rattle.plain.specs.Step.{Capacities}
 use Rattle.plain.specs.Memory.{Lengths}
@@ -169,50 +169,25 @@ node-flags-of s = map (λ (n : NodeSlot). n .live) (s .nodes)
 abbrev pub edge-flags-of : Shape → List Bool
 edge-flags-of s = map (λ (e : EdgeSlot). e .live) (s .edges)
 
--- one direction of the plain lists, where `list` is read of each node
-abbrev pub incidence-by : (Bool → Adjacency → List ℕ) → List Bool → Axis → Incidence
-incidence-by list nodes axis = record {
+-- one direction of the plain lists: each node's list is its walk
+abbrev pub walks-of : List Bool → List Bool → Axis → Incidence
+walks-of edges nodes axis = record {
   ends = axis .ends;
-  lists = map (λ x. list (getD nodes x false) (getD (axis .nodes) x no-adjacency)) (from 0 (length (axis .nodes)));
+  lists = map (λ x. walk-of edges (getD nodes x false) (getD (axis .nodes) x no-adjacency)) (from 0 (length (axis .nodes)));
 }
 
-abbrev pub plain-by : (Bool → Adjacency → List ℕ) → Shape → Plain
-plain-by list s = record {
+-- the plain lists of a shape
+unfoldable pub plain-of : Shape → Plain
+plain-of s = record {
   nodes = s .nodes;
   edges = s .edges;
-  outgoing = incidence-by list (node-flags-of s) (s .outgoing);
-  incoming = incidence-by list (node-flags-of s) (s .incoming);
+  outgoing = walks-of (edge-flags-of s) (node-flags-of s) (s .outgoing);
+  incoming = walks-of (edge-flags-of s) (node-flags-of s) (s .incoming);
 }
-
--- the plain lists of a shape: each node's list is its walk
-unfoldable pub plain-of : Shape → Plain
-plain-of s = plain-by (walk-of (edge-flags-of s)) s
 
 -- the plain lists of a store
 abbrev pub lists : Words → Plain
 lists w = plain-of (shape-of w)
-
--- ---- what compaction sees
-
--- whether a list ascends, weakly, as the Rust's `is_sorted`
-unfoldable pub ascends : List ℕ → Bool
-ascends [] = true
-ascends (x ∷ []) = true
-ascends (x ∷ y ∷ l) = leb x y && ascends (y ∷ l)
-
--- the entries of a list in slot order, of edges below n
-abbrev pub in-slot-order : ℕ → List ℕ → List ℕ
-in-slot-order n l = keep (λ e. member e l) (from 0 n)
-
--- "a list whose base part or run ascends (its dead entries read too) comes out in slot order"
-abbrev pub settled-walk : List Bool → Bool → Adjacency → List ℕ
-settled-walk flags live a =
-    let walk = walk-of flags live a in
-    cond (ascends (part a)) (in-slot-order (length flags) walk) walk
-
--- the plain lists as compaction leaves their order; on stores that a fresh one or an image led to they are `plain-of`
-unfoldable pub settled : Shape → Plain
-settled s = plain-by (settled-walk (edge-flags-of s)) s
 
 abbrev pub has-run : Adjacency → Bool
 has-run a = marked (a .run)

@@ -24,7 +24,7 @@ use Rattle.plain.specs.Laws.WellFormed.{Incident, WellFormed}
 use Rattle.plain.specs.Laws.Directions.{redirected-list, moved-list}
 use Rattle.plain.specs.Laws.Operating.{incident, edge-below, edges-removed-well-formed, edges-removed-list, edges-removed-nodes, edges-removed-ends, edges-removed-live}
 use Rattle.shape.specs.Chains.{In}
-use Rattle.shape.specs.Shape.{Adjacency, Axis, Shape, part, raw, live-in, walk-of, no-adjacency, axis-in, adjacency-of, node-flags-of, edge-flags-of, incidence-by, plain-of}
+use Rattle.shape.specs.Shape.{Adjacency, Axis, Shape, part, raw, live-in, walk-of, no-adjacency, axis-in, adjacency-of, node-flags-of, edge-flags-of, walks-of, plain-of}
 use Rattle.shape.specs.Steps.{live-entries, taken, swept, with-run, opened, appended, redirected-axis, moved-axis, with-axis, retired, walk-in, acted}
 use Rattle.shape.specs.Laws.Taking.{keep-append, keep-again, keep-without, keep-one, keep-agree, keep-both, live-taken, live-edited}
 
@@ -52,18 +52,18 @@ walk-nothing flags true = refl
 walk-nothing flags false = refl
 
 module _ (flags nodes : List Bool) (axis : Axis) where
-  pub lists-length : length (incidence-by (walk-of flags) nodes axis .lists) ≡ length (axis .nodes)
+  pub lists-length : length (walks-of flags nodes axis .lists) ≡ length (axis .nodes)
   lists-length =
       length-map (from 0 (length (axis .nodes))) (λ x. walk-of flags (getD nodes x false) (getD (axis .nodes) x no-adjacency))
       ∙ length-from 0 (length (axis .nodes))
 
-  pub list-at : (x : ℕ) → getD (incidence-by (walk-of flags) nodes axis .lists) x [] ≡ walk-of flags (getD nodes x false) (getD (axis .nodes) x no-adjacency)
+  pub list-at : (x : ℕ) → getD (walks-of flags nodes axis .lists) x [] ≡ walk-of flags (getD nodes x false) (getD (axis .nodes) x no-adjacency)
   list-at x =
       let walk : ℕ → List ℕ = λ y. walk-of flags (getD nodes y false) (getD (axis .nodes) y no-adjacency) in
       let n = length (axis .nodes) in
       ⊎-elim
       (λ l. getD-map walk (from 0 n) x 0 [] (rw (length-from 0 n) l) ∙ ap walk (getD-from 0 n x 0 l ∙ zero-add x))
-      (λ l. List·getD-eq-default (incidence-by (walk-of flags) nodes axis .lists) [] (rw lists-length l)
+      (λ l. List·getD-eq-default (walks-of flags nodes axis .lists) [] (rw lists-length l)
       ∙ sym (ap (walk-of flags (getD nodes x false)) (List·getD-eq-default (axis .nodes) no-adjacency l) ∙ walk-nothing flags (getD nodes x false)))
       (below-or-not x n)
 
@@ -102,13 +102,13 @@ module _ {caps : Capacities} {s : Shape} (h : Proper caps s) where
 
 -- one direction of an added node
 opened-lists : (flags nodes : List Bool) (axis : Axis) → length (axis .nodes) ≡ length nodes
-    → incidence-by (walk-of flags) (nodes ++ (true ∷ [])) (opened axis) ≡ widened (incidence-by (walk-of flags) nodes axis)
+    → walks-of flags (nodes ++ (true ∷ [])) (opened axis) ≡ widened (walks-of flags nodes axis)
 opened-lists flags nodes axis even =
     incidence-ext refl
     (lists-length flags (nodes ++ (true ∷ [])) (opened axis) ∙ length-append (axis .nodes) (no-adjacency ∷ [])
-    ∙ sym (length-append (incidence-by (walk-of flags) nodes axis .lists) ([] ∷ []) ∙ ap (λ (n : ℕ). n + 1) (lists-length flags nodes axis)))
+    ∙ sym (length-append (walks-of flags nodes axis .lists) ([] ∷ []) ∙ ap (λ (n : ℕ). n + 1) (lists-length flags nodes axis)))
     (λ x. list-at flags (nodes ++ (true ∷ [])) (opened axis) x ∙ ap (walk-of flags (getD (nodes ++ (true ∷ [])) x false)) (getD-added (axis .nodes) no-adjacency x)
-    ∙ walked x ∙ sym (getD-added (incidence-by (walk-of flags) nodes axis .lists) [] x ∙ list-at flags nodes axis x))
+    ∙ walked x ∙ sym (getD-added (walks-of flags nodes axis .lists) [] x ∙ list-at flags nodes axis x))
   where
     walked : (x : ℕ) → walk-of flags (getD (nodes ++ (true ∷ [])) x false) (getD (axis .nodes) x no-adjacency)
         ≡ walk-of flags (getD nodes x false) (getD (axis .nodes) x no-adjacency)
@@ -127,9 +127,9 @@ add-node-refines {s = s} h v =
     let even : (d : TraversalDirection) → length (axis-in d s .nodes) ≡ length (node-flags-of s) =
     λ d. axis-nodes h d ∙ sym (length-map (s .nodes) (λ (n : NodeSlot). n .live)) in
     plain-ext refl refl
-    (ap (λ (f : List Bool). incidence-by (walk-of (edge-flags-of s)) f (opened (s .outgoing))) flags
+    (ap (λ (f : List Bool). walks-of (edge-flags-of s) f (opened (s .outgoing))) flags
     ∙ opened-lists (edge-flags-of s) (node-flags-of s) (s .outgoing) (even Outgoing))
-    (ap (λ (f : List Bool). incidence-by (walk-of (edge-flags-of s)) f (opened (s .incoming))) flags
+    (ap (λ (f : List Bool). walks-of (edge-flags-of s) f (opened (s .incoming))) flags
     ∙ opened-lists (edge-flags-of s) (node-flags-of s) (s .incoming) (even Incoming))
 
 -- ---- an edge added
@@ -153,13 +153,13 @@ module _ (flags nodes : List Bool) (axis : Axis) (x : ℕ) (low : x < length (ax
       ∙ ap₂ (λ (k l : List ℕ). k ++ l) (live-wider flags (raw a) (below x))
       (keep-one now (length flags) (getD-snoc flags (length flags) true false ∙ rw (eq-eqb (length flags) (length flags) refl)))
 
-  appended-at : (z : ℕ) → getD (incidence-by (walk-of (flags ++ (true ∷ []))) nodes (appended (length flags) x axis) .lists) z []
-      ≡ getD (attached (length flags) x (incidence-by (walk-of flags) nodes axis) .lists) z []
+  appended-at : (z : ℕ) → getD (walks-of (flags ++ (true ∷ [])) nodes (appended (length flags) x axis) .lists) z []
+      ≡ getD (attached (length flags) x (walks-of flags nodes axis) .lists) z []
   unfolding appended
   appended-at z =
       let a = getD (axis .nodes) x no-adjacency in
       let b : Adjacency = record { base = a .base; run = a .run; ring = a .ring ++ (length flags ∷ []) } in
-      let old = incidence-by (walk-of flags) nodes axis in
+      let old = walks-of flags nodes axis in
       list-at (flags ++ (true ∷ [])) nodes (appended (length flags) x axis) z
       ∙ rw (
         getD-set (axis .nodes) x z b no-adjacency low,
@@ -171,12 +171,12 @@ module _ (flags nodes : List Bool) (axis : Axis) (x : ℕ) (low : x < length (ax
       (by-test (eqb z x) (λ q. rw (q, eqb-true z x q, live) appended-here)
       (λ q. rw q (ap (λ (l : List ℕ). cond (getD nodes z false) l []) (live-wider flags (raw (getD (axis .nodes) z no-adjacency)) (below z)))))
 
-  appended-lists : incidence-by (walk-of (flags ++ (true ∷ []))) nodes (appended (length flags) x axis) ≡ attached (length flags) x (incidence-by (walk-of flags) nodes axis)
+  appended-lists : walks-of (flags ++ (true ∷ [])) nodes (appended (length flags) x axis) ≡ attached (length flags) x (walks-of flags nodes axis)
   unfolding appended
   appended-lists =
       let a = getD (axis .nodes) x no-adjacency in
       let b : Adjacency = record { base = a .base; run = a .run; ring = a .ring ++ (length flags ∷ []) } in
-      let old = incidence-by (walk-of flags) nodes axis in
+      let old = walks-of flags nodes axis in
       incidence-ext refl
       (lists-length (flags ++ (true ∷ [])) nodes (appended (length flags) x axis) ∙ length-set (axis .nodes) x b
       ∙ sym (length-append-at x (length flags ∷ []) (old .lists) ∙ lists-length flags nodes axis))
@@ -192,11 +192,11 @@ module _ {caps : Capacities} {s : Shape} (h : Proper caps s) where
   live-node-below d x l = rw (axis-nodes h d) (omega (arith, live-below (node-flags-of s) x l, length-map (s .nodes) (λ (n : NodeSlot). n .live)))
 
   added-lists : (d : TraversalDirection) (x : ℕ) → getD (node-flags-of s) x false ≡ true
-      → incidence-by (walk-of (edge-flags-of s ++ (true ∷ []))) (node-flags-of s) (appended (length (s .edges)) x (axis-in d s))
-      ≡ attached (length (s .edges)) x (incidence-by (walk-of (edge-flags-of s)) (node-flags-of s) (axis-in d s))
+      → walks-of (edge-flags-of s ++ (true ∷ [])) (node-flags-of s) (appended (length (s .edges)) x (axis-in d s))
+      ≡ attached (length (s .edges)) x (walks-of (edge-flags-of s) (node-flags-of s) (axis-in d s))
   added-lists d x l =
-      subst (λ (n : ℕ). incidence-by (walk-of (edge-flags-of s ++ (true ∷ []))) (node-flags-of s) (appended n x (axis-in d s))
-      ≡ attached n x (incidence-by (walk-of (edge-flags-of s)) (node-flags-of s) (axis-in d s)))
+      subst (λ (n : ℕ). walks-of (edge-flags-of s ++ (true ∷ [])) (node-flags-of s) (appended n x (axis-in d s))
+      ≡ attached n x (walks-of (edge-flags-of s) (node-flags-of s) (axis-in d s)))
       (length-map (s .edges) (λ (e : EdgeSlot). e .live))
       (appended-lists (edge-flags-of s) (node-flags-of s) (axis-in d s) x (live-node-below d x l) l (flags-below d))
 
@@ -207,8 +207,8 @@ module _ {caps : Capacities} {s : Shape} (h : Proper caps s) where
       let slot : EdgeSlot = record { payload = v; live = true } in
       let flags = map-snoc (λ (e : EdgeSlot). e .live) (s .edges) slot in
       plain-ext refl refl
-      (ap (λ (f : List Bool). incidence-by (walk-of f) (node-flags-of s) (appended (length (s .edges)) source (s .outgoing))) flags ∙ added-lists Outgoing source ls)
-      (ap (λ (f : List Bool). incidence-by (walk-of f) (node-flags-of s) (appended (length (s .edges)) target (s .incoming))) flags ∙ added-lists Incoming target lt)
+      (ap (λ (f : List Bool). walks-of f (node-flags-of s) (appended (length (s .edges)) source (s .outgoing))) flags ∙ added-lists Outgoing source ls)
+      (ap (λ (f : List Bool). walks-of f (node-flags-of s) (appended (length (s .edges)) target (s .incoming))) flags ∙ added-lists Incoming target lt)
 
 -- ---- edges removed
 
@@ -258,7 +258,7 @@ module _ {caps : Capacities} {s : Shape} (h : Proper caps s) (es : List ℕ) (lo
   -- the lists afterwards, with node flags that agree where there is something to walk
   retired-lists : (d : TraversalDirection) (nodes : List Bool)
       → ((x : ℕ) → walk-of retired-flags (getD nodes x false) (adjacency-of d s x) ≡ without-all es (walk-in d s x))
-      → incidence-by (walk-of retired-flags) nodes (axis-in d s) ≡ incidence d (edges-removed es (plain-of s))
+      → walks-of retired-flags nodes (axis-in d s) ≡ incidence d (edges-removed es (plain-of s))
   unfolding plain-of
   retired-lists d nodes walked =
       let w = edges-removed-well-formed es low (h .walks) in
@@ -336,10 +336,10 @@ module _ {caps : Capacities} {s : Shape} (h : Proper caps s) (x : ℕ) (live : g
   cleared-flags = map-set (λ (n : NodeSlot). n .live) (s .nodes) x (killed-node (getD (s .nodes) x no-node))
 
   removed-lists : (d : TraversalDirection)
-      → incidence-by (walk-of (retired-flags h incident-edges incident-below)) (map (λ (n : NodeSlot). n .live) (set (s .nodes) x (killed-node (getD (s .nodes) x no-node)))) (axis-in d s)
+      → walks-of (retired-flags h incident-edges incident-below) (map (λ (n : NodeSlot). n .live) (set (s .nodes) x (killed-node (getD (s .nodes) x no-node)))) (axis-in d s)
       ≡ incidence d (edges-removed incident-edges (plain-of s))
   removed-lists d =
-      ap (λ (f : List Bool). incidence-by (walk-of (retired-flags h incident-edges incident-below)) f (axis-in d s)) cleared-flags
+      ap (λ (f : List Bool). walks-of (retired-flags h incident-edges incident-below) f (axis-in d s)) cleared-flags
       ∙ retired-lists h incident-edges incident-below d (set (node-flags-of s) x false) (removed-walk d)
 
   pub remove-node-refines : plain-of (acted (RemoveNode x) s) ≡ node-removed x (plain-of s)
@@ -355,7 +355,7 @@ module _ {caps : Capacities} {s : Shape} (h : Proper caps s) (x : ℕ) (live : g
 -- ---- one end of an edge redirected, one list moved
 
 -- one direction changed
-with-axis-refines : (s : Shape) (d : TraversalDirection) (axis : Axis) (i : Incidence) → incidence-by (walk-of (edge-flags-of s)) (node-flags-of s) axis ≡ i
+with-axis-refines : (s : Shape) (d : TraversalDirection) (axis : Axis) (i : Incidence) → walks-of (edge-flags-of s) (node-flags-of s) axis ≡ i
     → plain-of (with-axis d axis s) ≡ with-incidence d i (plain-of s)
 unfolding plain-of
 with-axis-refines s Outgoing axis i e = plain-ext refl refl e refl
@@ -366,7 +366,7 @@ edited-walk : (flags : List Bool) (run : List ℕ) (a : Adjacency) → walk-of f
 edited-walk flags run a = ap (keep (live-in flags)) (append-nil run)
 
 -- one direction of a redirected edge
-module _ (flags nodes : List Bool) (n : ℕ) (axis : Axis) (t : Incident flags n (incidence-by (walk-of flags) nodes axis)) (e new : ℕ)
+module _ (flags nodes : List Bool) (n : ℕ) (axis : Axis) (t : Incident flags n (walks-of flags nodes axis)) (e new : ℕ)
     (live : getD flags e false ≡ true) (low : new < n) (live-new : getD nodes new false ≡ true) (live-old : getD nodes (getD (axis .ends) e 0) false ≡ true)
     (other : eqb new (getD (axis .ends) e 0) ≡ false) where
   -- every node below n has an adjacency
@@ -376,8 +376,8 @@ module _ (flags nodes : List Bool) (n : ℕ) (axis : Axis) (t : Incident flags n
   old-below : getD (axis .ends) e 0 < n
   old-below = t .ends-below e (live-below flags e live)
 
-  redirected-at : (z : ℕ) → getD (incidence-by (walk-of flags) nodes (redirected-axis flags e new axis) .lists) z []
-      ≡ getD (redirected e new (incidence-by (walk-of flags) nodes axis) .lists) z []
+  redirected-at : (z : ℕ) → getD (walks-of flags nodes (redirected-axis flags e new axis) .lists) z []
+      ≡ getD (redirected e new (walks-of flags nodes axis) .lists) z []
   unfolding redirected-axis
   redirected-at z =
       let old = getD (axis .ends) e 0 in
@@ -402,14 +402,14 @@ module _ (flags nodes : List Bool) (n : ℕ) (axis : Axis) (t : Incident flags n
       (by-test (eqb z new) (λ q. rw (q, eqb-true z new q, live-new) walk-b)
       (λ q. rw q (by-test (eqb z old) (λ r. rw (r, eqb-true z old r, live-old) walk-a) (λ r. rw r))))
 
-  redirected-lists : incidence-by (walk-of flags) nodes (redirected-axis flags e new axis) ≡ redirected e new (incidence-by (walk-of flags) nodes axis)
+  redirected-lists : walks-of flags nodes (redirected-axis flags e new axis) ≡ redirected e new (walks-of flags nodes axis)
   unfolding redirected-axis redirected
   redirected-lists =
       let old = getD (axis .ends) e 0 in
       let a = getD (axis .nodes) old no-adjacency in
       let b = getD (axis .nodes) new no-adjacency in
       let a' = with-run (without e (swept flags (taken flags a))) a in
-      let lists = incidence-by (walk-of flags) nodes axis .lists in
+      let lists = walks-of flags nodes axis .lists in
       incidence-ext refl
       (lists-length flags nodes (redirected-axis flags e new axis)
       ∙ length-set (set (axis .nodes) old a') new (with-run (swept flags (taken flags b) ++ (e ∷ [])) b) ∙ length-set (axis .nodes) old a'
@@ -417,16 +417,16 @@ module _ (flags nodes : List Bool) (n : ℕ) (axis : Axis) (t : Incident flags n
       redirected-at
 
 -- one direction of a moved list
-module _ (flags nodes : List Bool) (n : ℕ) (axis : Axis) (t : Incident flags n (incidence-by (walk-of flags) nodes axis)) (old new : ℕ)
+module _ (flags nodes : List Bool) (n : ℕ) (axis : Axis) (t : Incident flags n (walks-of flags nodes axis)) (old new : ℕ)
     (low-old : old < n) (low : new < n) (live-old : getD nodes old false ≡ true) (live-new : getD nodes new false ≡ true) (other : eqb new old ≡ false) where
   -- what moves is the walk of the old node
-  moving-is : live-entries flags (taken flags (getD (axis .nodes) old no-adjacency)) ≡ getD (incidence-by (walk-of flags) nodes axis .lists) old []
+  moving-is : live-entries flags (taken flags (getD (axis .nodes) old no-adjacency)) ≡ getD (walks-of flags nodes axis .lists) old []
   moving-is =
       live-taken flags (getD (axis .nodes) old no-adjacency)
       ∙ sym (list-at flags nodes axis old ∙ ap (λ (b : Bool). walk-of flags b (getD (axis .nodes) old no-adjacency)) live-old)
 
-  moved-at : (z : ℕ) → getD (incidence-by (walk-of flags) nodes (moved-axis flags old new axis) .lists) z []
-      ≡ getD (moved old new (incidence-by (walk-of flags) nodes axis) .lists) z []
+  moved-at : (z : ℕ) → getD (walks-of flags nodes (moved-axis flags old new axis) .lists) z []
+      ≡ getD (moved old new (walks-of flags nodes axis) .lists) z []
   unfolding moved-axis keep
   moved-at z =
       let a = getD (axis .nodes) old no-adjacency in
@@ -435,7 +435,7 @@ module _ (flags nodes : List Bool) (n : ℕ) (axis : Axis) (t : Incident flags n
       let a' = with-run [] a in
       let b' = with-run (swept flags (taken flags b) ++ moving) b in
       let there : (x : ℕ) → x < n → x < length (axis .nodes) = λ x l. omega (arith, lists-length flags nodes axis, t .lists-length) in
-      let lists = incidence-by (walk-of flags) nodes axis .lists in
+      let lists = walks-of flags nodes axis .lists in
       let walk-b : walk-of flags true b' ≡ getD lists new [] ++ getD lists old [] =
       edited-walk flags (swept flags (taken flags b) ++ moving) b ∙ keep-append (live-in flags) (swept flags (taken flags b)) moving
       ∙ ap₂ (λ (k l : List ℕ). k ++ l)
@@ -450,14 +450,14 @@ module _ (flags nodes : List Bool) (n : ℕ) (axis : Axis) (t : Incident flags n
       (by-test (eqb z old) (λ q. rw (q, eqb-true z old q, eqb-comm old new, other, live-old))
       (λ q. rw q (by-test (eqb z new) (λ r. rw (r, eqb-true z new r, live-new) walk-b) (λ r. rw r (sym (list-at flags nodes axis z))))))
 
-  moved-lists : incidence-by (walk-of flags) nodes (moved-axis flags old new axis) ≡ moved old new (incidence-by (walk-of flags) nodes axis)
+  moved-lists : walks-of flags nodes (moved-axis flags old new axis) ≡ moved old new (walks-of flags nodes axis)
   unfolding moved-axis moved
   moved-lists =
       let a = getD (axis .nodes) old no-adjacency in
       let b = getD (axis .nodes) new no-adjacency in
       let moving = live-entries flags (taken flags a) in
       let a' = with-run [] a in
-      let lists = incidence-by (walk-of flags) nodes axis .lists in
+      let lists = walks-of flags nodes axis .lists in
       incidence-ext (ap (λ (l : List ℕ). set-all l new (axis .ends)) moving-is)
       (lists-length flags nodes (moved-axis flags old new axis) ∙ length-set (set (axis .nodes) old a') new (with-run (swept flags (taken flags b) ++ moving) b)
       ∙ length-set (axis .nodes) old a'
@@ -466,13 +466,13 @@ module _ (flags nodes : List Bool) (n : ℕ) (axis : Axis) (t : Incident flags n
 
 module _ {caps : Capacities} {s : Shape} (h : Proper caps s) where
   -- one direction of the shape's lists is well formed
-  direction : (d : TraversalDirection) → Incident (edge-flags-of s) (length (s .nodes)) (incidence-by (walk-of (edge-flags-of s)) (node-flags-of s) (axis-in d s))
+  direction : (d : TraversalDirection) → Incident (edge-flags-of s) (length (s .nodes)) (walks-of (edge-flags-of s) (node-flags-of s) (axis-in d s))
   unfolding plain-of
   direction Outgoing = h .walks .outgoing
   direction Incoming = h .walks .incoming
 
   -- it is that of the plain lists
-  direction-is : (d : TraversalDirection) → incidence-by (walk-of (edge-flags-of s)) (node-flags-of s) (axis-in d s) ≡ incidence d (plain-of s)
+  direction-is : (d : TraversalDirection) → walks-of (edge-flags-of s) (node-flags-of s) (axis-in d s) ≡ incidence d (plain-of s)
   unfolding plain-of
   direction-is Outgoing = refl
   direction-is Incoming = refl
@@ -514,5 +514,5 @@ module _ {caps : Capacities} {s : Shape} (h : Proper caps s) where
   set-payload-refines e v =
       let slot : EdgeSlot = record { payload = v; live = getD (s .edges) e no-edge .live } in
       let flags : map (λ (e : EdgeSlot). e .live) (set (s .edges) e slot) ≡ edge-flags-of s = map-set-same (λ (e : EdgeSlot). e .live) (s .edges) e slot no-edge refl in
-      plain-ext refl refl (ap (λ (f : List Bool). incidence-by (walk-of f) (node-flags-of s) (s .outgoing)) flags)
-      (ap (λ (f : List Bool). incidence-by (walk-of f) (node-flags-of s) (s .incoming)) flags)
+      plain-ext refl refl (ap (λ (f : List Bool). walks-of f (node-flags-of s) (s .outgoing)) flags)
+      (ap (λ (f : List Bool). walks-of f (node-flags-of s) (s .incoming)) flags)
