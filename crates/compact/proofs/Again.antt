@@ -21,7 +21,7 @@ use Rattle.liveness.specs.Flags.{live-flags}
 use Rattle.liveness.specs.Calls.{all-live}
 use Rattle.shape.specs.Columns.{cell, end-at}
 use Rattle.shape.specs.Chains.{ring}
-use Rattle.shape.specs.Shape.{Words, Adjacency, capacities, node-live, edge-live, axis-words, ring-of, axis-in, adjacency-of, no-adjacency, shape-of, plain-of, ascends, settled, lists}
+use Rattle.shape.specs.Shape.{Words, Adjacency, node-capacity, edge-capacity, capacities, node-live, edge-live, axis-words, ring-of, axis-in, adjacency-of, no-adjacency, shape-of, plain-of, ascends, settled, lists}
 use Rattle.shape.specs.Checked.{Checked, Reached}
 use Rattle.shape.specs.Laws.Chains.{in-none}
 use Rattle.shape.specs.Laws.CheckedShape.{checked-proper}
@@ -84,7 +84,7 @@ no-ring {w} s d x =
     (λ l. ap (λ (a : Adjacency). a .ring) (shape-adjacency w d x l) ∙ rw (s .axis d .rings x l))
     (λ l. ap (λ (a : Adjacency). a .ring)
     (List·getD-eq-default (axis-in d (shape-of w) .nodes) no-adjacency
-    (rw (axis-is w d, axis-nodes (axis-words d w) (length (w .edges)) (length (w .nodes)) (w .counts)) l)))
+    (rw (axis-is w d, axis-nodes (axis-words d w) (edge-capacity w) (node-capacity w) (w .counts)) l)))
     (below-or-not x (w .counts .nodes .bound))
 
 canonical-reached : {w : Words} → Canonical w → Reached (shape-of w)
@@ -148,15 +148,15 @@ module _ {w : Words} {node-map work : List ℕ} {v : Words} (pre : Droppable w n
       ∙ own-rank (node-live w) (w .counts .nodes .bound) x (node-flags-on k s) low
 
   direction-again : (d : TraversalDirection) (entries ws' : List ℕ)
-      → AxisCompacted (axis-words d w) (length (w .edges)) (length (w .nodes)) (w .live-edges) (w .counts .edges .bound) node-map (w .counts .nodes .live)
+      → AxisCompacted (axis-words d w) (edge-capacity w) (node-capacity w) (w .live-edges) (w .counts .edges .bound) node-map (w .counts .nodes .live)
       (w .counts .edges .live) entries ws'
       → w .counts .edges .live ≤ length entries
       → take (w .counts .edges .live) entries ≡ joined (map (list-of d (lists w)) (from 0 (w .counts .nodes .bound))) → ws' ≡ axis-words d w
   direction-again d entries ws' a there lined =
       axis-again (joined (map (list-of d (lists w)) (from 0 (w .counts .nodes .bound))))
-      (subst₂ (λ (n m : ℕ). Compactable (axis-words d w) (length (w .edges)) (length (w .nodes)) (w .live-edges) (w .counts .edges .bound) node-map n m entries)
+      (subst₂ (λ (n m : ℕ). Compactable (axis-words d w) (edge-capacity w) (node-capacity w) (w .live-edges) (w .counts .edges .bound) node-map n m entries)
       (s .nodes-live) (s .edges-live) (axis-compactable pre d entries there))
-      (subst₂ (λ (n m : ℕ). AxisCompacted (axis-words d w) (length (w .edges)) (length (w .nodes)) (w .live-edges) (w .counts .edges .bound) node-map n m entries ws')
+      (subst₂ (λ (n m : ℕ). AxisCompacted (axis-words d w) (edge-capacity w) (node-capacity w) (w .live-edges) (w .counts .edges .bound) node-map n m entries ws')
       (s .nodes-live) (s .edges-live) a)
       (edge-flags-on k s) (own-number d) (s .axis d) (ap (λ (m : ℕ). take m entries) (sym (s .edges-live)) ∙ lined)
 

@@ -24,7 +24,7 @@ use Rattle.liveness.specs.Flags.{live-flags}
 use Rattle.liveness.specs.Calls.{Reset}
 use Rattle.liveness.specs.FlagLaws.{length-flags}
 use Rattle.shape.specs.Columns.{Sized, end-at}
-use Rattle.shape.specs.Shape.{Words, capacities, node-live, edge-live, axis-words, shape-of, plain-of, settled}
+use Rattle.shape.specs.Shape.{Words, node-capacity, edge-capacity, capacities, node-live, edge-live, axis-words, shape-of, plain-of, settled}
 use Rattle.shape.specs.Kept.{AxisRenewed, Renewed}
 use Rattle.shape.specs.Laws.Indexing.{Rewritten, ends-of}
 use Rattle.shape.specs.Laws.NewBase.{NewBase}
@@ -103,10 +103,10 @@ module _ {w : Words} {node-map work : List ℕ} {v : Words} (pre : Droppable w n
   abbrev left : Survivors
   left = survivors seen
 
-  few-nodes : length (w .nodes) ≤ LIMIT
+  few-nodes : node-capacity w ≤ LIMIT
   few-nodes = pre .checked .axis Outgoing .sized .nodes-within
 
-  few-edges : length (w .edges) ≤ LIMIT
+  few-edges : edge-capacity w ≤ LIMIT
   few-edges = pre .checked .axis Outgoing .sized .edges-within
 
   pub left-sound : Sound left
@@ -156,12 +156,12 @@ module _ {w : Words} {node-map work : List ℕ} {v : Words} (pre : Droppable w n
   -- both directions, where the work slice holds the joined lists
   module _ (outs : take (w .counts .edges .live) work ≡ joined (left .outs))
       (ins : take (w .counts .edges .live) (drop (w .counts .edges .live) work) ≡ joined (left .ins)) where
-    out-base : NewBase (v .outgoing) (length (w .edges)) (length (w .nodes)) (v .counts) (map source-of (left .edges)) (left .outs)
+    out-base : NewBase (v .outgoing) (edge-capacity w) (node-capacity w) (v .counts) (map source-of (left .edges)) (left .outs)
     out-base =
         new-base-of (axis-compactable pre Outgoing work (first-half pre)) (r .outgoing) (v .counts) (left .outs) nodes-bound nodes-base edges-bound edges-base outs
         (map source-of (left .edges)) sources-left (subst (λ (k : ℕ). Fitted k (map source-of (left .edges)) (left .outs)) left-nodes (left-sound .outs))
 
-    in-base-of : NewBase (v .incoming) (length (w .edges)) (length (w .nodes)) (v .counts) (map target-of (left .edges)) (left .ins)
+    in-base-of : NewBase (v .incoming) (edge-capacity w) (node-capacity w) (v .counts) (map target-of (left .edges)) (left .ins)
     in-base-of =
         new-base-of (axis-compactable pre Incoming (drop (w .counts .edges .live) work) (drop-room pre)) (r .incoming) (v .counts) (left .ins) nodes-bound nodes-base
         edges-bound edges-base ins (map target-of (left .edges)) targets-left
@@ -194,14 +194,14 @@ module _ {w : Words} {node-map work : List ℕ} {v : Words} (pre : Droppable w n
           incoming = subst₂ (λ (ce cn : ℕ). NewBase (v .incoming) ce cn (v .counts) (map target-of (left .edges)) (left .ins)) (sym (same .edges)) (sym (same .nodes)) in-base-of;
         }
       where
-        sized-left : (d : TraversalDirection) → Sized (axis-words d v) (length (v .edges)) (length (v .nodes))
+        sized-left : (d : TraversalDirection) → Sized (axis-words d v) (edge-capacity v) (node-capacity v)
         sized-left Outgoing = subst₂ (Sized (v .outgoing)) (sym (r .lengths .edges)) (sym (r .lengths .nodes)) (sized-as (r .lengths .outgoing) (pre .checked .axis Outgoing .sized))
         sized-left Incoming = subst₂ (Sized (v .incoming)) (sym (r .lengths .edges)) (sym (r .lengths .nodes)) (sized-as (r .lengths .incoming) (pre .checked .axis Incoming .sized))
 
   -- ---- the words that are left
 
   axis-left : (d : TraversalDirection)
-      → AxisRenewed (axis-words d w) (axis-words d v) (length (w .edges)) (length (w .nodes)) (w .counts .nodes .live) (w .counts .edges .live)
+      → AxisRenewed (axis-words d w) (axis-words d v) (edge-capacity w) (node-capacity w) (w .counts .nodes .live) (w .counts .edges .live)
   axis-left Outgoing = axis-renewed (axis-compactable pre Outgoing work (first-half pre)) (r .outgoing)
   axis-left Incoming = axis-renewed (axis-compactable pre Incoming (drop (w .counts .edges .live) work) (drop-room pre)) (r .incoming)
 
@@ -211,6 +211,6 @@ module _ {w : Words} {node-map work : List ℕ} {v : Words} (pre : Droppable w n
     edges = λ i h. r .edges .above i (omega (arith, edges-bound, pre .checked .edges-live .live-right));
     live-nodes = λ i h. reset-word (r .live-nodes) i (omega (arith, nodes-bound));
     live-edges = λ i h. reset-word (r .live-edges) i (omega (arith, edges-bound));
-    axis = λ d. subst₂ (λ (n m : ℕ). AxisRenewed (axis-words d w) (axis-words d v) (length (w .edges)) (length (w .nodes)) n m) (sym nodes-bound) (sym edges-bound)
+    axis = λ d. subst₂ (λ (n m : ℕ). AxisRenewed (axis-words d w) (axis-words d v) (edge-capacity w) (node-capacity w) n m) (sym nodes-bound) (sym edges-bound)
         (axis-left d);
   }

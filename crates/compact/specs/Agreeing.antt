@@ -2,7 +2,6 @@
 use Prim.Native.Nat.{ℕ, _<_}
 use mathlib.Core.Path.{_≡_, sym, ap, _∙_, subst₂}
 use mathlib.Core.List.{List}
-use lib.ListN.{length}
 use lib.Dec.{eqb}
 use borrow.Author.Tests.{eqb-true, eqb-false}
 use Rattle.plain.specs.declared.TraversalDirection.{TraversalDirection}
@@ -11,7 +10,7 @@ use Rattle.plain.specs.Memory.{Lengths}
 use Rattle.plain.specs.Laws.Booleans.{by-test}
 use Rattle.liveness.specs.CallLaws.{reset-narrow}
 use Rattle.shape.specs.Columns.{mark-at}
-use Rattle.shape.specs.Shape.{Words, lengths-of, axis-words, shape-of}
+use Rattle.shape.specs.Shape.{Words, node-capacity, edge-capacity, lengths-of, axis-words, shape-of}
 use Rattle.shape.specs.Checked.{Checked}
 use Rattle.shape.specs.Fields.{SameFields}
 use Rattle.shape.specs.Laws.Agreeing.{Narrow, counts-same, shape-fields, kept-both}
@@ -31,7 +30,7 @@ canonical-fields {v} {u} a b same long v-canonical u-canonical =
     bounds = ap (λ (c : Counts). c .nodes .bound) (counts-same a b same)
 
     marked : (d : TraversalDirection) (x : ℕ) → x < v .counts .nodes .bound
-        → mark-at (axis-words d u) (length (v .edges)) (length (v .nodes)) x ≡ mark-at (axis-words d v) (length (v .edges)) (length (v .nodes)) x
+        → mark-at (axis-words d u) (edge-capacity v) (node-capacity v) x ≡ mark-at (axis-words d v) (edge-capacity v) (node-capacity v) x
     marked d x h =
         subst₂ (λ (ce cn : ℕ). mark-at (axis-words d u) ce cn x ≡ 0) (ap (λ (l : Lengths). l .capacities .edges) long)
         (ap (λ (l : Lengths). l .capacities .nodes) long) (u-canonical .axis d .marks x (rw bounds h)) ∙ sym (v-canonical .axis d .marks x h)

@@ -12,7 +12,7 @@ use Rattle.plain.specs.Compaction.{survivors}
 use Rattle.plain.specs.Calls.{Compacted, compaction, judged-compaction}
 use Rattle.liveness.specs.Calls.{Reset}
 use Rattle.shape.specs.Columns.{cell, offset-at, last-at, mark-at}
-use Rattle.shape.specs.Shape.{Words, axis-words, shape-of, lists, settled, is-compact}
+use Rattle.shape.specs.Shape.{Words, node-capacity, edge-capacity, axis-words, shape-of, lists, settled, is-compact}
 use Rattle.shape.specs.Checked.{Checked, Reached}
 use Rattle.shape.specs.Kept.{Renewed, Spared}
 use Rattle.shape.specs.Rules.{broken}
@@ -45,7 +45,7 @@ pub record Canonical (w : Words) : Type 0 where
   pub node-words : Reset (w .live-nodes) (w .counts .nodes .bound) (w .live-nodes)
   pub edge-words : Reset (w .live-edges) (w .counts .edges .bound) (w .live-edges)
   pub axis : (d : TraversalDirection)
-      → AxisCanonical (axis-words d w) (length (w .edges)) (length (w .nodes)) (w .counts .nodes .bound) (w .counts .edges .bound)
+      → AxisCanonical (axis-words d w) (edge-capacity w) (node-capacity w) (w .counts .nodes .bound) (w .counts .edges .bound)
       (joined (map (list-of d (lists w)) (from 0 (w .counts .nodes .bound))))
 
 pub record CompactOf (w : Words) (node-map edge-map work : List ℕ) (number value : ℕ) (v : Words) (node-map' edge-map' work' : List ℕ) : Type 0 where

@@ -14,7 +14,7 @@ use Rattle.plain.specs.Laws.Rank.{rank-live, live-below}
 use Rattle.liveness.specs.Calls.{Reset}
 use Rattle.liveness.specs.FlagLaws.{length-flags}
 use Rattle.shape.specs.Columns.{end-at}
-use Rattle.shape.specs.Shape.{Words, node-live, edge-live, axis-words}
+use Rattle.shape.specs.Shape.{Words, node-capacity, edge-capacity, node-live, edge-live, axis-words}
 use Rattle.shape.specs.Checked.{Checked}
 use Rattle.shape.specs.Laws.Indexing.{Rewritten}
 use Rattle.relocate.specs.Stores.{checked-end}
@@ -37,9 +37,9 @@ pub record Dropped (w : Words) (node-map work : List ℕ) (v : Words) : Type 0 w
   pub edges : Rewritten (w .edges) (v .edges) 0 (live-count (edge-live w)) (kept-word (w .edges) (edge-live w))
   pub live-nodes : Reset (w .live-nodes) (w .counts .nodes .live) (v .live-nodes)
   pub live-edges : Reset (w .live-edges) (w .counts .edges .live) (v .live-edges)
-  pub outgoing : AxisCompacted (w .outgoing) (length (w .edges)) (length (w .nodes)) (w .live-edges) (w .counts .edges .bound) node-map (w .counts .nodes .live)
+  pub outgoing : AxisCompacted (w .outgoing) (edge-capacity w) (node-capacity w) (w .live-edges) (w .counts .edges .bound) node-map (w .counts .nodes .live)
       (w .counts .edges .live) work (v .outgoing)
-  pub incoming : AxisCompacted (w .incoming) (length (w .edges)) (length (w .nodes)) (w .live-edges) (w .counts .edges .bound) node-map (w .counts .nodes .live)
+  pub incoming : AxisCompacted (w .incoming) (edge-capacity w) (node-capacity w) (w .live-edges) (w .counts .edges .bound) node-map (w .counts .nodes .live)
       (w .counts .edges .live) (drop (w .counts .edges .live) work) (v .incoming)
 
 -- ---- a part of a slice up to its end
@@ -71,7 +71,7 @@ module _ {w : Words} {node-map work : List ℕ} (pre : Droppable w node-map work
   edges-there = let long = pre .checked .live-edges-long in omega (arith, pre .checked .edges .bound-within)
 
   pub axis-compactable : (d : TraversalDirection) (entries : List ℕ) → w .counts .edges .live ≤ length entries
-      → Compactable (axis-words d w) (length (w .edges)) (length (w .nodes)) (w .live-edges) (w .counts .edges .bound) node-map (w .counts .nodes .live)
+      → Compactable (axis-words d w) (edge-capacity w) (node-capacity w) (w .live-edges) (w .counts .edges .bound) node-map (w .counts .nodes .live)
       (w .counts .edges .live) entries
   axis-compactable d entries there =
       let k = pre .checked in

@@ -28,7 +28,7 @@ use Rattle.plain.specs.Laws.ImageBits.{payload-of}
 use Rattle.liveness.specs.Flags.{live-flags}
 use Rattle.liveness.specs.Calls.{Reset, all-live}
 use Rattle.shape.specs.Columns.{Sized, cell}
-use Rattle.shape.specs.Shape.{Words, capacities, node-live, edge-live, axis-words, shape-of, plain-of, lists}
+use Rattle.shape.specs.Shape.{Words, node-capacity, edge-capacity, capacities, node-live, edge-live, axis-words, shape-of, plain-of, lists}
 use Rattle.shape.specs.Checked.{LiveRight, AxisChecked, Checked, Reached}
 use Rattle.shape.specs.Steps.{state-of}
 use Rattle.shape.specs.Laws.Indexing.{before, ends-of}
@@ -49,17 +49,17 @@ front words n = map (λ x. getD words x 0) (from 0 n)
 pub record Holding (v : Words) (s : Survivors) : Type 0 where
   pub sound : Sound s
   pub counts : v .counts ≡ record { nodes = based (length (s .nodes)); edges = based (length (s .edges)) }
-  pub nodes-fit : length (s .nodes) ≤ length (v .nodes)
-  pub edges-fit : length (s .edges) ≤ length (v .edges)
-  pub live-nodes-long : live-words (length (v .nodes)) ≤ length (v .live-nodes)
-  pub live-edges-long : live-words (length (v .edges)) ≤ length (v .live-edges)
-  pub sized : (d : TraversalDirection) → Sized (axis-words d v) (length (v .edges)) (length (v .nodes))
+  pub nodes-fit : length (s .nodes) ≤ node-capacity v
+  pub edges-fit : length (s .edges) ≤ edge-capacity v
+  pub live-nodes-long : live-words (node-capacity v) ≤ length (v .live-nodes)
+  pub live-edges-long : live-words (edge-capacity v) ≤ length (v .live-edges)
+  pub sized : (d : TraversalDirection) → Sized (axis-words d v) (edge-capacity v) (node-capacity v)
   pub nodes : front (v .nodes) (length (s .nodes)) ≡ s .nodes
   pub edges : front (v .edges) (length (s .edges)) ≡ map payload-of (s .edges)
   pub live-nodes : Reset (v .live-nodes) (length (s .nodes)) (v .live-nodes)
   pub live-edges : Reset (v .live-edges) (length (s .edges)) (v .live-edges)
-  pub outgoing : NewBase (v .outgoing) (length (v .edges)) (length (v .nodes)) (v .counts) (map source-of (s .edges)) (s .outs)
-  pub incoming : NewBase (v .incoming) (length (v .edges)) (length (v .nodes)) (v .counts) (map target-of (s .edges)) (s .ins)
+  pub outgoing : NewBase (v .outgoing) (edge-capacity v) (node-capacity v) (v .counts) (map source-of (s .edges)) (s .outs)
+  pub incoming : NewBase (v .incoming) (edge-capacity v) (node-capacity v) (v .counts) (map target-of (s .edges)) (s .ins)
 
 -- ---- for those who make one
 
@@ -186,7 +186,7 @@ module _ {v : Words} {s : Survivors} (h : Holding v s) where
   plain-held = ap plain-of holding-shape ∙ survivors-plain s (h .sound)
 
   -- each direction passes rules 3 to 6
-  axis-held : (d : TraversalDirection) → AxisChecked (axis-words d v) (length (v .edges)) (length (v .nodes)) (v .counts) (node-live v) (edge-live v)
+  axis-held : (d : TraversalDirection) → AxisChecked (axis-words d v) (edge-capacity v) (node-capacity v) (v .counts) (node-live v) (edge-live v)
   axis-held Outgoing = new-checked (h .outgoing) (h .sized Outgoing) (node-live v) (edge-live v)
   axis-held Incoming = new-checked (h .incoming) (h .sized Incoming) (node-live v) (edge-live v)
 
@@ -207,14 +207,14 @@ module _ {v : Words} {s : Survivors} (h : Holding v s) where
   listed : (d : TraversalDirection) → map (list-of d (lists v)) (from 0 (v .counts .nodes .bound)) ≡ map (list-of d (of-survivors s)) (from 0 (length (s .nodes)))
   listed d = ap₂ (λ (p : Plain) (n : ℕ). map (list-of d p) (from 0 n)) plain-held nodes-bound
 
-  directions : (d : TraversalDirection) → AxisCanonical (axis-words d v) (length (v .edges)) (length (v .nodes)) (v .counts .nodes .bound) (v .counts .edges .bound)
+  directions : (d : TraversalDirection) → AxisCanonical (axis-words d v) (edge-capacity v) (node-capacity v) (v .counts .nodes .bound) (v .counts .edges .bound)
       (joined (map (list-of d (lists v)) (from 0 (v .counts .nodes .bound))))
   unfolding of-survivors
   directions Outgoing =
-      subst (AxisCanonical (v .outgoing) (length (v .edges)) (length (v .nodes)) (v .counts .nodes .bound) (v .counts .edges .bound))
+      subst (AxisCanonical (v .outgoing) (edge-capacity v) (node-capacity v) (v .counts .nodes .bound) (v .counts .edges .bound))
       (sym (ap joined (listed Outgoing ∙ all-lists (length (s .nodes)) (s .outs) (fitted-many (h .sound .outs))))) (axis-canonical (h .outgoing))
   directions Incoming =
-      subst (AxisCanonical (v .incoming) (length (v .edges)) (length (v .nodes)) (v .counts .nodes .bound) (v .counts .edges .bound))
+      subst (AxisCanonical (v .incoming) (edge-capacity v) (node-capacity v) (v .counts .nodes .bound) (v .counts .edges .bound))
       (sym (ap joined (listed Incoming ∙ all-lists (length (s .nodes)) (s .ins) (fitted-many (h .sound .ins))))) (axis-canonical (h .incoming))
 
   -- its words are canonical

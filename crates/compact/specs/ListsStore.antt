@@ -24,7 +24,7 @@ use Rattle.plain.specs.Laws.ImageLaws.{fitted-joined}
 use Rattle.plain.specs.Laws.Rank.{live-below, member-live-slots}
 use Rattle.liveness.specs.FlagLaws.{length-flags}
 use Rattle.shape.specs.Chains.{In}
-use Rattle.shape.specs.Shape.{Axis, Shape, Words, node-live, edge-live, axis-words, shape-of, raw, live-in, walk-of, axis-in, adjacency-of, node-flags-of, edge-flags-of, incidence-by, plain-of, settled-walk, settled}
+use Rattle.shape.specs.Shape.{Axis, Shape, Words, node-capacity, edge-capacity, node-live, edge-live, axis-words, shape-of, raw, live-in, walk-of, axis-in, adjacency-of, node-flags-of, edge-flags-of, incidence-by, plain-of, settled-walk, settled}
 use Rattle.shape.specs.Checked.{Checked}
 use Rattle.shape.specs.Laws.Chains.{in-none}
 use Rattle.shape.specs.Laws.Keeping.{in-keep}
@@ -150,27 +150,27 @@ settled-direction s Incoming = refl
 -- the list of a node in `settled` is read from the words
 pub settled-list : (w : Words) (d : TraversalDirection) (x : ℕ) → x < w .counts .nodes .bound
     → list-of d (settled (shape-of w)) x
-    ≡ settled-in (axis-words d w) (length (w .edges)) (length (w .nodes)) (w .counts) (w .live-edges) x (getD (node-live w) x false)
+    ≡ settled-in (axis-words d w) (edge-capacity w) (node-capacity w) (w .counts) (w .live-edges) x (getD (node-live w) x false)
 settled-list w d x node =
     let s = shape-of w in
     let axis = axis-in d s in
     let size : length (axis .nodes) ≡ w .counts .nodes .bound
-    = ap (λ (a : Axis). length (a .nodes)) (axis-is w d) ∙ axis-nodes (axis-words d w) (length (w .edges)) (length (w .nodes)) (w .counts) in
+    = ap (λ (a : Axis). length (a .nodes)) (axis-is w d) ∙ axis-nodes (axis-words d w) (edge-capacity w) (node-capacity w) (w .counts) in
     ap (λ (i : Incidence). getD (i .lists) x []) (settled-direction s d)
     ∙ made-at (λ y. settled-walk (edge-flags-of s) (getD (node-flags-of s) y false) (adjacency-of d s y)) (length (axis .nodes)) x [] (rw size node)
     ∙ rw (edge-flags-are w, node-flags-are w, shape-adjacency w d x node)
 
 -- so the lists written are the lists of `settled`
 pub settled-lists-are : (w : Words) (d : TraversalDirection)
-    → settled-lists (axis-words d w) (length (w .edges)) (length (w .nodes)) (w .counts) (w .live-nodes) (w .live-edges)
+    → settled-lists (axis-words d w) (edge-capacity w) (node-capacity w) (w .counts) (w .live-nodes) (w .live-edges)
     ≡ joined (map (list-of d (settled (shape-of w))) (live-slots (node-live w)))
 unfolding settled-lists
 settled-lists-are w d = ap joined (map-same
-    (λ x. settled-in (axis-words d w) (length (w .edges)) (length (w .nodes)) (w .counts) (w .live-edges) x true) (list-of d (settled (shape-of w)))
+    (λ x. settled-in (axis-words d w) (edge-capacity w) (node-capacity w) (w .counts) (w .live-edges) x true) (list-of d (settled (shape-of w)))
     (live-slots (node-live w)) each)
   where
     each : (x : ℕ) → member x (live-slots (node-live w)) ≡ true
-        → settled-in (axis-words d w) (length (w .edges)) (length (w .nodes)) (w .counts) (w .live-edges) x true ≡ list-of d (settled (shape-of w)) x
+        → settled-in (axis-words d w) (edge-capacity w) (node-capacity w) (w .counts) (w .live-edges) x true ≡ list-of d (settled (shape-of w)) x
     each x m =
         let live : getD (node-live w) x false ≡ true = sym (member-live-slots (node-live w) x) ∙ m in
         let node : x < w .counts .nodes .bound = rw (length-flags (w .live-nodes) (w .counts .nodes .bound)) at (live-below (node-live w) x live) in
@@ -178,7 +178,7 @@ settled-lists-are w d = ap joined (map-same
 
 module _ {w : Words} (k : Checked w) (d : TraversalDirection) where
   abbrev lists : List ℕ
-  lists = settled-lists (axis-words d w) (length (w .edges)) (length (w .nodes)) (w .counts) (w .live-nodes) (w .live-edges)
+  lists = settled-lists (axis-words d w) (edge-capacity w) (node-capacity w) (w .counts) (w .live-nodes) (w .live-edges)
 
   -- by new numbers they are those that survive
   pub lists-renumbered : map (rank (edge-live w)) lists ≡ joined (map (surviving-list d (settled (shape-of w))) (live-slots (node-live w)))
@@ -205,7 +205,7 @@ module _ {w : Words} (k : Checked w) (d : TraversalDirection) where
 
   -- so they can be written where there is room for the live edges
   pub checked-writable : {out : List ℕ} → live-count (edge-live w) ≤ length out
-      → ListsFit (axis-words d w) (length (w .edges)) (length (w .nodes)) (w .counts) (w .live-nodes) (w .live-edges) out
+      → ListsFit (axis-words d w) (edge-capacity w) (node-capacity w) (w .counts) (w .live-nodes) (w .live-edges) out
   checked-writable room = record {
     walkable = λ x node. checked-walkable k d x node;
     once = λ x node. ap distinct (sym (list-is-walk w d x node)) ∙ incident (k .walks) d .once x;

@@ -3,13 +3,12 @@ use Prim.Native.Nat.{ℕ}
 use native.Mathlib.Omega.{arith}
 use mathlib.Core.Path.{_≡_, refl, sym, ap, _∙_}
 use mathlib.Core.List.{List}
-use lib.ListN.{length}
 use Rattle.plain.specs.declared.TraversalDirection.{TraversalDirection}
 use Rattle.plain.specs.declared.TraversalDirection.the-variants.{Outgoing, Incoming}
 use Rattle.plain.specs.declared.Answer.{Answer}
 use Rattle.plain.specs.declared.Counts.{Counts}
 use Rattle.plain.specs.Calls.{read-image}
-use Rattle.shape.specs.Shape.{Words, store, lengths-of, axis-words}
+use Rattle.shape.specs.Shape.{Words, store, node-capacity, edge-capacity, lengths-of, axis-words}
 use Rattle.shape.specs.Kept.{AxisRenewed, Renewed, nothing-spared, renewed-none, renewed-spared}
 use Rattle.store.specs.Operations.{same-lengths}
 use Rattle.compact.specs.Holding.{holding-shape, holding-state, holding-reached, holding-checked, holding-canonical}
@@ -73,6 +72,6 @@ module _ (w : Words) (bytes : List ℕ) (answer : Answer) (told : answer ≡ rea
         }
       where
         axis-left : {v : Words} → Placed (store counts (w .nodes) (w .edges) (w .live-nodes) (w .live-edges) (w .outgoing) (w .incoming)) bytes v → (d : TraversalDirection)
-            → AxisRenewed (axis-words d w) (axis-words d v) (length (w .edges)) (length (w .nodes)) (v .counts .nodes .bound) (v .counts .edges .bound)
+            → AxisRenewed (axis-words d w) (axis-words d v) (edge-capacity w) (node-capacity w) (v .counts .nodes .bound) (v .counts .edges .bound)
         axis-left placed Outgoing = placed-renewed accepted placed .axis Outgoing
         axis-left placed Incoming = placed-renewed accepted placed .axis Incoming

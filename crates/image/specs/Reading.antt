@@ -25,7 +25,7 @@ use Rattle.plain.specs.Laws.ImageLaws.{nodes-length, edges-length, parsed-sound
 use Rattle.memory.specs.Laws.{Roomy}
 use Rattle.liveness.specs.Calls.{Reset}
 use Rattle.shape.specs.Columns.{Sized}
-use Rattle.shape.specs.Shape.{Words, lengths-of, axis-words as words-of}
+use Rattle.shape.specs.Shape.{Words, node-capacity, edge-capacity, lengths-of, axis-words as words-of}
 use Rattle.shape.specs.Kept.{AxisRenewed, Renewed}
 use Rattle.shape.specs.Laws.Indexing.{Rewritten}
 use Rattle.shape.specs.Laws.NewBase.{NewBase}
@@ -92,7 +92,7 @@ pub record Placed (w : Words) (bytes : List ℕ) (v : Words) : Type 0 where
   pub lengths : SameLengths w v
   pub counts : v .counts ≡ record { nodes = based (nodes-in bytes); edges = based (edges-in bytes) }
   pub payloads : PayloadsRead (w .nodes) (w .edges) bytes (nodes-in bytes) (edges-in bytes) (v .nodes) (v .edges)
-  pub axes : AxesRead (w .outgoing) (w .incoming) (length (w .edges)) (length (w .nodes)) bytes (nodes-in bytes) (edges-in bytes) (v .outgoing) (v .incoming)
+  pub axes : AxesRead (w .outgoing) (w .incoming) (edge-capacity w) (node-capacity w) bytes (nodes-in bytes) (edges-in bytes) (v .outgoing) (v .incoming)
   pub live-nodes : Reset (w .live-nodes) (nodes-in bytes) (v .live-nodes)
   pub live-edges : Reset (w .live-edges) (edges-in bytes) (v .live-edges)
 
@@ -174,16 +174,16 @@ module _ {w : Words} {bytes : List ℕ} {v : Words} (a : Accepted (lengths-of w)
   sound : Sound (parsed bytes)
   sound = parsed-sound bytes (a .image)
 
-  ready : AxesReadable (w .outgoing) (w .incoming) (length (w .edges)) (length (w .nodes)) bytes (nodes-in bytes) (edges-in bytes)
+  ready : AxesReadable (w .outgoing) (w .incoming) (edge-capacity w) (node-capacity w) bytes (nodes-in bytes) (edges-in bytes)
   ready = axes-readable a (w .outgoing) (w .incoming) (a .roomy .outgoing-room) (a .roomy .incoming-room)
 
   -- the base of one direction
   base-of : {ws ws' : List ℕ} (end : EdgeRecord → ℕ) (ends lists : ℕ)
-      → AxisReadable ws (length (w .edges)) (length (w .nodes)) (nodes-in bytes) (edges-in bytes) bytes ends lists
-      → AxisRead ws (length (w .edges)) (length (w .nodes)) (nodes-in bytes) (edges-in bytes) bytes ends lists ws'
+      → AxisReadable ws (edge-capacity w) (node-capacity w) (nodes-in bytes) (edges-in bytes) bytes ends lists
+      → AxisRead ws (edge-capacity w) (node-capacity w) (nodes-in bytes) (edges-in bytes) bytes ends lists ws'
       → map (spread bytes ends (record-width (least-width (nodes-in bytes))) (least-width (nodes-in bytes))) (from 0 (edges-in bytes)) ≡ map end (parsed bytes .edges)
       → Fitted (length (parsed bytes .nodes)) (map end (parsed bytes .edges)) (lists-at lists (map end (parsed bytes .edges)))
-      → NewBase ws' (length (w .edges)) (length (w .nodes)) (v .counts) (map end (parsed bytes .edges)) (lists-at lists (map end (parsed bytes .edges)))
+      → NewBase ws' (edge-capacity w) (node-capacity w) (v .counts) (map end (parsed bytes .edges)) (lists-at lists (map end (parsed bytes .edges)))
   base-of end ends lists ready read are fitted =
       let of-nodes = subst (λ (k : ℕ). Fitted k (map end (parsed bytes .edges)) (lists-at lists (map end (parsed bytes .edges)))) (nodes-length bytes) fitted in
       let entries = fields-at bytes lists (least-width (edges-in bytes)) (edges-in bytes) in
@@ -195,19 +195,19 @@ module _ {w : Words} {bytes : List ℕ} {v : Words} (a : Accepted (lengths-of w)
       (sum-list-lengths (nodes-in bytes) (below-of (map end (parsed bytes .edges)) (of-nodes .ends-below)) ∙ sym long)))
       of-nodes
 
-  out-base : NewBase (v .outgoing) (length (w .edges)) (length (w .nodes)) (v .counts) (map source-of (parsed bytes .edges)) (parsed bytes .outs)
+  out-base : NewBase (v .outgoing) (edge-capacity w) (node-capacity w) (v .counts) (map source-of (parsed bytes .edges)) (parsed bytes .outs)
   unfolding parsed
   out-base =
       base-of source-of (edges-start (nodes-in bytes)) (outs-start (nodes-in bytes) (edges-in bytes)) (ready .sources) (r .axes .sources)
       (sources-spread bytes (least-width (nodes-in bytes)) (edges-start (nodes-in bytes)) (edges-in bytes)) (sound .outs)
 
-  in-base : NewBase (v .incoming) (length (w .edges)) (length (w .nodes)) (v .counts) (map target-of (parsed bytes .edges)) (parsed bytes .ins)
+  in-base : NewBase (v .incoming) (edge-capacity w) (node-capacity w) (v .counts) (map target-of (parsed bytes .edges)) (parsed bytes .ins)
   unfolding parsed
   in-base =
       base-of target-of (edges-start (nodes-in bytes) + least-width (nodes-in bytes)) (ins-start (nodes-in bytes) (edges-in bytes)) (ready .targets) (r .axes .targets)
       (targets-spread bytes (least-width (nodes-in bytes)) (edges-start (nodes-in bytes)) (edges-in bytes)) (sound .ins)
 
-  sized-again : (d : TraversalDirection) → Sized (words-of d v) (length (v .edges)) (length (v .nodes))
+  sized-again : (d : TraversalDirection) → Sized (words-of d v) (edge-capacity v) (node-capacity v)
   sized-again Outgoing = subst₂ (Sized (v .outgoing)) (sym (r .lengths .edges)) (sym (r .lengths .nodes)) (sized-as (r .lengths .outgoing) (ready .sources .sized))
   sized-again Incoming = subst₂ (Sized (v .incoming)) (sym (r .lengths .edges)) (sym (r .lengths .nodes)) (sized-as (r .lengths .incoming) (ready .targets .sized))
 
@@ -239,16 +239,16 @@ module _ {w : Words} {bytes : List ℕ} {v : Words} (a : Accepted (lengths-of w)
 
   -- ---- the words that are left
 
-  axis-renewed : {ws ws' : List ℕ} {ends lists : ℕ} → AxisReadable ws (length (w .edges)) (length (w .nodes)) (nodes-in bytes) (edges-in bytes) bytes ends lists
-      → AxisRead ws (length (w .edges)) (length (w .nodes)) (nodes-in bytes) (edges-in bytes) bytes ends lists ws'
-      → AxisRenewed ws ws' (length (w .edges)) (length (w .nodes)) (nodes-in bytes) (edges-in bytes)
+  axis-renewed : {ws ws' : List ℕ} {ends lists : ℕ} → AxisReadable ws (edge-capacity w) (node-capacity w) (nodes-in bytes) (edges-in bytes) bytes ends lists
+      → AxisRead ws (edge-capacity w) (node-capacity w) (nodes-in bytes) (edges-in bytes) bytes ends lists ws'
+      → AxisRenewed ws ws' (edge-capacity w) (node-capacity w) (nodes-in bytes) (edges-in bytes)
   axis-renewed {ws} {lists = lists} ready read =
       let long = length-fields-at bytes lists (least-width (edges-in bytes)) (edges-in bytes) in
       rebuilt-renewed (record { compressible = base-readable ready (read .places) .compressible; there = omega arith }) (read .rebuilds) ws
       (λ i h. read .places .above i (omega arith))
 
   axis-left : (d : TraversalDirection)
-      → AxisRenewed (words-of d w) (words-of d v) (length (w .edges)) (length (w .nodes)) (nodes-in bytes) (edges-in bytes)
+      → AxisRenewed (words-of d w) (words-of d v) (edge-capacity w) (node-capacity w) (nodes-in bytes) (edges-in bytes)
   axis-left Outgoing = axis-renewed (ready .sources) (r .axes .sources)
   axis-left Incoming = axis-renewed (ready .targets) (r .axes .targets)
 
@@ -261,6 +261,6 @@ module _ {w : Words} {bytes : List ℕ} {v : Words} (a : Accepted (lengths-of w)
         edges = λ i h. r .payloads .edges-read .above i (omega arith);
         live-nodes = λ i h. reset-word (r .live-nodes) i (omega arith);
         live-edges = λ i h. reset-word (r .live-edges) i (omega arith);
-        axis = λ d. subst₂ (λ (n m : ℕ). AxisRenewed (words-of d w) (words-of d v) (length (w .edges)) (length (w .nodes)) n m) (sym nodes-bound) (sym edges-bound)
+        axis = λ d. subst₂ (λ (n m : ℕ). AxisRenewed (words-of d w) (words-of d v) (edge-capacity w) (node-capacity w) n m) (sym nodes-bound) (sym edges-bound)
             (axis-left d);
       }

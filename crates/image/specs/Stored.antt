@@ -28,7 +28,7 @@ use Rattle.plain.specs.Laws.Operating.{incident}
 use Rattle.plain.specs.Laws.Rank.{live-from-all-live}
 use Rattle.shape.specs.Columns.{cell, offset-at}
 use Rattle.shape.specs.Chains.{In, ring, until}
-use Rattle.shape.specs.Shape.{Words, node-live, edge-live, Shape, Adjacency, capacities, axis-words, axis-in, adjacency-of, no-adjacency, base-of, ring-of, raw, part, hiding, live-in, walk-of, has-run, node-flags-of, edge-flags-of, shape-of, plain-of, lists, is-compact}
+use Rattle.shape.specs.Shape.{Words, node-capacity, edge-capacity, node-live, edge-live, Shape, Adjacency, capacities, axis-words, axis-in, adjacency-of, no-adjacency, base-of, ring-of, raw, part, hiding, live-in, walk-of, has-run, node-flags-of, edge-flags-of, shape-of, plain-of, lists, is-compact}
 use Rattle.shape.specs.Checked.{Checked, Index, Indexed}
 use Rattle.shape.specs.Laws.CheckedShape.{checked-proper}
 use Rattle.shape.specs.Laws.Indexing.{total, parts-joined, front-range, ends-below-all}
@@ -160,10 +160,10 @@ module _ {w : Words} (k : Checked w) (compact : is-compact (shape-of w) ≡ true
   m = w .counts .edges .bound
 
   abbrev ce : ℕ
-  ce = length (w .edges)
+  ce = edge-capacity w
 
   abbrev cn : ℕ
-  cn = length (w .nodes)
+  cn = node-capacity w
 
   parts : CompactShape (shape-of w)
   parts = compact-shape compact

@@ -22,7 +22,7 @@ use Rattle.plain.specs.Laws.Operating.{incident}
 use Rattle.liveness.specs.FlagLaws.{length-flags}
 use Rattle.shape.specs.Columns.{end-at}
 use Rattle.shape.specs.Chains.{In}
-use Rattle.shape.specs.Shape.{Words, Adjacency, adjacency-in, adjacency-of, hiding, raw, live-in, node-live, edge-live, axis-words, shape-of, plain-of, node-flags-of, walk-of, run-list}
+use Rattle.shape.specs.Shape.{Words, Adjacency, node-capacity, edge-capacity, adjacency-in, adjacency-of, hiding, raw, live-in, node-live, edge-live, axis-words, shape-of, plain-of, node-flags-of, walk-of, run-list}
 use Rattle.shape.specs.Steps.{live-entries}
 use Rattle.shape.specs.Checked.{Checked}
 use Rattle.shape.specs.Laws.Chains.{in-none, in-front}
@@ -61,10 +61,10 @@ module _ {w : Words} (k : Checked w) (d : TraversalDirection) where
   ws = axis-words d w
 
   abbrev ce : ℕ
-  ce = length (w .edges)
+  ce = edge-capacity w
 
   abbrev cn : ℕ
-  cn = length (w .nodes)
+  cn = node-capacity w
 
   -- the rules of one axis
   pub checked-linked : Linked ws ce cn (w .counts)

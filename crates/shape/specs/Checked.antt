@@ -15,7 +15,7 @@ use Rattle.plain.specs.Laws.WellFormed.{WellFormed}
 use Rattle.liveness.specs.Flags.{packed}
 use Rattle.shape.specs.Columns.{Sized, cell, end-at, adjacency-at, last-at, first-at, tail-at, count-at, mark-at, offset-at}
 use Rattle.shape.specs.Chains.{In, Run, Ring}
-use Rattle.shape.specs.Shape.{Words, capacities, node-live, edge-live, axis-words, run-list, ring-of, Shape, shape-of, plain-of, adjacency-of, part, ascends}
+use Rattle.shape.specs.Shape.{Words, node-capacity, edge-capacity, capacities, node-live, edge-live, axis-words, run-list, ring-of, Shape, shape-of, plain-of, adjacency-of, part, ascends}
 
 -- rule 1 for one kind of slot, of capacity c
 pub record Bounded (c : ℕ) (s : Slots) : Type 0 where
@@ -61,13 +61,13 @@ pub record AxisChecked (ws : List ℕ) (ce cn : ℕ) (counts : Counts) (nodes ed
 
 -- A store that passes the check.
 pub record Checked (w : Words) : Type 0 where
-  pub nodes : Bounded (length (w .nodes)) (w .counts .nodes)
-  pub edges : Bounded (length (w .edges)) (w .counts .edges)
-  pub live-nodes-long : live-words (length (w .nodes)) ≤ length (w .live-nodes)
-  pub live-edges-long : live-words (length (w .edges)) ≤ length (w .live-edges)
+  pub nodes : Bounded (node-capacity w) (w .counts .nodes)
+  pub edges : Bounded (edge-capacity w) (w .counts .edges)
+  pub live-nodes-long : live-words (node-capacity w) ≤ length (w .live-nodes)
+  pub live-edges-long : live-words (edge-capacity w) ≤ length (w .live-edges)
   pub nodes-live : LiveRight (w .live-nodes) (node-live w) (w .counts .nodes)
   pub edges-live : LiveRight (w .live-edges) (edge-live w) (w .counts .edges)
-  pub axis : (d : TraversalDirection) → AxisChecked (axis-words d w) (length (w .edges)) (length (w .nodes)) (w .counts) (node-live w) (edge-live w)
+  pub axis : (d : TraversalDirection) → AxisChecked (axis-words d w) (edge-capacity w) (node-capacity w) (w .counts) (node-live w) (edge-live w)
   -- rule 7: "each live edge exactly once in its source's out-walk and once in its target's in-walk, both ends live, and no walk listing anything else"
   pub walks : WellFormed (capacities w) (plain-of (shape-of w))
 

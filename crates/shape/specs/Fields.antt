@@ -6,12 +6,12 @@ use Prim.Native.Nat.{ℕ, _+_, _*_, _≤_, _<_}
 use mathlib.Core.Path.{_≡_}
 use mathlib.Core.Logic.{_≢_}
 use mathlib.Core.List.{List}
-use lib.ListN.{length, getD}
+use lib.ListN.{getD}
 use Rattle.plain.specs.declared.TraversalDirection.{TraversalDirection}
 use Rattle.plain.specs.declared.Counts.{Counts}
 use Rattle.shape.specs.Columns.{cell, tail-at, count-at, mark-at}
 use Rattle.shape.specs.Chains.{In}
-use Rattle.shape.specs.Shape.{Words, lengths-of, axis-words, run-list, ring-of}
+use Rattle.shape.specs.Shape.{Words, node-capacity, edge-capacity, lengths-of, axis-words, run-list, ring-of}
 
 -- the columns of an axis
 pub data Column : Type 0 where
@@ -70,14 +70,14 @@ word-at w (node-payload x) = getD (w .nodes) x 0
 word-at w (edge-payload e) = getD (w .edges) e 0
 word-at w (node-bits i) = getD (w .live-nodes) i 0
 word-at w (edge-bits i) = getD (w .live-edges) i 0
-word-at w (axis-word d c x) = cell (axis-words d w) (begins (length (w .edges)) (length (w .nodes)) c) x
+word-at w (axis-word d c x) = cell (axis-words d w) (begins (edge-capacity w) (node-capacity w) c) x
 
 abbrev pub Field : Words → Place → Type 0
 Field w (node-payload x) = x < w .counts .nodes .bound
 Field w (edge-payload e) = e < w .counts .edges .bound
 Field w (node-bits i) = 64 * i < w .counts .nodes .bound
 Field w (edge-bits i) = 64 * i < w .counts .edges .bound
-Field w (axis-word d c x) = AxisField (axis-words d w) (length (w .edges)) (length (w .nodes)) (w .counts) c x
+Field w (axis-word d c x) = AxisField (axis-words d w) (edge-capacity w) (node-capacity w) (w .counts) c x
 
 abbrev pub NoField : Words → Place → Type 0
 NoField w p = Field w p → ⊥

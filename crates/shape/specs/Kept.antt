@@ -6,10 +6,10 @@ use native.Mathlib.Omega.{arith}
 use mathlib.Core.Path.{_≡_, refl, sym, _∙_}
 use mathlib.Core.Logic.{_⊎_, inl, inr, ⊎-elim}
 use mathlib.Core.List.{List}
-use lib.ListN.{length, getD}
+use lib.ListN.{getD}
 use Rattle.plain.specs.declared.TraversalDirection.{TraversalDirection}
 use Rattle.plain.specs.Laws.Booleans.{below-or-not}
-use Rattle.shape.specs.Shape.{Words, axis-words}
+use Rattle.shape.specs.Shape.{Words, node-capacity, edge-capacity, axis-words}
 
 -- the words from `from` on, and those of them below `to`
 abbrev pub SameFrom : List ℕ → List ℕ → ℕ → Type 0
@@ -22,9 +22,9 @@ SameWithin ws vs from to = (i : ℕ) → from ≤ i → i < to → getD vs i 0 �
 
 -- The words that no call writes: of both live slices those that hold no bit of a slot below the capacity, of both axes those past the last offset.
 pub record Spared (w v : Words) : Type 0 where
-  pub live-nodes : (i : ℕ) → length (w .nodes) ≤ 64 * i → getD (v .live-nodes) i 0 ≡ getD (w .live-nodes) i 0
-  pub live-edges : (i : ℕ) → length (w .edges) ≤ 64 * i → getD (v .live-edges) i 0 ≡ getD (w .live-edges) i 0
-  pub axis : (d : TraversalDirection) → SameFrom (axis-words d w) (axis-words d v) (4 * length (w .edges) + 6 * length (w .nodes) + 1)
+  pub live-nodes : (i : ℕ) → node-capacity w ≤ 64 * i → getD (v .live-nodes) i 0 ≡ getD (w .live-nodes) i 0
+  pub live-edges : (i : ℕ) → edge-capacity w ≤ 64 * i → getD (v .live-edges) i 0 ≡ getD (w .live-edges) i 0
+  pub axis : (d : TraversalDirection) → SameFrom (axis-words d w) (axis-words d v) (4 * edge-capacity w + 6 * node-capacity w + 1)
 
 pub nothing-spared : (w : Words) → Spared w w
 nothing-spared w = record { live-nodes = λ i h. refl; live-edges = λ i h. refl; axis = λ d i h. refl }
@@ -68,7 +68,7 @@ pub record Kept (w v : Words) : Type 0 where
   pub live-nodes : (i : ℕ) → v .counts .nodes .bound ≤ 64 * i → getD (v .live-nodes) i 0 ≡ getD (w .live-nodes) i 0
   pub live-edges : (i : ℕ) → v .counts .edges .bound ≤ 64 * i → getD (v .live-edges) i 0 ≡ getD (w .live-edges) i 0
   pub axis : (d : TraversalDirection)
-      → AxisKept (axis-words d w) (axis-words d v) (length (w .edges)) (length (w .nodes)) (w .counts .nodes .bound) (v .counts .nodes .bound) (v .counts .edges .bound)
+      → AxisKept (axis-words d w) (axis-words d v) (edge-capacity w) (node-capacity w) (w .counts .nodes .bound) (v .counts .nodes .bound) (v .counts .edges .bound)
 
 -- ---- what compaction and image reading may write
 
@@ -92,7 +92,7 @@ pub record Renewed (w v : Words) : Type 0 where
   pub live-nodes : (i : ℕ) → v .counts .nodes .bound ≤ 64 * i → getD (v .live-nodes) i 0 ≡ getD (w .live-nodes) i 0
   pub live-edges : (i : ℕ) → v .counts .edges .bound ≤ 64 * i → getD (v .live-edges) i 0 ≡ getD (w .live-edges) i 0
   pub axis : (d : TraversalDirection)
-      → AxisRenewed (axis-words d w) (axis-words d v) (length (w .edges)) (length (w .nodes)) (v .counts .nodes .bound) (v .counts .edges .bound)
+      → AxisRenewed (axis-words d w) (axis-words d v) (edge-capacity w) (node-capacity w) (v .counts .nodes .bound) (v .counts .edges .bound)
 
 -- ---- laws
 
@@ -152,10 +152,10 @@ kept-none w = record {
   edges = λ i h. refl;
   live-nodes = λ i h. refl;
   live-edges = λ i h. refl;
-  axis = λ d. axis-kept-none (axis-words d w) (length (w .edges)) (length (w .nodes)) (w .counts .nodes .bound) (w .counts .edges .bound);
+  axis = λ d. axis-kept-none (axis-words d w) (edge-capacity w) (node-capacity w) (w .counts .nodes .bound) (w .counts .edges .bound);
 }
 
-pub kept-through : {w v u : Words} → length (v .nodes) ≡ length (w .nodes) → length (v .edges) ≡ length (w .edges) → Kept w v → Kept v u → Kept w u
+pub kept-through : {w v u : Words} → node-capacity v ≡ node-capacity w → edge-capacity v ≡ edge-capacity w → Kept w v → Kept v u → Kept w u
 kept-through {w} {v} {u} nodes edges a b = record {
   nodes-grow = le-trans (a .nodes-grow) (b .nodes-grow);
   edges-grow = le-trans (a .edges-grow) (b .edges-grow);
@@ -167,7 +167,7 @@ kept-through {w} {v} {u} nodes edges a b = record {
 }
 
 -- spare words are past the bounds, so they stay
-pub kept-spared : {w v : Words} → v .counts .nodes .bound ≤ length (w .nodes) → v .counts .edges .bound ≤ length (w .edges) → Kept w v → Spared w v
+pub kept-spared : {w v : Words} → v .counts .nodes .bound ≤ node-capacity w → v .counts .edges .bound ≤ edge-capacity w → Kept w v → Spared w v
 kept-spared nodes edges k = record {
   live-nodes = λ i h. k .live-nodes i (omega arith);
   live-edges = λ i h. k .live-edges i (omega arith);
@@ -191,7 +191,7 @@ renewed-none w = record {
   };
 }
 
-pub renewed-spared : {w v : Words} → v .counts .nodes .bound ≤ length (w .nodes) → v .counts .edges .bound ≤ length (w .edges) → Renewed w v → Spared w v
+pub renewed-spared : {w v : Words} → v .counts .nodes .bound ≤ node-capacity w → v .counts .edges .bound ≤ edge-capacity w → Renewed w v → Spared w v
 renewed-spared nodes edges k = record {
   live-nodes = λ i h. k .live-nodes i (omega arith);
   live-edges = λ i h. k .live-edges i (omega arith);

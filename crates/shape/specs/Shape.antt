@@ -82,8 +82,15 @@ store counts nodes edges live-nodes live-edges outgoing incoming = record {
   incoming = incoming;
 }
 
+-- how many node slots and how many edge slots there is memory for
+abbrev pub node-capacity : Words → ℕ
+node-capacity w = length (w .nodes)
+
+abbrev pub edge-capacity : Words → ℕ
+edge-capacity w = length (w .edges)
+
 abbrev pub capacities : Words → Capacities
-capacities w = record { nodes = length (w .nodes); edges = length (w .edges) }
+capacities w = record { nodes = node-capacity w; edges = edge-capacity w }
 
 -- the lengths of a store's memory
 abbrev pub lengths-of : Words → Lengths
@@ -126,8 +133,8 @@ shape-of w = record {
   edges = map (λ e. record { payload = getD (w .edges) e 0; live = getD (edge-live w) e false }) (from 0 (w .counts .edges .bound));
   base-nodes = w .counts .nodes .base;
   base-edges = w .counts .edges .base;
-  outgoing = axis-of (w .outgoing) (length (w .edges)) (length (w .nodes)) (w .counts);
-  incoming = axis-of (w .incoming) (length (w .edges)) (length (w .nodes)) (w .counts);
+  outgoing = axis-of (w .outgoing) (edge-capacity w) (node-capacity w) (w .counts);
+  incoming = axis-of (w .incoming) (edge-capacity w) (node-capacity w) (w .counts);
 }
 
 -- ---- from the shape to the plain lists

@@ -16,7 +16,7 @@ use Rattle.plain.specs.Laws.Cases.{comes-to, add-node, add-edge}
 use Rattle.plain.specs.Laws.Rank.{live-below}
 use Rattle.liveness.specs.Calls.{Pushed}
 use Rattle.liveness.specs.FlagLaws.{length-flags}
-use Rattle.shape.specs.Shape.{Words, capacities, node-live, edge-live, axis-words, axis-of, shape-of, plain-of, store, lists}
+use Rattle.shape.specs.Shape.{Words, node-capacity, edge-capacity, capacities, node-live, edge-live, axis-words, axis-of, shape-of, plain-of, store, lists}
 use Rattle.shape.specs.Checked.{AxisChecked}
 use Rattle.shape.specs.Kept.{AxisKept}
 use Rattle.shape.specs.Writes.{WritesAxis}
@@ -40,7 +40,7 @@ module _ {w : Words} (pre : NodeAddable w) where
   }
 
   -- both directions have the words of the slot
-  pub node-openable : (d : TraversalDirection) → Openable (axis-words d w) (length (w .edges)) (length (w .nodes)) (w .counts .nodes .bound)
+  pub node-openable : (d : TraversalDirection) → Openable (axis-words d w) (edge-capacity w) (node-capacity w) (w .counts .nodes .bound)
   node-openable d = record { sized = pre .checked .axis d .sized; room = pre .room }
 
   -- the step of document 01 adds a node; its value is the slot
@@ -55,8 +55,8 @@ module _ {w : Words} (pre : NodeAddable w) where
       (fits : payload < 2 ^ 32)
       {live outgoing incoming : List ℕ}
       (pushed : Pushed (w .live-nodes) (w .counts .nodes .bound) live)
-      (out : Opened (w .outgoing) outgoing (length (w .edges)) (length (w .nodes)) (w .counts .nodes .bound))
-      (inc : Opened (w .incoming) incoming (length (w .edges)) (length (w .nodes)) (w .counts .nodes .bound))
+      (out : Opened (w .outgoing) outgoing (edge-capacity w) (node-capacity w) (w .counts .nodes .bound))
+      (inc : Opened (w .incoming) incoming (edge-capacity w) (node-capacity w) (w .counts .nodes .bound))
       (live-long : length live ≡ length (w .live-nodes))
       (out-long : length outgoing ≡ length (w .outgoing))
       (inc-long : length incoming ≡ length (w .incoming))
@@ -126,12 +126,12 @@ module _ {w : Words} (pre : NodeAddable w) where
           written Incoming i off = inc .kept i (λ q. off (inl q)) (λ q. off (inr q))
 
           kept : (d : TraversalDirection)
-              → AxisKept (axis-words d w) (axis-words d with-node) (length (w .edges)) (length (w .nodes)) (w .counts .nodes .bound) (w .counts .nodes .bound + 1) (w .counts .edges .bound)
+              → AxisKept (axis-words d w) (axis-words d with-node) (edge-capacity w) (node-capacity w) (w .counts .nodes .bound) (w .counts .nodes .bound + 1) (w .counts .edges .bound)
           kept Outgoing = opened-kept (w .counts .edges .bound) out (pre .room)
           kept Incoming = opened-kept (w .counts .edges .bound) inc (pre .room)
 
           directions : (d : TraversalDirection)
-              → AxisChecked (axis-words d with-node) (length (w .edges)) (length (with-node .nodes)) (with-node .counts) (node-live with-node) (edge-live w)
+              → AxisChecked (axis-words d with-node) (edge-capacity w) (length (with-node .nodes)) (with-node .counts) (node-live with-node) (edge-live w)
           directions Outgoing = rw (node-lengths .nodes, pushed .flags) (opened-checked (pre .checked) Outgoing outgoing out-long out (pre .room))
           directions Incoming = rw (node-lengths .nodes, pushed .flags) (opened-checked (pre .checked) Incoming incoming inc-long inc (pre .room))
 
@@ -151,7 +151,7 @@ module _ {w : Words} {source target : ℕ} (pre : EdgeAddable w source target) w
 
   -- in a direction the edge can be appended at a live node
   pub edge-appendable : (d : TraversalDirection) (x : ℕ) → getD (node-live w) x false ≡ true
-      → Appendable (axis-words d w) (length (w .edges)) (length (w .nodes)) (w .counts .nodes .bound) (w .counts .edges .base) x (w .counts .edges .bound)
+      → Appendable (axis-words d w) (edge-capacity w) (node-capacity w) (w .counts .nodes .bound) (w .counts .edges .base) x (w .counts .edges .bound)
   edge-appendable d x live = record {
     sized = pre .checked .axis d .sized;
     rings = pre .checked .axis d .rings;
@@ -175,8 +175,8 @@ module _ {w : Words} {source target : ℕ} (pre : EdgeAddable w source target) w
       (fits : payload < 2 ^ 32)
       {live outgoing incoming : List ℕ}
       (pushed : Pushed (w .live-edges) (w .counts .edges .bound) live)
-      (out : Appended (w .outgoing) outgoing (length (w .edges)) (w .counts .nodes .bound) (w .counts .edges .base) source (w .counts .edges .bound))
-      (inc : Appended (w .incoming) incoming (length (w .edges)) (w .counts .nodes .bound) (w .counts .edges .base) target (w .counts .edges .bound))
+      (out : Appended (w .outgoing) outgoing (edge-capacity w) (w .counts .nodes .bound) (w .counts .edges .base) source (w .counts .edges .bound))
+      (inc : Appended (w .incoming) incoming (edge-capacity w) (w .counts .nodes .bound) (w .counts .edges .base) target (w .counts .edges .bound))
       (live-long : length live ≡ length (w .live-edges))
       (out-long : length outgoing ≡ length (w .outgoing))
       (inc-long : length incoming ≡ length (w .incoming))
@@ -207,9 +207,9 @@ module _ {w : Words} {source target : ℕ} (pre : EdgeAddable w source target) w
           (length-flags (w .live-edges) (w .counts .edges .bound)) (pre .checked .edges .bound-within) payload (pre .room))
           refl refl
           (appended-axis (pre .checked) Outgoing outgoing out-long source out (pre .room) (end-below source (pre .source-live))
-          ∙ ap (λ (e : ℕ). appended e source (axis-of (w .outgoing) (length (w .edges)) (length (w .nodes)) (w .counts))) (sym (edge-bound-is w)))
+          ∙ ap (λ (e : ℕ). appended e source (axis-of (w .outgoing) (edge-capacity w) (node-capacity w) (w .counts))) (sym (edge-bound-is w)))
           (appended-axis (pre .checked) Incoming incoming inc-long target inc (pre .room) (end-below target (pre .target-live))
-          ∙ ap (λ (e : ℕ). appended e target (axis-of (w .incoming) (length (w .edges)) (length (w .nodes)) (w .counts))) (sym (edge-bound-is w))))
+          ∙ ap (λ (e : ℕ). appended e target (axis-of (w .incoming) (edge-capacity w) (node-capacity w) (w .counts))) (sym (edge-bound-is w))))
 
       -- the edge was added
       pub edge-acted : Acted (AddEdge source target payload) w with-edge
@@ -249,12 +249,12 @@ module _ {w : Words} {source target : ℕ} (pre : EdgeAddable w source target) w
           written Incoming i off = appended-writes inc i off
 
           kept : (d : TraversalDirection)
-              → AxisKept (axis-words d w) (axis-words d with-edge) (length (w .edges)) (length (w .nodes)) (w .counts .nodes .bound) (w .counts .nodes .bound) (w .counts .edges .bound + 1)
+              → AxisKept (axis-words d w) (axis-words d with-edge) (edge-capacity w) (node-capacity w) (w .counts .nodes .bound) (w .counts .nodes .bound) (w .counts .edges .bound + 1)
           kept Outgoing = appended-kept out (end-below source (pre .source-live)) (pre .checked .nodes .bound-within) (pre .room)
           kept Incoming = appended-kept inc (end-below target (pre .target-live)) (pre .checked .nodes .bound-within) (pre .room)
 
           directions : (d : TraversalDirection)
-              → AxisChecked (axis-words d with-edge) (length (with-edge .edges)) (length (w .nodes)) (with-edge .counts) (node-live w) (edge-live with-edge)
+              → AxisChecked (axis-words d with-edge) (length (with-edge .edges)) (node-capacity w) (with-edge .counts) (node-live w) (edge-live with-edge)
           directions Outgoing =
               rw (edge-lengths .edges, pushed .flags)
               (appended-checked (pre .checked) Outgoing outgoing out-long source out (pre .room) (end-below source (pre .source-live)))

@@ -15,7 +15,7 @@ use Rattle.plain.specs.Laws.Booleans.{by-test, true-false, below-or-not}
 use Rattle.liveness.specs.FlagLaws.{length-flags}
 use Rattle.shape.specs.Columns.{Sized, mark-at}
 use Rattle.shape.specs.Chains.{In}
-use Rattle.shape.specs.Shape.{Words, Adjacency, Axis, node-live, edge-live, axis-words, base-of, run-list, run-of, ring-of, hiding, no-adjacency, axis-of}
+use Rattle.shape.specs.Shape.{Words, Adjacency, Axis, node-capacity, edge-capacity, node-live, edge-live, axis-words, base-of, run-list, run-of, ring-of, hiding, no-adjacency, axis-of}
 use Rattle.shape.specs.Checked.{AxisChecked, Checked}
 use Rattle.shape.specs.Steps.{opened, appended}
 use Rattle.shape.specs.Laws.Frames.{base-kept, index-kept, run-list-below, run-list-kept, run-kept, runs-kept}
@@ -57,10 +57,10 @@ module _ {w : Words} (checked : Checked w) (d : TraversalDirection) (vs : List �
   ws = axis-words d w
 
   abbrev ce : ℕ
-  ce = length (w .edges)
+  ce = edge-capacity w
 
   abbrev cn : ℕ
-  cn = length (w .nodes)
+  cn = node-capacity w
 
   abbrev counts : Counts
   counts = w .counts

@@ -22,7 +22,7 @@ use Rattle.plain.specs.Laws.Rank.{live-below}
 use Rattle.liveness.specs.Calls.{Cleared}
 use Rattle.liveness.specs.FlagLaws.{length-flags}
 use Rattle.shape.specs.Chains.{In}
-use Rattle.shape.specs.Shape.{Words, node-live, edge-live, axis-words, axis-of, shape-of, plain-of, lists, store}
+use Rattle.shape.specs.Shape.{Words, node-capacity, edge-capacity, node-live, edge-live, axis-words, axis-of, shape-of, plain-of, lists, store}
 use Rattle.shape.specs.Checked.{AxisChecked, Checked}
 use Rattle.shape.specs.Kept.{AxisKept, axis-kept-none}
 use Rattle.shape.specs.Steps.{acted, walk-in as walk-of-shape}
@@ -79,7 +79,7 @@ module _ {w : Words} (checked : Checked w) (node : ℕ) (live : getD (node-live 
 
       -- a direction passes the check without it: a live edge of the node's run went with it
       clear-direction : (d : TraversalDirection)
-          → AxisChecked (axis-words d w) (length (w .edges)) (length (w .nodes)) (without-node .counts) (node-live without-node) (edge-live without-node)
+          → AxisChecked (axis-words d w) (edge-capacity w) (node-capacity w) (without-node .counts) (node-live without-node) (edge-live without-node)
       clear-direction d =
           let old = checked .axis d in
           record {
@@ -153,12 +153,12 @@ module _ {w : Words} (checked : Checked w) (node : ℕ) (live : getD (node-live 
           written Incoming i off = refl
 
           kept : (d : TraversalDirection)
-              → AxisKept (axis-words d w) (axis-words d without-node) (length (w .edges)) (length (w .nodes)) (w .counts .nodes .bound) (w .counts .nodes .bound) (w .counts .edges .bound)
-          kept Outgoing = axis-kept-none (w .outgoing) (length (w .edges)) (length (w .nodes)) (w .counts .nodes .bound) (w .counts .edges .bound)
-          kept Incoming = axis-kept-none (w .incoming) (length (w .edges)) (length (w .nodes)) (w .counts .nodes .bound) (w .counts .edges .bound)
+              → AxisKept (axis-words d w) (axis-words d without-node) (edge-capacity w) (node-capacity w) (w .counts .nodes .bound) (w .counts .nodes .bound) (w .counts .edges .bound)
+          kept Outgoing = axis-kept-none (w .outgoing) (edge-capacity w) (node-capacity w) (w .counts .nodes .bound) (w .counts .edges .bound)
+          kept Incoming = axis-kept-none (w .incoming) (edge-capacity w) (node-capacity w) (w .counts .nodes .bound) (w .counts .edges .bound)
 
           directions : (d : TraversalDirection)
-              → AxisChecked (axis-words d without-node) (length (w .edges)) (length (w .nodes)) (without-node .counts) (node-live without-node) (edge-live without-node)
+              → AxisChecked (axis-words d without-node) (edge-capacity w) (node-capacity w) (without-node .counts) (node-live without-node) (edge-live without-node)
           directions Outgoing = clear-direction Outgoing
           directions Incoming = clear-direction Incoming
 
@@ -190,14 +190,14 @@ module _
 
       -- and its walks can be cleared, the second after the first
       pub node-clearable : (d : TraversalDirection) {live-edges : List ℕ} → length live-edges ≡ length (w .live-edges)
-          → Clearable (axis-words d w) (length (w .edges)) (length (w .nodes)) (w .counts) live-edges node
+          → Clearable (axis-words d w) (edge-capacity w) (node-capacity w) (w .counts) live-edges node
       node-clearable d long = checked-clearable checked d node (node-below checked node was-live) long
 
       module _
           {mid edges-after : List ℕ}
           {n m : ℕ}
-          (first : Retired (w .counts .edges .bound) (walk-in (w .outgoing) (length (w .edges)) (length (w .nodes)) (w .counts) (w .live-edges) node true) (w .live-edges) mid n)
-          (second : Retired (w .counts .edges .bound) (walk-in (w .incoming) (length (w .edges)) (length (w .nodes)) (w .counts) mid node true) mid edges-after m)
+          (first : Retired (w .counts .edges .bound) (walk-in (w .outgoing) (edge-capacity w) (node-capacity w) (w .counts) (w .live-edges) node true) (w .live-edges) mid n)
+          (second : Retired (w .counts .edges .bound) (walk-in (w .incoming) (edge-capacity w) (node-capacity w) (w .counts) mid node true) mid edges-after m)
         where
           pub both-gone : Retired (w .counts .edges .bound) (incident checked node was-live) (w .live-edges) edges-after (n + m)
           both-gone = node-retired w node (node-below checked node was-live) {mid = mid} {after = edges-after} {n = n} {m = m} (rw was-live first) (rw was-live second)

@@ -19,7 +19,7 @@ use Rattle.plain.specs.Laws.Deleting.{getD-set}
 use Rattle.plain.specs.Laws.Rank.{live-below}
 use Rattle.liveness.specs.Calls.{Cleared}
 use Rattle.liveness.specs.FlagLaws.{length-flags}
-use Rattle.shape.specs.Shape.{Words, capacities, node-live, edge-live, axis-words, axis-of, shape-of, plain-of, store, lists}
+use Rattle.shape.specs.Shape.{Words, node-capacity, edge-capacity, capacities, node-live, edge-live, axis-words, axis-of, shape-of, plain-of, store, lists}
 use Rattle.shape.specs.Checked.{AxisChecked, Checked}
 use Rattle.shape.specs.Kept.{AxisKept, axis-kept-none}
 use Rattle.shape.specs.Steps.{retired, acted}
@@ -59,7 +59,7 @@ module _ {w : Words} (checked : Checked w) (edge : ℕ) (live : getD (edge-live 
   removed-below = rw (← length-flags (w .live-edges) (w .counts .edges .bound)) (live-below (edge-live w) edge live)
 
   -- a direction passes the check without it
-  remove-direction : (d : TraversalDirection) → AxisChecked (axis-words d w) (length (w .edges)) (length (w .nodes))
+  remove-direction : (d : TraversalDirection) → AxisChecked (axis-words d w) (edge-capacity w) (node-capacity w)
       (with-edges (fewer 1 (w .counts .edges)) (w .counts)) (node-live w) (set (edge-live w) edge false)
   remove-direction d =
       let old = checked .axis d in
@@ -130,16 +130,16 @@ module _ {w : Words} (checked : Checked w) (edge : ℕ) (live : getD (edge-live 
       }
         where
           kept : (d : TraversalDirection)
-              → AxisKept (axis-words d w) (axis-words d without-edge) (length (w .edges)) (length (w .nodes)) (w .counts .nodes .bound) (w .counts .nodes .bound) (w .counts .edges .bound)
-          kept Outgoing = axis-kept-none (w .outgoing) (length (w .edges)) (length (w .nodes)) (w .counts .nodes .bound) (w .counts .edges .bound)
-          kept Incoming = axis-kept-none (w .incoming) (length (w .edges)) (length (w .nodes)) (w .counts .nodes .bound) (w .counts .edges .bound)
+              → AxisKept (axis-words d w) (axis-words d without-edge) (edge-capacity w) (node-capacity w) (w .counts .nodes .bound) (w .counts .nodes .bound) (w .counts .edges .bound)
+          kept Outgoing = axis-kept-none (w .outgoing) (edge-capacity w) (node-capacity w) (w .counts .nodes .bound) (w .counts .edges .bound)
+          kept Incoming = axis-kept-none (w .incoming) (edge-capacity w) (node-capacity w) (w .counts .nodes .bound) (w .counts .edges .bound)
 
           written : (d : TraversalDirection) (i : ℕ) → (⊥ → ⊥) → getD (axis-words d without-edge) i 0 ≡ getD (axis-words d w) i 0
           written Outgoing i off = refl
           written Incoming i off = refl
 
           directions : (d : TraversalDirection)
-              → AxisChecked (axis-words d without-edge) (length (w .edges)) (length (w .nodes)) (without-edge .counts) (node-live w) (edge-live without-edge)
+              → AxisChecked (axis-words d without-edge) (edge-capacity w) (node-capacity w) (without-edge .counts) (node-live w) (edge-live without-edge)
           directions Outgoing = rw (cleared .flags) (remove-direction Outgoing)
           directions Incoming = rw (cleared .flags) (remove-direction Incoming)
 
@@ -250,11 +250,11 @@ module _ {w : Words} {edge : ℕ} (pre : PayloadSettable w edge) (payload : ℕ)
       written Incoming i off = refl
 
       kept : (d : TraversalDirection)
-          → AxisKept (axis-words d w) (axis-words d with-payload) (length (w .edges)) (length (w .nodes)) (w .counts .nodes .bound) (w .counts .nodes .bound) (w .counts .edges .bound)
-      kept Outgoing = axis-kept-none (w .outgoing) (length (w .edges)) (length (w .nodes)) (w .counts .nodes .bound) (w .counts .edges .bound)
-      kept Incoming = axis-kept-none (w .incoming) (length (w .edges)) (length (w .nodes)) (w .counts .nodes .bound) (w .counts .edges .bound)
+          → AxisKept (axis-words d w) (axis-words d with-payload) (edge-capacity w) (node-capacity w) (w .counts .nodes .bound) (w .counts .nodes .bound) (w .counts .edges .bound)
+      kept Outgoing = axis-kept-none (w .outgoing) (edge-capacity w) (node-capacity w) (w .counts .nodes .bound) (w .counts .edges .bound)
+      kept Incoming = axis-kept-none (w .incoming) (edge-capacity w) (node-capacity w) (w .counts .nodes .bound) (w .counts .edges .bound)
 
       directions : (d : TraversalDirection)
-          → AxisChecked (axis-words d with-payload) (length (with-payload .edges)) (length (w .nodes)) (w .counts) (node-live w) (edge-live w)
+          → AxisChecked (axis-words d with-payload) (length (with-payload .edges)) (node-capacity w) (w .counts) (node-live w) (edge-live w)
       directions Outgoing = rw (payload-lengths .edges) (pre .checked .axis Outgoing)
       directions Incoming = rw (payload-lengths .edges) (pre .checked .axis Incoming)

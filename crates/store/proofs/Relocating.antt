@@ -22,7 +22,7 @@ use Rattle.plain.specs.Laws.Stepping.{Fitting}
 use Rattle.liveness.specs.FlagLaws.{length-flags}
 use Rattle.shape.specs.Columns.{end-at}
 use Rattle.shape.specs.Chains.{In}
-use Rattle.shape.specs.Shape.{Words, Axis, capacities, node-live, edge-live, axis-words, axis-of, axis-in, edge-flags-of, live-in, raw, walk-of, adjacency-in, shape-of, plain-of, lists}
+use Rattle.shape.specs.Shape.{Words, Axis, node-capacity, edge-capacity, capacities, node-live, edge-live, axis-words, axis-of, axis-in, edge-flags-of, live-in, raw, walk-of, adjacency-in, shape-of, plain-of, lists}
 use Rattle.shape.specs.Checked.{AxisChecked, Checked}
 use Rattle.shape.specs.Kept.{AxisKept, Kept, axis-kept-none}
 use Rattle.shape.specs.Writes.{WritesAxis, Writes}
@@ -47,12 +47,12 @@ all-live {w} k d none =
     (λ q. checked-all-live k d (eqb-true (w .counts .edges .live) (w .counts .edges .bound) q)) (λ q. true-false (ap not q) none)
 
 pub redirectable : {w : Words} {edge new : ℕ} → EdgeRedirectable w edge new → (d : TraversalDirection)
-    → Redirectable (axis-words d w) (length (w .edges)) (length (w .nodes)) (w .counts) (w .live-edges) (tombstoned-in (w .counts)) edge new
+    → Redirectable (axis-words d w) (edge-capacity w) (node-capacity w) (w .counts) (w .live-edges) (tombstoned-in (w .counts)) edge new
 redirectable {w} {edge} {new} pre d =
     checked-redirectable (pre .checked) d (tombstoned-in (w .counts)) (all-live (pre .checked) d) edge new (pre .alive) (pre .new-live)
 
 pub movable : {d : TraversalDirection} {w : Words} {old new : ℕ} → EdgesMovable d w old new
-    → Movable (axis-words d w) (length (w .edges)) (length (w .nodes)) (w .counts) (w .live-edges) (tombstoned-in (w .counts)) old new
+    → Movable (axis-words d w) (edge-capacity w) (node-capacity w) (w .counts) (w .live-edges) (tombstoned-in (w .counts)) old new
 movable {d} {w} {old} {new} pre =
     checked-movable (pre .checked) d (tombstoned-in (w .counts)) (all-live (pre .checked) d) old new (pre .apart) (pre .old-live) (pre .new-live)
 
@@ -89,7 +89,7 @@ axis-lengths w Incoming vs long = record { nodes = refl; edges = refl; live-node
 
 -- the words that an operation leaves
 axis-kept : (w : Words) (d : TraversalDirection) (vs : List ℕ)
-    → AxisKept (axis-words d w) vs (length (w .edges)) (length (w .nodes)) (w .counts .nodes .bound) (w .counts .nodes .bound) (w .counts .edges .bound) → Kept w (with-axis-words d vs w)
+    → AxisKept (axis-words d w) vs (edge-capacity w) (node-capacity w) (w .counts .nodes .bound) (w .counts .nodes .bound) (w .counts .edges .bound) → Kept w (with-axis-words d vs w)
 axis-kept w Outgoing vs frame = record {
   nodes-grow = omega arith;
   edges-grow = omega arith;
@@ -100,10 +100,10 @@ axis-kept w Outgoing vs frame = record {
   axis = directions;
 }
   where
-    directions : (d : TraversalDirection) → AxisKept (axis-words d w) (axis-words d (with-axis-words Outgoing vs w)) (length (w .edges)) (length (w .nodes))
+    directions : (d : TraversalDirection) → AxisKept (axis-words d w) (axis-words d (with-axis-words Outgoing vs w)) (edge-capacity w) (node-capacity w)
         (w .counts .nodes .bound) (w .counts .nodes .bound) (w .counts .edges .bound)
     directions Outgoing = frame
-    directions Incoming = axis-kept-none (w .incoming) (length (w .edges)) (length (w .nodes)) (w .counts .nodes .bound) (w .counts .edges .bound)
+    directions Incoming = axis-kept-none (w .incoming) (edge-capacity w) (node-capacity w) (w .counts .nodes .bound) (w .counts .edges .bound)
 axis-kept w Incoming vs frame = record {
   nodes-grow = omega arith;
   edges-grow = omega arith;
@@ -114,9 +114,9 @@ axis-kept w Incoming vs frame = record {
   axis = directions;
 }
   where
-    directions : (d : TraversalDirection) → AxisKept (axis-words d w) (axis-words d (with-axis-words Incoming vs w)) (length (w .edges)) (length (w .nodes))
+    directions : (d : TraversalDirection) → AxisKept (axis-words d w) (axis-words d (with-axis-words Incoming vs w)) (edge-capacity w) (node-capacity w)
         (w .counts .nodes .bound) (w .counts .nodes .bound) (w .counts .edges .bound)
-    directions Outgoing = axis-kept-none (w .outgoing) (length (w .edges)) (length (w .nodes)) (w .counts .nodes .bound) (w .counts .edges .bound)
+    directions Outgoing = axis-kept-none (w .outgoing) (edge-capacity w) (node-capacity w) (w .counts .nodes .bound) (w .counts .edges .bound)
     directions Incoming = frame
 
 axis-writes : (w : Words) (d : TraversalDirection) (vs : List ℕ) (operation : Operation)
@@ -145,23 +145,23 @@ axis-writes w Incoming vs operation words = record {
     directions Incoming i off = words i off
 
 -- where the axis is what an edit makes of it, the shape is the one with the edited axis
-axis-shape : (w : Words) (d : TraversalDirection) (vs : List ℕ) (edit : List Bool → Axis → Axis) → axis-of vs (length (w .edges)) (length (w .nodes)) (w .counts)
-    ≡ edit (edge-live w) (axis-of (axis-words d w) (length (w .edges)) (length (w .nodes)) (w .counts))
+axis-shape : (w : Words) (d : TraversalDirection) (vs : List ℕ) (edit : List Bool → Axis → Axis) → axis-of vs (edge-capacity w) (node-capacity w) (w .counts)
+    ≡ edit (edge-live w) (axis-of (axis-words d w) (edge-capacity w) (node-capacity w) (w .counts))
     → shape-of (with-axis-words d vs w) ≡ with-axis d (edit (edge-flags-of (shape-of w)) (axis-in d (shape-of w))) (shape-of w)
 unfolding shape-of
 axis-shape w Outgoing vs edit is =
-    let old = axis-of (w .outgoing) (length (w .edges)) (length (w .nodes)) (w .counts) in
+    let old = axis-of (w .outgoing) (edge-capacity w) (node-capacity w) (w .counts) in
     shape-ext refl refl refl refl (is ∙ ap (λ (f : List Bool). edit f old) (sym (edge-flags-are w))) refl
 axis-shape w Incoming vs edit is =
-    let old = axis-of (w .incoming) (length (w .edges)) (length (w .nodes)) (w .counts) in
+    let old = axis-of (w .incoming) (edge-capacity w) (node-capacity w) (w .counts) in
     shape-ext refl refl refl refl refl (is ∙ ap (λ (f : List Bool). edit f old) (sym (edge-flags-are w)))
 
 -- an operation that edits one axis was done
 relocated-acted : {w : Words} → Checked w → (d : TraversalDirection) (vs : List ℕ) (operation : Operation) {o : Outcome}
     → step (capacities w) (lists w) operation ≡ o → acts operation o ≡ true → Fitting operation → length vs ≡ length (axis-words d w)
     → shape-of (with-axis-words d vs w) ≡ acted operation (shape-of w)
-    → AxisChecked vs (length (w .edges)) (length (w .nodes)) (w .counts) (node-live w) (edge-live w)
-    → AxisKept (axis-words d w) vs (length (w .edges)) (length (w .nodes)) (w .counts .nodes .bound) (w .counts .nodes .bound) (w .counts .edges .bound)
+    → AxisChecked vs (edge-capacity w) (node-capacity w) (w .counts) (node-live w) (edge-live w)
+    → AxisKept (axis-words d w) vs (edge-capacity w) (node-capacity w) (w .counts .nodes .bound) (w .counts .nodes .bound) (w .counts .edges .bound)
     → ((i : ℕ) → (WritesAxis operation w d i → ⊥) → getD vs i 0 ≡ getD (axis-words d w) i 0) → Acted operation w (with-axis-words d vs w)
 relocated-acted {w} k Outgoing vs operation comes acting fits long shape axis frame words = record {
   shape = shape;
@@ -181,7 +181,7 @@ relocated-acted {w} k Outgoing vs operation comes acting fits long shape axis fr
 }
   where
     directions : (d : TraversalDirection)
-        → AxisChecked (axis-words d (with-axis-words Outgoing vs w)) (length (w .edges)) (length (w .nodes)) (w .counts) (node-live w) (edge-live w)
+        → AxisChecked (axis-words d (with-axis-words Outgoing vs w)) (edge-capacity w) (node-capacity w) (w .counts) (node-live w) (edge-live w)
     directions Outgoing = axis
     directions Incoming = k .axis Incoming
 relocated-acted {w} k Incoming vs operation comes acting fits long shape axis frame words = record {
@@ -202,7 +202,7 @@ relocated-acted {w} k Incoming vs operation comes acting fits long shape axis fr
 }
   where
     directions : (d : TraversalDirection)
-        → AxisChecked (axis-words d (with-axis-words Incoming vs w)) (length (w .edges)) (length (w .nodes)) (w .counts) (node-live w) (edge-live w)
+        → AxisChecked (axis-words d (with-axis-words Incoming vs w)) (edge-capacity w) (node-capacity w) (w .counts) (node-live w) (edge-live w)
     directions Outgoing = k .axis Outgoing
     directions Incoming = axis
 
@@ -212,7 +212,7 @@ same-words w Incoming vs same = ap (λ (l : List ℕ). with-axis-words Incoming 
 
 -- the edge was redirected
 pub redirecting : {w : Words} {edge new : ℕ} (pre : EdgeRedirectable w edge new) (d : TraversalDirection) (vs : List ℕ) {answer : ℕ}
-    → Redirected (axis-words d w) vs (length (w .edges)) (length (w .nodes)) (w .counts) (w .live-edges) edge new answer → length vs ≡ length (axis-words d w)
+    → Redirected (axis-words d w) vs (edge-capacity w) (node-capacity w) (w .counts) (w .live-edges) edge new answer → length vs ≡ length (axis-words d w)
     → RedirectedEdge d edge new w answer (with-axis-words d vs w)
 unfolding acted plain-of
 redirecting {w} {edge} {new} pre d vs done long =
@@ -231,12 +231,12 @@ redirecting {w} {edge} {new} pre d vs done long =
 
 -- the edges were moved
 pub moving : {w : Words} {old new : ℕ} (d : TraversalDirection) (pre : EdgesMovable d w old new) (vs : List ℕ) {answer : ℕ}
-    → Moved (axis-words d w) vs (length (w .edges)) (length (w .nodes)) (w .counts) (w .live-edges) old new answer → length vs ≡ length (axis-words d w)
+    → Moved (axis-words d w) vs (edge-capacity w) (node-capacity w) (w .counts) (w .live-edges) old new answer → length vs ≡ length (axis-words d w)
     → MovedEdges d old new w answer (with-axis-words d vs w)
 unfolding acted plain-of
 moving {w} {old} {new} d pre vs done long =
     let k = pre .checked in
-    let adjacency = adjacency-in (axis-words d w) (length (w .edges)) (length (w .nodes)) (w .counts) old in
+    let adjacency = adjacency-in (axis-words d w) (edge-capacity w) (node-capacity w) (w .counts) old in
     let below : old < w .counts .nodes .bound = rw (← length-flags (w .live-nodes) (w .counts .nodes .bound)) (live-below (node-live w) old (pre .old-live)) in
     let walked : list-of d (lists w) old ≡ live-entries (edge-live w) (raw adjacency) =
     list-is-walk w d old below ∙ ap (λ (b : Bool). walk-of (edge-live w) b adjacency) (pre .old-live) in

@@ -15,7 +15,7 @@ use Rattle.plain.specs.declared.Counts.{Counts}
 use Rattle.plain.specs.Plain.{list-of}
 use Rattle.plain.specs.Numbers.{LIMIT}
 use Rattle.shape.specs.Columns.{end-at}
-use Rattle.shape.specs.Shape.{Words, lengths-of, node-live, edge-live, axis-words, shape-of, lists}
+use Rattle.shape.specs.Shape.{Words, node-capacity, edge-capacity, lengths-of, node-live, edge-live, axis-words, shape-of, lists}
 use Rattle.shape.specs.Checked.{Checked}
 use Rattle.shape.specs.Kept.{Kept}
 use Rattle.shape.specs.Writes.{Writes}
@@ -23,8 +23,8 @@ use Rattle.shape.specs.Steps.{acted}
 
 -- Every slice is as long as it was.
 pub record SameLengths (w v : Words) : Type 0 where
-  pub nodes : length (v .nodes) ≡ length (w .nodes)
-  pub edges : length (v .edges) ≡ length (w .edges)
+  pub nodes : node-capacity v ≡ node-capacity w
+  pub edges : edge-capacity v ≡ edge-capacity w
   pub live-nodes : length (v .live-nodes) ≡ length (w .live-nodes)
   pub live-edges : length (v .live-edges) ≡ length (w .live-edges)
   pub outgoing : length (v .outgoing) ≡ length (w .outgoing)
@@ -104,14 +104,14 @@ with-edges s counts = record { nodes = counts .nodes; edges = s }
 -- What it takes to add a node: a slot below the capacity.
 pub record NodeAddable (w : Words) : Type 0 where
   pub checked : Checked w
-  pub room : w .counts .nodes .bound < length (w .nodes)
+  pub room : w .counts .nodes .bound < node-capacity w
 
 -- What it takes to add an edge: both ends are live, and a slot below the capacity.
 pub record EdgeAddable (w : Words) (source target : ℕ) : Type 0 where
   pub checked : Checked w
   pub source-live : getD (node-live w) source false ≡ true
   pub target-live : getD (node-live w) target false ≡ true
-  pub room : w .counts .edges .bound < length (w .edges)
+  pub room : w .counts .edges .bound < edge-capacity w
 
 -- What it takes to set an edge's payload: the slot is below the bound; the edge may be removed.
 pub record PayloadSettable (w : Words) (edge : ℕ) : Type 0 where

@@ -13,7 +13,7 @@ use Rattle.plain.specs.Plain.{NodeSlot, EdgeSlot, no-node, no-edge, end-of, lis
 use Rattle.plain.specs.Reads.{answered, yes-or-no, no-record, node-payload, edge-record, live-edge-record, contains-node, contains-edge}
 use Rattle.plain.specs.Laws.CallCases.{node-payload-absent, node-payload-there, edge-record-absent, edge-record-there, live-edge-record-absent, live-edge-record-removed, live-edge-record-there, contains-node-is, contains-edge-is}
 use Rattle.liveness.specs.FlagLaws.{length-flags}
-use Rattle.shape.specs.Shape.{Words, Axis, node-live, edge-live, axis-words, shape-of, plain-of, lists}
+use Rattle.shape.specs.Shape.{Words, Axis, node-capacity, edge-capacity, node-live, edge-live, axis-words, shape-of, plain-of, lists}
 use Rattle.shape.specs.Laws.Reading.{made-at, node-bound-is, edge-bound-is, node-flags-are, edge-flags-are, axis-is, axis-end}
 use Rattle.shape.specs.Checked.{Checked}
 use Rattle.adjacency.specs.Walk.{walk-in}
@@ -37,8 +37,8 @@ module _ (w : Words) where
   -- an end of an edge slot
   end-read : (d : TraversalDirection) (e : ℕ) → e < w .counts .edges .bound → end-of d (lists w) e ≡ getD (axis-words d w) e 0
   unfolding plain-of
-  end-read Outgoing e l = ap (λ (a : Axis). getD (a .ends) e 0) (axis-is w Outgoing) ∙ axis-end (w .outgoing) (length (w .edges)) (length (w .nodes)) (w .counts) e l
-  end-read Incoming e l = ap (λ (a : Axis). getD (a .ends) e 0) (axis-is w Incoming) ∙ axis-end (w .incoming) (length (w .edges)) (length (w .nodes)) (w .counts) e l
+  end-read Outgoing e l = ap (λ (a : Axis). getD (a .ends) e 0) (axis-is w Outgoing) ∙ axis-end (w .outgoing) (edge-capacity w) (node-capacity w) (w .counts) e l
+  end-read Incoming e l = ap (λ (a : Axis). getD (a .ends) e 0) (axis-is w Incoming) ∙ axis-end (w .incoming) (edge-capacity w) (node-capacity w) (w .counts) e l
 
 module _ {w : Words} (checked : Checked w) where
   -- an edge's end is a word of each direction
@@ -98,8 +98,8 @@ module _ {w : Words} (checked : Checked w) where
 
   -- the degree of a node, by the walk of its words
   pub degree-read : (d : TraversalDirection) (x : ℕ) → x < w .counts .nodes .bound → {live : Bool} → live ≡ getD (node-live w) x false → {answer : ℕ}
-      → answer ≡ length (walk-in (axis-words d w) (length (w .edges)) (length (w .nodes)) (w .counts) (w .live-edges) x live)
+      → answer ≡ length (walk-in (axis-words d w) (edge-capacity w) (node-capacity w) (w .counts) (w .live-edges) x live)
       → answer ≡ length (list-of d (lists w) x)
   degree-read d x below is walked =
-      walked ∙ ap (λ (b : Bool). length (walk-in (axis-words d w) (length (w .edges)) (length (w .nodes)) (w .counts) (w .live-edges) x b)) is
+      walked ∙ ap (λ (b : Bool). length (walk-in (axis-words d w) (edge-capacity w) (node-capacity w) (w .counts) (w .live-edges) x b)) is
       ∙ sym (ap length (list-is-walk w d x below))

@@ -24,7 +24,7 @@ use Rattle.liveness.specs.Flags.{live-flags, packed}
 use Rattle.liveness.specs.FlagLaws.{words-same}
 use Rattle.shape.specs.Columns.{cell, adjacency-at, last-at, first-at, tail-at, count-at, mark-at, offset-at}
 use Rattle.shape.specs.Chains.{In, Seg, Line, Run, Ring}
-use Rattle.shape.specs.Shape.{Words, lengths-of, axis-words, node-live, edge-live, base-of, run-list, run-of, ring-of, Adjacency, Axis, Shape, adjacency-in, axis-in, axis-of, shape-of, no-adjacency, node-flags-of, edge-flags-of}
+use Rattle.shape.specs.Shape.{Words, node-capacity, edge-capacity, lengths-of, axis-words, node-live, edge-live, base-of, run-list, run-of, ring-of, Adjacency, Axis, Shape, adjacency-in, axis-in, axis-of, shape-of, no-adjacency, node-flags-of, edge-flags-of}
 use Rattle.shape.specs.Checked.{Indexed, Index, AxisChecked, Checked}
 use Rattle.shape.specs.Kept.{Mark, NewMark, AxisKept, Kept}
 use Rattle.shape.specs.Fields.{Column, ends, adjacency, next, links, last, first, tail, count, marks, offsets, begins, AxisField, Place, node-payload, edge-payload, node-bits, edge-bits, axis-word, word-at, Field, SameFields}
@@ -302,34 +302,34 @@ module _ {w v : Words} (a : Checked w) (b : Checked v) (same : shape-of v ≡ sh
   counts-same = let n = nodes-same in let e = edges-same in λ i. record { nodes = n i; edges = e i }
 
   module _ (long : lengths-of v ≡ lengths-of w) where
-    nodes-long : length (v .nodes) ≡ length (w .nodes)
+    nodes-long : node-capacity v ≡ node-capacity w
     nodes-long = ap (λ (l : Lengths). l .capacities .nodes) long
 
-    edges-long : length (v .edges) ≡ length (w .edges)
+    edges-long : edge-capacity v ≡ edge-capacity w
     edges-long = ap (λ (l : Lengths). l .capacities .edges) long
 
     -- both axes, by the lengths and counts of w
     axis-same : (d : TraversalDirection)
-        → axis-of (axis-words d v) (length (w .edges)) (length (w .nodes)) (w .counts) ≡ axis-of (axis-words d w) (length (w .edges)) (length (w .nodes)) (w .counts)
+        → axis-of (axis-words d v) (edge-capacity w) (node-capacity w) (w .counts) ≡ axis-of (axis-words d w) (edge-capacity w) (node-capacity w) (w .counts)
     axis-same d =
-        ap (λ (c : Counts). axis-of (axis-words d v) (length (w .edges)) (length (w .nodes)) c) (sym counts-same)
+        ap (λ (c : Counts). axis-of (axis-words d v) (edge-capacity w) (node-capacity w) c) (sym counts-same)
         ∙ ap₂ (λ (ce cn : ℕ). axis-of (axis-words d v) ce cn (v .counts)) (sym edges-long) (sym nodes-long)
         ∙ sym (axis-is v d) ∙ ap (axis-in d) same ∙ axis-is w d
 
-    axis-checked : (d : TraversalDirection) → AxisChecked (axis-words d v) (length (w .edges)) (length (w .nodes)) (w .counts) (node-live v) (edge-live v)
+    axis-checked : (d : TraversalDirection) → AxisChecked (axis-words d v) (edge-capacity w) (node-capacity w) (w .counts) (node-live v) (edge-live v)
     axis-checked d =
-        subst (λ (c : Counts). AxisChecked (axis-words d v) (length (w .edges)) (length (w .nodes)) c (node-live v) (edge-live v)) counts-same
+        subst (λ (c : Counts). AxisChecked (axis-words d v) (edge-capacity w) (node-capacity w) c (node-live v) (edge-live v)) counts-same
         (subst₂ (λ (ce cn : ℕ). AxisChecked (axis-words d v) ce cn (v .counts) (node-live v) (edge-live v)) edges-long nodes-long (b .axis d))
 
     -- a node has a run in both or in neither
     pub runs-same : (d : TraversalDirection) (x : ℕ) → x < w .counts .nodes .bound
-        → run-of (axis-words d v) (length (w .edges)) (length (w .nodes)) x ≡ run-of (axis-words d w) (length (w .edges)) (length (w .nodes)) x
+        → run-of (axis-words d v) (edge-capacity w) (node-capacity w) x ≡ run-of (axis-words d w) (edge-capacity w) (node-capacity w) x
     runs-same d = same-run (a .nodes .base-within) (a .axis d) (axis-checked d) (axis-same d)
 
     -- with equal marks they have the same fields
     pub shape-fields : Narrow w → Narrow v
         → ((d : TraversalDirection) (x : ℕ) → x < w .counts .nodes .bound
-        → mark-at (axis-words d v) (length (w .edges)) (length (w .nodes)) x ≡ mark-at (axis-words d w) (length (w .edges)) (length (w .nodes)) x)
+        → mark-at (axis-words d v) (edge-capacity w) (node-capacity w) x ≡ mark-at (axis-words d w) (edge-capacity w) (node-capacity w) x)
         → SameFields w v
     shape-fields w-narrow v-narrow marked-same = record { counts = counts-same; lengths = long; words = each }
       where
@@ -355,7 +355,7 @@ module _ {w v : Words} (a : Checked w) (b : Checked v) (same : shape-of v ≡ sh
             (ap (λ (n : ℕ). packed (v .live-edges) n) (sym edge-bound-same) ∙ b .edges-live .unused-clear) (a .edges-live .unused-clear) i h
             (v-narrow .edges i (rw edge-bound-same h)) (w-narrow .edges i h)
         each (axis-word d c x) f =
-            subst₂ (λ (ce cn : ℕ). cell (axis-words d v) (begins ce cn c) x ≡ cell (axis-words d w) (begins (length (w .edges)) (length (w .nodes)) c) x)
+            subst₂ (λ (ce cn : ℕ). cell (axis-words d v) (begins ce cn c) x ≡ cell (axis-words d w) (begins (edge-capacity w) (node-capacity w) c) x)
             (sym edges-long) (sym nodes-long)
             (fields-agree (a .nodes .base-within) (a .axis d) (axis-checked d) (axis-same d) (marked-same d) c x f)
 
@@ -381,36 +381,36 @@ new-marks-agree (inr p) (inr q) there back = q ∙ sym p
 module _ {w v u : Words} (a : Checked v) (b : Checked u) (same : shape-of u ≡ shape-of v) (v-long : lengths-of v ≡ lengths-of w) (u-long : lengths-of u ≡ lengths-of w)
     (v-kept : Kept w v) (u-kept : Kept w u) where
   kept-marks : (d : TraversalDirection) (x : ℕ) → x < v .counts .nodes .bound
-      → mark-at (axis-words d u) (length (v .edges)) (length (v .nodes)) x ≡ mark-at (axis-words d v) (length (v .edges)) (length (v .nodes)) x
+      → mark-at (axis-words d u) (edge-capacity v) (node-capacity v) x ≡ mark-at (axis-words d v) (edge-capacity v) (node-capacity v) x
   kept-marks d x h =
       ⊎-elim (λ old. marks-agree (v-axis .marks at (omega arith) (omega arith)) (u-axis .marks at (omega arith) (omega arith)) there back)
       (λ new. new-marks-agree (v-axis .new-marks at (omega arith) (omega arith)) (u-axis .new-marks at (omega arith) (omega (arith, bounds))) there back)
       (below-or-not x (w .counts .nodes .bound))
     where
       at : ℕ
-      at = 4 * length (v .edges) + 4 * length (v .nodes) + x
+      at = 4 * edge-capacity v + 4 * node-capacity v + x
 
       bounds : u .counts .nodes .bound ≡ v .counts .nodes .bound
       bounds = ap (λ (c : Counts). c .nodes .bound) (counts-same a b same)
 
-      v-axis : AxisKept (axis-words d w) (axis-words d v) (length (v .edges)) (length (v .nodes)) (w .counts .nodes .bound) (v .counts .nodes .bound) (v .counts .edges .bound)
+      v-axis : AxisKept (axis-words d w) (axis-words d v) (edge-capacity v) (node-capacity v) (w .counts .nodes .bound) (v .counts .nodes .bound) (v .counts .edges .bound)
       v-axis =
           subst₂ (λ (e n : ℕ). AxisKept (axis-words d w) (axis-words d v) e n (w .counts .nodes .bound) (v .counts .nodes .bound) (v .counts .edges .bound))
           (ap (λ (l : Lengths). l .capacities .edges) (sym v-long)) (ap (λ (l : Lengths). l .capacities .nodes) (sym v-long)) (v-kept .axis d)
 
-      u-axis : AxisKept (axis-words d w) (axis-words d u) (length (v .edges)) (length (v .nodes)) (w .counts .nodes .bound) (u .counts .nodes .bound) (u .counts .edges .bound)
+      u-axis : AxisKept (axis-words d w) (axis-words d u) (edge-capacity v) (node-capacity v) (w .counts .nodes .bound) (u .counts .nodes .bound) (u .counts .edges .bound)
       u-axis =
           subst₂ (λ (e n : ℕ). AxisKept (axis-words d w) (axis-words d u) e n (w .counts .nodes .bound) (u .counts .nodes .bound) (u .counts .edges .bound))
           (ap (λ (l : Lengths). l .capacities .edges) (sym v-long)) (ap (λ (l : Lengths). l .capacities .nodes) (sym v-long)) (u-kept .axis d)
 
-      runs : run-of (axis-words d u) (length (v .edges)) (length (v .nodes)) x ≡ run-of (axis-words d v) (length (v .edges)) (length (v .nodes)) x
+      runs : run-of (axis-words d u) (edge-capacity v) (node-capacity v) x ≡ run-of (axis-words d v) (edge-capacity v) (node-capacity v) x
       runs = runs-same a b same (u-long ∙ sym v-long) d x h
 
-      there : mark-at (axis-words d v) (length (v .edges)) (length (v .nodes)) x ≡ 0 → mark-at (axis-words d u) (length (v .edges)) (length (v .nodes)) x ≡ 0
-      there = unmarked-too (axis-words d v) (axis-words d u) (length (v .edges)) (length (v .nodes)) x runs
+      there : mark-at (axis-words d v) (edge-capacity v) (node-capacity v) x ≡ 0 → mark-at (axis-words d u) (edge-capacity v) (node-capacity v) x ≡ 0
+      there = unmarked-too (axis-words d v) (axis-words d u) (edge-capacity v) (node-capacity v) x runs
 
-      back : mark-at (axis-words d u) (length (v .edges)) (length (v .nodes)) x ≡ 0 → mark-at (axis-words d v) (length (v .edges)) (length (v .nodes)) x ≡ 0
-      back = unmarked-too (axis-words d u) (axis-words d v) (length (v .edges)) (length (v .nodes)) x (sym runs)
+      back : mark-at (axis-words d u) (edge-capacity v) (node-capacity v) x ≡ 0 → mark-at (axis-words d v) (edge-capacity v) (node-capacity v) x ≡ 0
+      back = unmarked-too (axis-words d u) (axis-words d v) (edge-capacity v) (node-capacity v) x (sym runs)
 
   pub kept-fields : Narrow v → Narrow u → SameFields v u
   kept-fields v-narrow u-narrow = shape-fields a b same (u-long ∙ sym v-long) v-narrow u-narrow kept-marks

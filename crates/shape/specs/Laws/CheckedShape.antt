@@ -14,7 +14,7 @@ use Rattle.plain.specs.Laws.Booleans.{by-test, below-or-not, and-right}
 use Rattle.plain.specs.Laws.ListLaws.{member-source, member-from}
 use Rattle.shape.specs.Columns.{cell, mark-at}
 use Rattle.shape.specs.Chains.{In}
-use Rattle.shape.specs.Shape.{axis-in, adjacency-in, part, Words, Adjacency, capacities, axis-words, base-of, run-of, ring-of, raw, no-adjacency, adjacency-of, shape-of}
+use Rattle.shape.specs.Shape.{node-capacity, edge-capacity, axis-in, adjacency-in, part, Words, Adjacency, capacities, axis-words, base-of, run-of, ring-of, raw, no-adjacency, adjacency-of, shape-of}
 use Rattle.shape.specs.Checked.{Runs, Rings, Index, Checked}
 use Rattle.shape.specs.Laws.Chains.{in-none, ring-below}
 use Rattle.shape.specs.Laws.Frames.{run-list-below}
@@ -58,8 +58,8 @@ module _ (w : Words) (c : Checked w) where
   entries-low : (d : TraversalDirection) (x e : ℕ) → In e (raw (adjacency-of d (shape-of w) x)) → e < length (shape-of w .edges)
   unfolding member
   entries-low d x e m =
-      let ce = length (w .edges) in
-      let cn = length (w .nodes) in
+      let ce = edge-capacity w in
+      let cn = node-capacity w in
       let ws = axis-words d w in
       let axis = c .axis d in
       rw (edge-bound-is w)

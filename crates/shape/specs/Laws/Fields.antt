@@ -24,7 +24,7 @@ use Rattle.liveness.specs.Flags.{live-bit, live-flags, packed}
 use Rattle.liveness.specs.FlagLaws.{flags-same}
 use Rattle.shape.specs.Columns.{cell, end-at, first-at, tail-at, count-at, mark-at}
 use Rattle.shape.specs.Chains.{In, Line, Run}
-use Rattle.shape.specs.Shape.{Words, axis-words, node-live, edge-live, base-of, run-list, run-of, ring-of, adjacency-in, axis-of, shape-of, plain-of}
+use Rattle.shape.specs.Shape.{Words, node-capacity, edge-capacity, axis-words, node-live, edge-live, base-of, run-list, run-of, ring-of, adjacency-in, axis-of, shape-of, plain-of}
 use Rattle.shape.specs.Checked.{Index, AxisChecked, Checked}
 use Rattle.shape.specs.Fields.{Column, ends, adjacency, next, links, last, first, tail, count, marks, offsets, begins, AxisField, node-payload, edge-payload, node-bits, edge-bits, axis-word, SameFields}
 use Rattle.shape.specs.Laws.Chains.{in-front, seg-agree, run-is, run-empty, run-line, ring-below}
@@ -181,10 +181,10 @@ module _
 -- ---- the store
 
 module _ {w v : Words} (k : Checked w) (same : SameFields w v) where
-  nodes-long : length (v .nodes) ≡ length (w .nodes)
+  nodes-long : node-capacity v ≡ node-capacity w
   nodes-long = ap (λ (l : Lengths). l .capacities .nodes) (same .lengths)
 
-  edges-long : length (v .edges) ≡ length (w .edges)
+  edges-long : edge-capacity v ≡ edge-capacity w
   edges-long = ap (λ (l : Lengths). l .capacities .edges) (same .lengths)
 
   -- live flags
@@ -198,14 +198,14 @@ module _ {w v : Words} (k : Checked w) (same : SameFields w v) where
   edges-flagged =
       flags-same (v .live-edges) (w .live-edges) (w .counts .edges .bound) (λ i l. rw (same .words (edge-bits (i / 64)) (omega arith)))
 
-  column-same : (d : TraversalDirection) (c : Column) (x : ℕ) → AxisField (axis-words d w) (length (w .edges)) (length (w .nodes)) (w .counts) c x
-      → cell (axis-words d v) (begins (length (w .edges)) (length (w .nodes)) c) x ≡ cell (axis-words d w) (begins (length (w .edges)) (length (w .nodes)) c) x
+  column-same : (d : TraversalDirection) (c : Column) (x : ℕ) → AxisField (axis-words d w) (edge-capacity w) (node-capacity w) (w .counts) c x
+      → cell (axis-words d v) (begins (edge-capacity w) (node-capacity w) c) x ≡ cell (axis-words d w) (begins (edge-capacity w) (node-capacity w) c) x
   column-same d c x f =
-      subst₂ (λ (ce cn : ℕ). cell (axis-words d v) (begins ce cn c) x ≡ cell (axis-words d w) (begins (length (w .edges)) (length (w .nodes)) c) x)
+      subst₂ (λ (ce cn : ℕ). cell (axis-words d v) (begins ce cn c) x ≡ cell (axis-words d w) (begins (edge-capacity w) (node-capacity w) c) x)
       edges-long nodes-long (same .words (axis-word d c x) f)
 
   axis-same : (d : TraversalDirection)
-      → axis-of (axis-words d v) (length (w .edges)) (length (w .nodes)) (w .counts) ≡ axis-of (axis-words d w) (length (w .edges)) (length (w .nodes)) (w .counts)
+      → axis-of (axis-words d v) (edge-capacity w) (node-capacity w) (w .counts) ≡ axis-of (axis-words d w) (edge-capacity w) (node-capacity w) (w .counts)
   axis-same d = fields-axis (axis-words d v) (k .axis d) (k .edges .bound-within) (column-same d)
 
   -- a store with the fields of a checked one has its shape
@@ -238,7 +238,7 @@ module _ {w v : Words} (k : Checked w) (same : SameFields w v) where
 
   -- each axis
   axis-checked : (d : TraversalDirection)
-      → AxisChecked (axis-words d v) (length (w .edges)) (length (w .nodes)) (w .counts) (node-live w) (edge-live w)
+      → AxisChecked (axis-words d v) (edge-capacity w) (node-capacity w) (w .counts) (node-live w) (edge-live w)
   axis-checked Outgoing =
       fields-axis-checked (v .outgoing) (k .axis Outgoing) (k .edges .bound-within) (column-same Outgoing) (ap (λ (l : Lengths). l .outgoing) (same .lengths))
   axis-checked Incoming =
@@ -266,6 +266,6 @@ module _ {w v : Words} (k : Checked w) (same : SameFields w v) where
         walks = rw fields-shape (subst (λ (c : Capacities). WellFormed c (plain-of (shape-of w))) (ap (λ (l : Lengths). l .capacities) (sym (same .lengths))) (k .walks));
       }
     where
-      directions : (d : TraversalDirection) → AxisChecked (axis-words d v) (length (v .edges)) (length (v .nodes)) (v .counts) (node-live v) (edge-live v)
+      directions : (d : TraversalDirection) → AxisChecked (axis-words d v) (edge-capacity v) (node-capacity v) (v .counts) (node-live v) (edge-live v)
       directions Outgoing = rw (same .counts, nodes-long, edges-long, nodes-flagged, edges-flagged) (axis-checked Outgoing)
       directions Incoming = rw (same .counts, nodes-long, edges-long, nodes-flagged, edges-flagged) (axis-checked Incoming)

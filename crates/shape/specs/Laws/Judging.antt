@@ -20,7 +20,7 @@ use Rattle.plain.specs.Laws.ListLaws.{member-keep, getD-map-each}
 use Rattle.liveness.specs.Flags.{packed}
 use Rattle.shape.specs.Columns.{Sized, end-at}
 use Rattle.shape.specs.Chains.{In}
-use Rattle.shape.specs.Shape.{Words, Axis, node-live, edge-live, axis-words, raw, live-in, adjacency-of, node-flags-of, edge-flags-of, shape-of, plain-of}
+use Rattle.shape.specs.Shape.{Words, Axis, node-capacity, edge-capacity, node-live, edge-live, axis-words, raw, live-in, adjacency-of, node-flags-of, edge-flags-of, shape-of, plain-of}
 use Rattle.shape.specs.Checked.{Bounded, LiveRight, AxisChecked, Checked}
 use Rattle.shape.specs.Rules.{both-axes, slots-right, rule-1, live-agrees, rule-2, ends-right, rule-3, index-right, rule-4, ring-right, rule-5, runs-right, rule-6, walks-right, rule-7, broken}
 use Rattle.shape.specs.Laws.Refining.{lists-length, list-is-walk}
@@ -101,25 +101,25 @@ module _ (w : Words) where
   unfolding plain-of
   plain-lists-length Outgoing =
       lists-length (edge-flags-of (shape-of w)) (node-flags-of (shape-of w)) (shape-of w .outgoing) ∙ ap (λ (a : Axis). length (a .nodes)) (axis-is w Outgoing)
-      ∙ axis-nodes (w .outgoing) (length (w .edges)) (length (w .nodes)) (w .counts) ∙ sym (node-bound-is w)
+      ∙ axis-nodes (w .outgoing) (edge-capacity w) (node-capacity w) (w .counts) ∙ sym (node-bound-is w)
   plain-lists-length Incoming =
       lists-length (edge-flags-of (shape-of w)) (node-flags-of (shape-of w)) (shape-of w .incoming) ∙ ap (λ (a : Axis). length (a .nodes)) (axis-is w Incoming)
-      ∙ axis-nodes (w .incoming) (length (w .edges)) (length (w .nodes)) (w .counts) ∙ sym (node-bound-is w)
+      ∙ axis-nodes (w .incoming) (edge-capacity w) (node-capacity w) (w .counts) ∙ sym (node-bound-is w)
 
 -- ---- from the tests to the store
 
 -- what rule 1 says of a store
 pub record SizesRight (w : Words) : Type 0 where
-  pub nodes : SlotsRight (length (w .nodes)) (length (w .live-nodes)) (w .counts .nodes)
-  pub edges : SlotsRight (length (w .edges)) (length (w .live-edges)) (w .counts .edges)
-  pub sized : (d : TraversalDirection) → Sized (axis-words d w) (length (w .edges)) (length (w .nodes))
+  pub nodes : SlotsRight (node-capacity w) (length (w .live-nodes)) (w .counts .nodes)
+  pub edges : SlotsRight (edge-capacity w) (length (w .live-edges)) (w .counts .edges)
+  pub sized : (d : TraversalDirection) → Sized (axis-words d w) (edge-capacity w) (node-capacity w)
 
 module _ (w : Words) where
   pub sizes-sound : rule-1 w ≡ true → SizesRight w
   unfolding rule-1
   sizes-sound h =
-      let ce = length (w .edges) in
-      let cn = length (w .nodes) in
+      let ce = edge-capacity w in
+      let cn = node-capacity w in
       let long : List ℕ → Bool = λ ws. leb (4 * ce + 6 * cn + 1) (length ws) in
       let a = slots-right cn (length (w .live-nodes)) (w .counts .nodes) in
       let b = slots-right ce (length (w .live-edges)) (w .counts .edges) in
@@ -160,18 +160,18 @@ module _ (w : Words) (p : Structured w) where
       (all-below (λ e. ltb (end-at (axis-words d w) e) (w .counts .nodes .bound)) (w .counts .edges .bound) (axis-passes (ends-right (w .counts)) w (p .r3) d) e l)
 
   rings-right : (d : TraversalDirection) (x : ℕ) → x < w .counts .nodes .bound
-      → ring-right (length (w .edges)) (w .counts .edges .base) (w .counts .edges .bound) (axis-words d w) x ≡ true
+      → ring-right (edge-capacity w) (w .counts .edges .base) (w .counts .edges .bound) (axis-words d w) x ≡ true
   unfolding rule-5
   rings-right d =
-      let test : List ℕ → ℕ → Bool = ring-right (length (w .edges)) (w .counts .edges .base) (w .counts .edges .bound) in
+      let test : List ℕ → ℕ → Bool = ring-right (edge-capacity w) (w .counts .edges .base) (w .counts .edges .bound) in
       all-below (test (axis-words d w)) (w .counts .nodes .bound) (axis-passes (λ ws. all (test ws) (from 0 (w .counts .nodes .bound))) w (p .r5) d)
 
   -- rules 3 to 6 of one direction
-  pub axis-sound : (d : TraversalDirection) → AxisChecked (axis-words d w) (length (w .edges)) (length (w .nodes)) (w .counts) (node-live w) (edge-live w)
+  pub axis-sound : (d : TraversalDirection) → AxisChecked (axis-words d w) (edge-capacity w) (node-capacity w) (w .counts) (node-live w) (edge-live w)
   unfolding rule-4 rule-6
   axis-sound d =
-      let ce = length (w .edges) in
-      let cn = length (w .nodes) in
+      let ce = edge-capacity w in
+      let cn = node-capacity w in
       let be = w .counts .edges .base in
       let eb = w .counts .edges .bound in
       let six = axis-passes (runs-right ce cn (w .counts) (node-live w) (edge-live w)) w (p .r6) d in
@@ -191,8 +191,8 @@ module _ (w : Words) (p : Structured w) where
   framed : (d : TraversalDirection) → Framed (plain-of (shape-of w)) d
   unfolding plain-of
   framed d =
-      let ce = length (w .edges) in
-      let cn = length (w .nodes) in
+      let ce = edge-capacity w in
+      let cn = node-capacity w in
       let flags = length-map (shape-of w .edges) (λ (e : EdgeSlot). e .live) in
       record {
         ends-length = ap length (plain-ends w d) ∙ axis-ends (axis-words d w) ce cn (w .counts) ∙ sym (flags ∙ edge-bound-is w);
@@ -247,8 +247,8 @@ slots-complete capacity live-length s few b long =
 pub checked-passes : (w : Words) → Checked w → Passes w
 unfolding rule-1 rule-2 rule-3 rule-4 rule-5 rule-6 rule-7
 checked-passes w c =
-    let ce = length (w .edges) in
-    let cn = length (w .nodes) in
+    let ce = edge-capacity w in
+    let cn = node-capacity w in
     let be = w .counts .edges .base in
     let eb = w .counts .edges .bound in
     let nb = w .counts .nodes .bound in

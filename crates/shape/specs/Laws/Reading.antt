@@ -14,7 +14,7 @@ use Rattle.plain.specs.Laws.ListLaws.{getD-map, getD-from, length-from, map-get
 use Rattle.liveness.specs.FlagLaws.{length-flags}
 use Rattle.shape.specs.Columns.{end-at}
 use Rattle.shape.specs.Laws.Refining.{ends-of}
-use Rattle.shape.specs.Shape.{Axis, plain-of, adjacency-of, Words, node-live, edge-live, axis-words, adjacency-in, axis-of, shape-of, axis-in, no-adjacency, node-flags-of, edge-flags-of}
+use Rattle.shape.specs.Shape.{Axis, node-capacity, edge-capacity, plain-of, adjacency-of, Words, node-live, edge-live, axis-words, adjacency-in, axis-of, shape-of, axis-in, no-adjacency, node-flags-of, edge-flags-of}
 
 -- a list made of the slots below n
 module _ {A : Type 0} (f : ℕ → A) (n : ℕ) where
@@ -50,7 +50,7 @@ module _ (w : Words) where
       ∙ map-getD (edge-live w) false
 
   -- one direction
-  pub axis-is : (d : TraversalDirection) → axis-in d (shape-of w) ≡ axis-of (axis-words d w) (length (w .edges)) (length (w .nodes)) (w .counts)
+  pub axis-is : (d : TraversalDirection) → axis-in d (shape-of w) ≡ axis-of (axis-words d w) (edge-capacity w) (node-capacity w) (w .counts)
   unfolding shape-of
   axis-is Outgoing = refl
   axis-is Incoming = refl
@@ -76,14 +76,14 @@ module _ (ws : List ℕ) (ce cn : ℕ) (counts : Counts) where
 module _ (w : Words) where
   -- a node's adjacency in the shape is the one that the words of its axis have
   pub shape-adjacency : (d : TraversalDirection) (x : ℕ) → x < w .counts .nodes .bound
-      → adjacency-of d (shape-of w) x ≡ adjacency-in (axis-words d w) (length (w .edges)) (length (w .nodes)) (w .counts) x
+      → adjacency-of d (shape-of w) x ≡ adjacency-in (axis-words d w) (edge-capacity w) (node-capacity w) (w .counts) x
   shape-adjacency d x l =
-      ap (λ (a : Axis). getD (a .nodes) x no-adjacency) (axis-is w d) ∙ axis-adjacency (axis-words d w) (length (w .edges)) (length (w .nodes)) (w .counts) x l
+      ap (λ (a : Axis). getD (a .nodes) x no-adjacency) (axis-is w d) ∙ axis-adjacency (axis-words d w) (edge-capacity w) (node-capacity w) (w .counts) x l
 
   -- the ends in the plain lists are those that the words of the axis have
-  pub plain-ends : (d : TraversalDirection) → incidence d (plain-of (shape-of w)) .ends ≡ axis-of (axis-words d w) (length (w .edges)) (length (w .nodes)) (w .counts) .ends
+  pub plain-ends : (d : TraversalDirection) → incidence d (plain-of (shape-of w)) .ends ≡ axis-of (axis-words d w) (edge-capacity w) (node-capacity w) (w .counts) .ends
   plain-ends d = ends-of (shape-of w) d ∙ ap (λ (a : Axis). a .ends) (axis-is w d)
 
   pub plain-end : (d : TraversalDirection) (e : ℕ) → e < w .counts .edges .bound → end-of d (plain-of (shape-of w)) e ≡ end-at (axis-words d w) e
   plain-end d e l =
-      ap (λ (k : List ℕ). getD k e 0) (plain-ends d) ∙ axis-end (axis-words d w) (length (w .edges)) (length (w .nodes)) (w .counts) e l
+      ap (λ (k : List ℕ). getD k e 0) (plain-ends d) ∙ axis-end (axis-words d w) (edge-capacity w) (node-capacity w) (w .counts) e l
