@@ -23,11 +23,11 @@ use Rattle.shape.specs.Columns.{cell, end-at}
 use Rattle.shape.specs.Chains.{ring}
 use Rattle.shape.specs.Shape.{Words, Adjacency, node-capacity, edge-capacity, capacities, node-live, edge-live, axis-words, ring-of, axis-in, adjacency-of, no-adjacency, shape-of, plain-of, ascends, settled, lists}
 use Rattle.shape.specs.Checked.{Checked, Reached}
+use Rattle.shape.specs.Index.{Rewritten, before, ends-of}
 use Rattle.shape.specs.Laws.Chains.{in-none}
 use Rattle.shape.specs.Laws.CheckedShape.{checked-proper}
 use Rattle.shape.specs.Laws.Settling.{settled-is-plain}
 use Rattle.shape.specs.Laws.Reading.{shape-adjacency, axis-is, axis-nodes, node-flags-are, edge-flags-are, node-bound-is, edge-bound-is}
-use Rattle.shape.specs.Laws.Indexing.{Rewritten, before, ends-of}
 use Rattle.compact.specs.Slots.{kept-word, rewritten-same, kept-all-live}
 use Rattle.compact.specs.Bases.{Compactable, AxisCompacted}
 use Rattle.compact.specs.Dropping.{Droppable, Dropped, axis-compactable, first-half, drop-room}

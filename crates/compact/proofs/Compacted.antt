@@ -15,9 +15,9 @@ use Rattle.plain.specs.Lists.{joined, from}
 use Rattle.plain.specs.Plain.{Plain, no-node, no-edge, node-flags, edge-flags, end-of}
 use Rattle.plain.specs.Reads.{live-count, live-slots}
 use Rattle.plain.specs.Compaction.{Survivors, rank, survivors, surviving-edge, source-of, target-of}
+use Rattle.plain.specs.WellFormed.{Fitted, Sound}
 use Rattle.plain.specs.Laws.ListLaws.{map-same, map-getD, member-below}
 use Rattle.plain.specs.Laws.Rank.{live-below, live-slot-live, length-live-slots, member-live-slots}
-use Rattle.plain.specs.Laws.WellFormed.{Fitted, Sound}
 use Rattle.plain.specs.Laws.Compacting.{survivors-sound, length-surviving-nodes, length-surviving-edges}
 use Rattle.plain.specs.Laws.ImageBits.{payload-of}
 use Rattle.liveness.specs.Flags.{live-flags}
@@ -26,7 +26,7 @@ use Rattle.liveness.specs.FlagLaws.{length-flags}
 use Rattle.shape.specs.Columns.{Sized, end-at}
 use Rattle.shape.specs.Shape.{Words, node-capacity, edge-capacity, capacities, node-live, edge-live, axis-words, shape-of, plain-of, settled}
 use Rattle.shape.specs.Kept.{AxisRenewed, Renewed}
-use Rattle.shape.specs.Laws.Indexing.{Rewritten, ends-of}
+use Rattle.shape.specs.Index.{Rewritten, ends-of}
 use Rattle.shape.specs.Laws.NewBase.{NewBase}
 use Rattle.shape.specs.Laws.CheckedShape.{checked-proper}
 use Rattle.shape.specs.Laws.Reading.{plain-end}

@@ -13,7 +13,7 @@ use Rattle.plain.specs.Plain.{node-bound, edge-bound, node-flags, edge-flags}
 use Rattle.plain.specs.Reads.{live-edges, live-count}
 use Rattle.plain.specs.Memory.{first-short}
 use Rattle.plain.specs.Compaction.{Survivors, survivors, source-of, target-of, renumbering, adjacency, compacted}
-use Rattle.plain.specs.Laws.WellFormed.{Sound}
+use Rattle.plain.specs.WellFormed.{Sound}
 use Rattle.plain.specs.Laws.Compacting.{survivors-sound, length-surviving-edges}
 use Rattle.plain.specs.Calls.{Compacted, compaction, judged-compaction}
 use Rattle.shape.specs.Shape.{Words, capacities, shape-of, settled}

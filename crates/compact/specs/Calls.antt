@@ -17,7 +17,7 @@ use Rattle.shape.specs.Checked.{Checked, Reached}
 use Rattle.shape.specs.Kept.{Renewed, Spared}
 use Rattle.shape.specs.Rules.{broken}
 use Rattle.shape.specs.Steps.{state-of}
-use Rattle.shape.specs.Laws.Indexing.{before, ends-of}
+use Rattle.shape.specs.Index.{before, ends-of}
 use Rattle.store.specs.Operations.{SameLengths}
 use Rattle.compact.specs.Survivors.{shape-of-survivors}
 

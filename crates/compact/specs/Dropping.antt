@@ -16,7 +16,7 @@ use Rattle.liveness.specs.FlagLaws.{length-flags}
 use Rattle.shape.specs.Columns.{end-at}
 use Rattle.shape.specs.Shape.{Words, node-capacity, edge-capacity, node-live, edge-live, axis-words}
 use Rattle.shape.specs.Checked.{Checked}
-use Rattle.shape.specs.Laws.Indexing.{Rewritten}
+use Rattle.shape.specs.Index.{Rewritten}
 use Rattle.relocate.specs.Stores.{checked-end}
 use Rattle.store.specs.Operations.{SameLengths}
 use Rattle.compact.specs.Slots.{kept-word, Keepable}

@@ -18,10 +18,10 @@ use Rattle.plain.specs.Plain.{Plain, NodeSlot, EdgeSlot, list-of}
 use Rattle.plain.specs.Reads.{live-count}
 use Rattle.plain.specs.Memory.{live-words}
 use Rattle.plain.specs.Compaction.{Survivors, kept-node, kept-edge, source-of, target-of, of-survivors}
+use Rattle.plain.specs.WellFormed.{Sound, WellFormed}
 use Rattle.plain.specs.Laws.Booleans.{by-test}
 use Rattle.plain.specs.Laws.ListLaws.{map-same, map-getD, member-below}
 use Rattle.plain.specs.Laws.Rank.{live-all-live, live-count-all-live}
-use Rattle.plain.specs.Laws.WellFormed.{Sound, WellFormed}
 use Rattle.plain.specs.Laws.Fitting.{fitted-many}
 use Rattle.plain.specs.Laws.Compacting.{of-survivors-well-formed}
 use Rattle.plain.specs.Laws.ImageBits.{payload-of}
@@ -31,7 +31,7 @@ use Rattle.shape.specs.Columns.{Sized, cell}
 use Rattle.shape.specs.Shape.{Words, node-capacity, edge-capacity, capacities, node-live, edge-live, axis-words, shape-of, plain-of, lists}
 use Rattle.shape.specs.Checked.{LiveRight, AxisChecked, Checked, Reached}
 use Rattle.shape.specs.Steps.{state-of}
-use Rattle.shape.specs.Laws.Indexing.{before, ends-of}
+use Rattle.shape.specs.Index.{before, ends-of}
 use Rattle.shape.specs.Laws.NewBase.{NewBase, new-axis, new-checked}
 use Rattle.store.specs.Acting.{shape-ext}
 use Rattle.compact.specs.Survivors.{shape-of-survivors, survivors-plain, survivors-state, survivors-reached}

@@ -15,9 +15,9 @@ use Rattle.plain.specs.Plain.{Plain, EdgeSlot, Incidence, incidence, list-of, e
 use Rattle.plain.specs.Step.{Capacities}
 use Rattle.plain.specs.Reads.{live-slots, live-count}
 use Rattle.plain.specs.Compaction.{rank, survivors, surviving-list, source-of, target-of}
+use Rattle.plain.specs.WellFormed.{Incident, WellFormed}
 use Rattle.plain.specs.Laws.Booleans.{and-left}
 use Rattle.plain.specs.Laws.ListLaws.{map-same, joined-member, member-getD-map}
-use Rattle.plain.specs.Laws.WellFormed.{Incident, WellFormed}
 use Rattle.plain.specs.Laws.Operating.{incident}
 use Rattle.plain.specs.Laws.Compacting.{survivors-sound, length-surviving-edges}
 use Rattle.plain.specs.Laws.ImageLaws.{fitted-joined}

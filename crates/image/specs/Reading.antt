@@ -15,11 +15,11 @@ use Rattle.plain.specs.Compaction.{EdgeRecord, source-of, target-of}
 use Rattle.plain.specs.Image.{record-width, nodes-in, edges-in, edges-start, outs-start, ins-start, image-size, cut, list-lengths, parsed, broken-image}
 use Rattle.plain.specs.Memory.{Lengths, axis-words}
 use Rattle.plain.specs.Calls.{limits}
+use Rattle.plain.specs.WellFormed.{Fitted, Sound}
 use Rattle.plain.specs.Laws.Bits.{length-fields-at}
 use Rattle.plain.specs.Laws.Below.{below-of}
 use Rattle.plain.specs.Laws.Cutting.{joined-cut, sum-list-lengths}
 use Rattle.plain.specs.Laws.Width.{width-most}
-use Rattle.plain.specs.Laws.WellFormed.{Fitted, Sound}
 use Rattle.plain.specs.Laws.Refusals.{Counted, Readable, readable, length-edges-in}
 use Rattle.plain.specs.Laws.ImageLaws.{nodes-length, edges-length, parsed-sound}
 use Rattle.memory.specs.Laws.{Roomy}
@@ -27,7 +27,7 @@ use Rattle.liveness.specs.Calls.{Reset}
 use Rattle.shape.specs.Columns.{Sized}
 use Rattle.shape.specs.Shape.{Words, node-capacity, edge-capacity, lengths-of, axis-words as words-of}
 use Rattle.shape.specs.Kept.{AxisRenewed, Renewed}
-use Rattle.shape.specs.Laws.Indexing.{Rewritten}
+use Rattle.shape.specs.Index.{Rewritten}
 use Rattle.shape.specs.Laws.NewBase.{NewBase}
 use Rattle.store.specs.Operations.{SameLengths}
 use Rattle.compact.specs.Slots.{rewritten-range}

@@ -30,8 +30,9 @@ use Rattle.shape.specs.Columns.{cell, offset-at}
 use Rattle.shape.specs.Chains.{In, ring, until}
 use Rattle.shape.specs.Shape.{Words, node-capacity, edge-capacity, node-live, edge-live, Shape, Adjacency, capacities, axis-words, axis-in, adjacency-of, no-adjacency, base-of, ring-of, raw, part, hiding, live-in, walk-of, has-run, node-flags-of, edge-flags-of, shape-of, plain-of, lists, is-compact}
 use Rattle.shape.specs.Checked.{Checked, Index, Indexed}
+use Rattle.shape.specs.Index.{total}
 use Rattle.shape.specs.Laws.CheckedShape.{checked-proper}
-use Rattle.shape.specs.Laws.Indexing.{total, parts-joined, front-range, ends-below-all}
+use Rattle.shape.specs.Laws.Indexing.{parts-joined, front-range, ends-below-all}
 use Rattle.shape.specs.Laws.Reading.{made-at, made-length, node-bound-is, edge-bound-is, shape-adjacency, plain-end, axis-is, axis-nodes}
 use Rattle.shape.specs.Laws.Refining.{list-is-walk}
 use Rattle.shape.specs.Laws.Taking.{keep-passing}

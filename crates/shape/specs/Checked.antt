@@ -11,7 +11,7 @@ use Rattle.plain.specs.declared.Slots.{Slots}
 use Rattle.plain.specs.declared.Counts.{Counts}
 use Rattle.plain.specs.Reads.{live-count}
 use Rattle.plain.specs.Memory.{live-words}
-use Rattle.plain.specs.Laws.WellFormed.{WellFormed}
+use Rattle.plain.specs.WellFormed.{WellFormed}
 use Rattle.liveness.specs.Flags.{packed}
 use Rattle.shape.specs.Columns.{Sized, cell, end-at, adjacency-at, last-at, first-at, tail-at, count-at, mark-at, offset-at}
 use Rattle.shape.specs.Chains.{In, Run, Ring}

@@ -8,9 +8,9 @@ use lib.ListN.{getD}
 use Rattle.plain.specs.declared.Operation.{Operation}
 use Rattle.plain.specs.declared.Slots.{Slots}
 use Rattle.plain.specs.Step.{Outcome, step}
+use Rattle.plain.specs.WellFormed.{WellFormed}
 use Rattle.plain.specs.Laws.Rank.{live-count-removed, live-count-pushed}
 use Rattle.plain.specs.Laws.Stepping.{Fitting}
-use Rattle.plain.specs.Laws.WellFormed.{WellFormed}
 use Rattle.liveness.specs.Flags.{live-flags}
 use Rattle.liveness.specs.WordFlags.{count-le}
 use Rattle.liveness.specs.Calls.{Pushed, Cleared}

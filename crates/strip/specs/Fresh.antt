@@ -16,8 +16,8 @@ use Rattle.plain.specs.Plain.{Plain}
 use Rattle.plain.specs.Step.{State}
 use Rattle.plain.specs.Memory.{axis-words as axis-room}
 use Rattle.plain.specs.Calls.{fresh-state, limits, fresh-within, fresh}
+use Rattle.plain.specs.WellFormed.{WellFormed}
 use Rattle.plain.specs.Laws.Operating.{empty-well-formed}
-use Rattle.plain.specs.Laws.WellFormed.{WellFormed}
 use Rattle.memory.specs.Laws.{Roomy, roomy-for, fresh-reads}
 use Rattle.liveness.specs.Flags.{packed, live-flags}
 use Rattle.shape.specs.Shape.{Words, Adjacency, store, capacities, lengths-of, node-live, edge-live, axis-words, axis-of, adjacency-of, no-adjacency, shape-of, plain-of, ascends, is-compact}

@@ -17,7 +17,7 @@ use Rattle.plain.specs.Lists.{member, distinct, from}
 use Rattle.plain.specs.Plain.{NodeSlot, EdgeSlot}
 use Rattle.plain.specs.Step.{Capacities}
 use Rattle.plain.specs.Memory.{Lengths}
-use Rattle.plain.specs.Laws.WellFormed.{WellFormed}
+use Rattle.plain.specs.WellFormed.{WellFormed}
 use Rattle.plain.specs.Laws.Booleans.{by-test, true-false}
 use Rattle.plain.specs.Laws.ListLaws.{map-same, member-below, member-first, distinct-apart}
 use Rattle.liveness.specs.Flags.{live-bit, live-flags, packed}
