@@ -11,7 +11,8 @@ use Rattle.plain.specs.declared.TraversalDirection.{TraversalDirection}
 use Rattle.plain.specs.declared.Counts.{Counts}
 use Rattle.shape.specs.Columns.{cell, tail-at, count-at, mark-at}
 use Rattle.shape.specs.Chains.{In}
-use Rattle.shape.specs.Shape.{Words, node-capacity, edge-capacity, lengths-of, axis-words, run-list, ring-of}
+use Rattle.shape.specs.Shape.{Words, node-capacity, edge-capacity, axis-words, run-list, ring-of}
+use Rattle.shape.specs.Kept.{SameLengths}
 
 -- the columns of an axis
 pub data Column : Type 0 where
@@ -85,5 +86,5 @@ NoField w p = Field w p → ⊥
 -- Every field of w is in v as it is in w.
 pub record SameFields (w v : Words) : Type 0 where
   pub counts : v .counts ≡ w .counts
-  pub lengths : lengths-of v ≡ lengths-of w
+  pub lengths : SameLengths w v
   pub words : (p : Place) → Field w p → word-at v p ≡ word-at w p

@@ -13,7 +13,7 @@ use Rattle.plain.specs.Lists.{member, distinct, all, from, joined}
 use Rattle.plain.specs.Plain.{Plain, edge-bound, node-bound, node-flags, edge-flags, list-of, end-of}
 use Rattle.plain.specs.Reads.{live-count}
 use Rattle.plain.specs.Memory.{live-words}
-use Rattle.liveness.specs.Flags.{packed}
+use Rattle.liveness.specs.Flags.{live-flags, packed}
 use Rattle.shape.specs.Columns.{cell, end-at, adjacency-at, last-at, tail-at, offset-at}
 use Rattle.shape.specs.Chains.{until}
 use Rattle.shape.specs.Shape.{Words, node-capacity, edge-capacity, node-live, edge-live, run-list, shape-of, plain-of}
@@ -33,11 +33,11 @@ rule-1 w =
     && both-axes (λ ws. leb (4 * edge-capacity w + 6 * node-capacity w + 1) (length ws)) w)
 
 -- "(2) live bits agree with both counts and the last word's unused bits are 0"
-abbrev pub live-agrees : List ℕ → List Bool → Slots → Bool
-live-agrees words flags s = packed words (s .bound) && eqb (s .live) (live-count flags)
+abbrev pub live-agrees : List ℕ → Slots → Bool
+live-agrees words s = packed words (s .bound) && eqb (s .live) (live-count (live-flags words (s .bound)))
 
 unfoldable pub rule-2 : Words → Bool
-rule-2 w = live-agrees (w .live-nodes) (node-live w) (w .counts .nodes) && live-agrees (w .live-edges) (edge-live w) (w .counts .edges)
+rule-2 w = live-agrees (w .live-nodes) (w .counts .nodes) && live-agrees (w .live-edges) (w .counts .edges)
 
 -- "(3) ends below the node bound"
 abbrev pub ends-right : Counts → List ℕ → Bool

@@ -29,6 +29,10 @@ abbrev pub OnlyNode : List ℕ → List ℕ → ℕ → ℕ → Counts → ℕ �
 OnlyNode ws vs ce cn counts node =
     (i : ℕ) → (OfLinks ce (raw (adjacency-in ws ce cn counts node)) i → ⊥) → (OfNode ce cn node i → ⊥) → getD vs i 0 ≡ getD ws i 0
 
+-- no word of a list but those that `Written` says
+abbrev pub Only : (ℕ → Type 0) → List ℕ → List ℕ → Type 0
+Only Written ws vs = (i : ℕ) → (Written i → ⊥) → getD vs i 0 ≡ getD ws i 0
+
 -- ---- by operation
 
 -- a node's payload
@@ -111,11 +115,11 @@ WritesAxis Unknown w d i = ⊥
 
 -- No other word was written.
 pub record Writes (operation : Operation) (w v : Words) : Type 0 where
-  pub nodes : (x : ℕ) → (WritesNode operation w x → ⊥) → getD (v .nodes) x 0 ≡ getD (w .nodes) x 0
-  pub edges : (e : ℕ) → (WritesEdge operation w e → ⊥) → getD (v .edges) e 0 ≡ getD (w .edges) e 0
-  pub live-nodes : (i : ℕ) → (WritesNodeBits operation w i → ⊥) → getD (v .live-nodes) i 0 ≡ getD (w .live-nodes) i 0
-  pub live-edges : (i : ℕ) → (WritesEdgeBits operation w i → ⊥) → getD (v .live-edges) i 0 ≡ getD (w .live-edges) i 0
-  pub axis : (d : TraversalDirection) (i : ℕ) → (WritesAxis operation w d i → ⊥) → getD (axis-words d v) i 0 ≡ getD (axis-words d w) i 0
+  pub nodes : Only (WritesNode operation w) (w .nodes) (v .nodes)
+  pub edges : Only (WritesEdge operation w) (w .edges) (v .edges)
+  pub live-nodes : Only (WritesNodeBits operation w) (w .live-nodes) (v .live-nodes)
+  pub live-edges : Only (WritesEdgeBits operation w) (w .live-edges) (v .live-edges)
+  pub axis : (d : TraversalDirection) → Only (WritesAxis operation w d) (axis-words d w) (axis-words d v)
 
 pub nothing-written : (operation : Operation) (w : Words) → Writes operation w w
 nothing-written operation w =

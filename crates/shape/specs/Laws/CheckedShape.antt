@@ -64,7 +64,7 @@ module _ (w : Words) (c : Checked w) where
       let axis = c .axis d in
       rw (edge-bound-is w)
       (⊎-elim
-      (λ l. raw-below ws ce cn (w .counts) (c .edges .base-within) (axis .index) (axis .runs) x l (axis .rings) e
+      (λ l. raw-below ws ce cn (w .counts) (c .edges .bounded .base-within) (axis .index) (axis .runs) x l (axis .rings) e
       (ap (λ (a : Adjacency). member e (raw a)) (sym (shape-adjacency w d x l)) ∙ m))
       (λ l. let past = List·getD-eq-default (axis-in d (shape-of w) .nodes) no-adjacency (rw (axis-is w d, axis-nodes ws ce cn (w .counts)) l) in
       in-none e (ap (λ (a : Adjacency). member e (raw a)) (sym past) ∙ m))
@@ -78,6 +78,6 @@ module _ (w : Words) (c : Checked w) where
   pub checked-based : Based (shape-of w)
   unfolding shape-of
   checked-based = record {
-    nodes-within = rw (node-bound-is w) (c .nodes .base-within);
-    edges-within = rw (edge-bound-is w) (c .edges .base-within);
+    nodes-within = rw (node-bound-is w) (c .nodes .bounded .base-within);
+    edges-within = rw (edge-bound-is w) (c .edges .bounded .base-within);
   }
