@@ -21,8 +21,8 @@ use Rattle.liveness.specs.Flags.{live-flags}
 use Rattle.liveness.specs.FlagLaws.{length-flags}
 use Rattle.shape.specs.Columns.{mark-at}
 use Rattle.shape.specs.Chains.{In}
-use Rattle.shape.specs.Shape.{Words, node-capacity, edge-capacity, node-live, edge-live, axis-words, shape-of, adjacency-in, run-list, run-of, part, raw, live-in}
-use Rattle.shape.specs.Checked.{LiveRight, Checked}
+use Rattle.shape.specs.Shape.{Words, node-capacity, edge-capacity, node-live, edge-live, axis-words, edge-slot-at, shape-of, adjacency-in, run-list, run-of, part, raw, live-in}
+use Rattle.shape.specs.Checked.{SlotsChecked, Checked}
 use Rattle.shape.specs.Steps.{retired, walk-in as walk-of-shape}
 use Rattle.shape.specs.Laws.Chains.{in-none}
 use Rattle.shape.specs.Laws.Keeping.{retired-length}
@@ -80,7 +80,7 @@ slots-ext (s ∷ a) (t ∷ b) p l =
 payloads-are : (w : Words) → map payload-of (shape-of w .edges) ≡ map (λ e. getD (w .edges) e 0) (from 0 (w .counts .edges .bound))
 unfolding shape-of
 payloads-are w =
-    map-map payload-of (λ e. record { payload = getD (w .edges) e 0; live = getD (edge-live w) e false }) (from 0 (w .counts .edges .bound))
+    map-map payload-of (edge-slot-at w) (from 0 (w .counts .edges .bound))
 
 -- A store v whose live words are those of w with the edges es made dead, all else of the edge slots as it was.
 module _ (w v : Words) (payloads : v .edges ≡ w .edges) (bound : v .counts .edges .bound ≡ w .counts .edges .bound) {es : List ℕ} {n : ℕ}
@@ -103,14 +103,18 @@ module _ (w v : Words) (payloads : v .edges ≡ w .edges) (bound : v .counts .ed
 
 -- ---- the live count
 
-module _ {words after es : List ℕ} {s : Slots} {n : ℕ} (right : LiveRight words (live-flags words (s .bound)) s) (gone : Retired (s .bound) es words after n) where
+module _ {c : ℕ} {words after es : List ℕ} {s : Slots} {n : ℕ} (k : SlotsChecked c words s) (gone : Retired (s .bound) es words after n) where
   -- no more are made dead than are counted
   pub retired-within : n ≤ s .live
-  retired-within = omega (arith, right .live-right, gone .counted)
+  retired-within = omega (arith, k .live .live-right, gone .counted)
 
-  -- and counted off, the count is right again
-  pub retired-right : LiveRight after (live-flags after (s .bound)) (record { bound = s .bound; base = s .base; live = s .live - n })
-  retired-right = record { unused-clear = gone .packs (right .unused-clear); live-right = omega (arith, right .live-right, gone .counted) }
+  -- and counted off, the slots pass the check again
+  pub retired-checked : SlotsChecked c after (record { bound = s .bound; base = s .base; live = s .live - n })
+  retired-checked = record {
+    bounded = record { bound-within = k .bounded .bound-within; base-within = k .bounded .base-within };
+    live-long = rw (gone .long) (k .live-long);
+    live = record { unused-clear = gone .packs (k .live .unused-clear); live-right = omega (arith, k .live .live-right, gone .counted) };
+  }
 
 -- ---- a node's edges
 

@@ -23,14 +23,14 @@ module _ {w : Words} (k : Checked w) (d : TraversalDirection) (x : ℕ) (node : 
   pub checked-readable : Readable (axis-words d w) (edge-capacity w) (node-capacity w) (w .counts) x
   checked-readable =
       let axis = k .axis d in
-      record { sized = axis .sized; nodes = k .nodes; edges = k .edges; index = axis .index; rings = axis .rings; runs = axis .runs; node = node }
+      record { sized = axis .sized; nodes = k .nodes .bounded; edges = k .edges .bounded; index = axis .index; rings = axis .rings; runs = axis .runs; node = node }
 
   -- and walked
   pub checked-walkable : Walkable (axis-words d w) (edge-capacity w) (node-capacity w) (w .counts) (w .live-edges) x
   checked-walkable =
-      let long = k .live-edges-long in
-      let bounded = k .edges in
-      record { readable = checked-readable; live-long = omega arith; live-right = k .edges-live }
+      let long = k .edges .live-long in
+      let bounded = k .edges .bounded in
+      record { readable = checked-readable; live-long = omega arith; live-right = k .edges .live }
 
 module _ (w : Words) (d : TraversalDirection) (x : ℕ) (node : x < w .counts .nodes .bound) where
   -- the walk of a node of the shape is read from the words

@@ -25,7 +25,7 @@ use Rattle.liveness.specs.Calls.{Reset}
 use Rattle.liveness.specs.FlagLaws.{length-flags}
 use Rattle.shape.specs.Columns.{Sized, end-at}
 use Rattle.shape.specs.Shape.{Words, node-capacity, edge-capacity, capacities, node-live, edge-live, axis-words, shape-of, plain-of, settled}
-use Rattle.shape.specs.Kept.{AxisRenewed, Renewed}
+use Rattle.shape.specs.Kept.{AxisRenewed, Renewed, same-nodes, same-edges, same-live-nodes, same-live-edges, same-axis}
 use Rattle.shape.specs.Index.{Rewritten, ends-of}
 use Rattle.shape.specs.Laws.NewBase.{NewBase}
 use Rattle.shape.specs.Laws.CheckedShape.{checked-proper}
@@ -113,10 +113,10 @@ module _ {w : Words} {node-map work : List ℕ} {v : Words} (pre : Droppable w n
   left-sound = survivors-sound (capacities w) seen (settled-well-formed (checked-proper w (pre .checked))) few-nodes few-edges
 
   pub left-nodes : length (left .nodes) ≡ w .counts .nodes .live
-  left-nodes = length-surviving-nodes seen ∙ ap live-count (settled-node-flags w) ∙ sym (pre .checked .nodes-live .live-right)
+  left-nodes = length-surviving-nodes seen ∙ ap live-count (settled-node-flags w) ∙ sym (pre .checked .nodes .live .live-right)
 
   pub left-edges : length (left .edges) ≡ w .counts .edges .live
-  left-edges = length-surviving-edges seen ∙ ap live-count (settled-edge-flags w) ∙ sym (pre .checked .edges-live .live-right)
+  left-edges = length-surviving-edges seen ∙ ap live-count (settled-edge-flags w) ∙ sym (pre .checked .edges .live .live-right)
 
   -- the new number of a live edge's end
   new-end : (d : TraversalDirection) (e : ℕ) → getD (edge-live w) e false ≡ true
@@ -176,27 +176,27 @@ module _ {w : Words} {node-map work : List ℕ} {v : Words} (pre : Droppable w n
         record {
           sound = left-sound;
           counts = r .counts ∙ ap₂ {C = Counts} (λ (n m : ℕ). record { nodes = based n; edges = based m }) (sym left-nodes) (sym left-edges);
-          nodes-fit = let low = node-count pre in omega (arith, left-nodes, same .nodes, k .nodes .bound-within);
-          edges-fit = let low = edge-count pre in omega (arith, left-edges, same .edges, k .edges .bound-within);
-          live-nodes-long = rw (same .nodes, same .live-nodes) (k .live-nodes-long);
-          live-edges-long = rw (same .edges, same .live-edges) (k .live-edges-long);
+          nodes-fit = let low = node-count pre in omega (arith, left-nodes, same-nodes same, k .nodes .bounded .bound-within);
+          edges-fit = let low = edge-count pre in omega (arith, left-edges, same-edges same, k .edges .bounded .bound-within);
+          live-nodes-long = rw (same-nodes same, same-live-nodes same) (k .nodes .live-long);
+          live-edges-long = rw (same-edges same, same-live-edges same) (k .edges .live-long);
           sized = sized-left;
-          nodes = kept-payloads (node-live w) (λ x. getD (shape-of w .nodes) x no-node .payload) (length (left .nodes)) (r .nodes) (left-nodes ∙ k .nodes-live .live-right)
+          nodes = kept-payloads (node-live w) (λ x. getD (shape-of w .nodes) x no-node .payload) (length (left .nodes)) (r .nodes) (left-nodes ∙ k .nodes .live .live-right)
               (λ x l. sym (node-at w x (slot-low (w .live-nodes) (w .counts .nodes .bound) x l)))
               ∙ ap (λ (f : List Bool). map (λ x. getD (shape-of w .nodes) x no-node .payload) (live-slots f)) (sym (settled-node-flags w));
-          edges = kept-payloads (edge-live w) (λ e. getD (shape-of w .edges) e no-edge .payload) (length (left .edges)) (r .edges) (left-edges ∙ k .edges-live .live-right)
+          edges = kept-payloads (edge-live w) (λ e. getD (shape-of w .edges) e no-edge .payload) (length (left .edges)) (r .edges) (left-edges ∙ k .edges .live .live-right)
               (λ e l. sym (edge-at w e (slot-low (w .live-edges) (w .counts .edges .bound) e l)))
               ∙ ap (λ (f : List Bool). map (λ e. getD (shape-of w .edges) e no-edge .payload) (live-slots f)) (sym (settled-edge-flags w))
               ∙ sym (map-map payload-of (surviving-edge seen) (live-slots (edge-flags seen)));
           live-nodes = subst (λ (n : ℕ). Reset (v .live-nodes) n (v .live-nodes)) (sym left-nodes) (reset-same (r .live-nodes));
           live-edges = subst (λ (n : ℕ). Reset (v .live-edges) n (v .live-edges)) (sym left-edges) (reset-same (r .live-edges));
-          outgoing = subst₂ (λ (ce cn : ℕ). NewBase (v .outgoing) ce cn (v .counts) (map source-of (left .edges)) (left .outs)) (sym (same .edges)) (sym (same .nodes)) out-base;
-          incoming = subst₂ (λ (ce cn : ℕ). NewBase (v .incoming) ce cn (v .counts) (map target-of (left .edges)) (left .ins)) (sym (same .edges)) (sym (same .nodes)) in-base-of;
+          outgoing = subst₂ (λ (ce cn : ℕ). NewBase (v .outgoing) ce cn (v .counts) (map source-of (left .edges)) (left .outs)) (sym (same-edges same)) (sym (same-nodes same)) out-base;
+          incoming = subst₂ (λ (ce cn : ℕ). NewBase (v .incoming) ce cn (v .counts) (map target-of (left .edges)) (left .ins)) (sym (same-edges same)) (sym (same-nodes same)) in-base-of;
         }
       where
         sized-left : (d : TraversalDirection) → Sized (axis-words d v) (edge-capacity v) (node-capacity v)
-        sized-left Outgoing = subst₂ (Sized (v .outgoing)) (sym (r .lengths .edges)) (sym (r .lengths .nodes)) (sized-as (r .lengths .outgoing) (pre .checked .axis Outgoing .sized))
-        sized-left Incoming = subst₂ (Sized (v .incoming)) (sym (r .lengths .edges)) (sym (r .lengths .nodes)) (sized-as (r .lengths .incoming) (pre .checked .axis Incoming .sized))
+        sized-left d =
+            subst₂ (Sized (axis-words d v)) (sym (same-edges (r .lengths))) (sym (same-nodes (r .lengths))) (sized-as (same-axis w v (r .lengths) d) (pre .checked .axis d .sized))
 
   -- ---- the words that are left
 
@@ -207,10 +207,14 @@ module _ {w : Words} {node-map work : List ℕ} {v : Words} (pre : Droppable w n
 
   pub dropped-renewed : Renewed w v
   dropped-renewed = record {
-    nodes = λ i h. r .nodes .above i (omega (arith, nodes-bound, pre .checked .nodes-live .live-right));
-    edges = λ i h. r .edges .above i (omega (arith, edges-bound, pre .checked .edges-live .live-right));
-    live-nodes = λ i h. reset-word (r .live-nodes) i (omega (arith, nodes-bound));
-    live-edges = λ i h. reset-word (r .live-edges) i (omega (arith, edges-bound));
+    nodes = record {
+      payloads = λ i h. r .nodes .above i (omega (arith, nodes-bound, pre .checked .nodes .live .live-right));
+      live = λ i h. reset-word (r .live-nodes) i (omega (arith, nodes-bound));
+    };
+    edges = record {
+      payloads = λ i h. r .edges .above i (omega (arith, edges-bound, pre .checked .edges .live .live-right));
+      live = λ i h. reset-word (r .live-edges) i (omega (arith, edges-bound));
+    };
     axis = λ d. subst₂ (λ (n m : ℕ). AxisRenewed (axis-words d w) (axis-words d v) (edge-capacity w) (node-capacity w) n m) (sym nodes-bound) (sym edges-bound)
         (axis-left d);
   }

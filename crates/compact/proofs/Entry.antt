@@ -17,13 +17,12 @@ use Rattle.plain.specs.WellFormed.{Sound}
 use Rattle.plain.specs.Laws.Compacting.{survivors-sound, length-surviving-edges}
 use Rattle.plain.specs.Calls.{Compacted, compaction, judged-compaction}
 use Rattle.shape.specs.Shape.{Words, capacities, shape-of, settled}
-use Rattle.shape.specs.Kept.{nothing-spared, renewed-none, renewed-spared}
+use Rattle.shape.specs.Kept.{nothing-spared, same-nodes, same-edges, renewed-none, renewed-spared}
 use Rattle.shape.specs.Rules.{broken}
 use Rattle.shape.specs.Laws.CheckedShape.{checked-proper}
 use Rattle.shape.specs.Laws.NewBase.{fitted-total}
 use Rattle.shape.specs.Laws.Reading.{node-bound-is, edge-bound-is}
 use Rattle.validate.specs.Judging.{Judged}
-use Rattle.store.specs.Operations.{same-lengths}
 use Rattle.compact.specs.ListsStore.{settled-well-formed, settled-node-flags, settled-edge-flags}
 use Rattle.compact.specs.Settling.{Settleable, Settling, droppable}
 use Rattle.compact.specs.Holding.{holding-shape, holding-state, holding-reached, holding-checked, holding-canonical}
@@ -47,7 +46,7 @@ module _ (w : Words) (node-map edge-map work : List ℕ) where
     reached = λ h. absurd (refused h);
     canonical = λ h. absurd (refused h);
     again = λ h. absurd (refused h);
-    lengths = same-lengths w;
+    lengths = refl;
     refused-keeps = λ h. refl;
     renewed = renewed-none w;
     spared = nothing-spared w;
@@ -78,7 +77,7 @@ module _ (w : Words) (node-map edge-map work : List ℕ) where
         ap (λ (n : ℕ). judged-compaction n (seen w) (compaction (seen w) (length node-map) (length edge-map) (length work))) (sym (j .first) ∙ sound)
 
     many-edges : live-edges (settled (shape-of w)) ≡ w .counts .edges .live
-    many-edges = ap live-count (settled-edge-flags w) ∙ sym (j .checked sound .edges-live .live-right)
+    many-edges = ap live-count (settled-edge-flags w) ∙ sym (j .checked sound .edges .live .live-right)
 
     -- "a lent slice too short | 2 | length needed | everything"
     abbrev short : ℕ → Compacted
@@ -203,6 +202,6 @@ module _ (w : Words) (node-map edge-map work : List ℕ) where
                 refused-keeps = λ h. absurd (h refl);
                 renewed = dropped-renewed pre r;
                 spared = let c = holding-checked holding in
-                    renewed-spared (omega (arith, c .nodes .bound-within, r .lengths .nodes)) (omega (arith, c .edges .bound-within, r .lengths .edges))
+                    renewed-spared (omega (arith, c .nodes .bounded .bound-within, same-nodes (r .lengths))) (omega (arith, c .edges .bounded .bound-within, same-edges (r .lengths)))
                     (dropped-renewed pre r);
               }

@@ -29,13 +29,13 @@ use Rattle.liveness.specs.Flags.{live-flags}
 use Rattle.liveness.specs.Calls.{Reset, all-live}
 use Rattle.shape.specs.Columns.{Sized, cell}
 use Rattle.shape.specs.Shape.{Words, node-capacity, edge-capacity, capacities, node-live, edge-live, axis-words, shape-of, plain-of, lists}
-use Rattle.shape.specs.Checked.{LiveRight, AxisChecked, Checked, Reached}
+use Rattle.shape.specs.Checked.{SlotsChecked, AxisChecked, Checked, Reached}
 use Rattle.shape.specs.Steps.{state-of}
 use Rattle.shape.specs.Index.{before, ends-of}
 use Rattle.shape.specs.Laws.NewBase.{NewBase, new-axis, new-checked}
 use Rattle.store.specs.Acting.{shape-ext}
 use Rattle.compact.specs.Survivors.{shape-of-survivors, survivors-plain, survivors-state, survivors-reached}
-use Rattle.compact.specs.Calls.{AxisCanonical, Canonical}
+use Rattle.compact.specs.Calls.{AxisCanonical, SlotsCanonical, Canonical}
 
 -- the counts of slots that are all live and all in the base
 abbrev pub based : ℕ → Slots
@@ -112,11 +112,19 @@ slots-held {A} make words flags n on =
     (ap (λ (f : List Bool). getD f x false) on ∙ live-all-live n x ∙ lt-ltb x n (ltb-true x n (sym (member-below x n) ∙ m))))
     ∙ sym (map-map (λ p. make p true) (λ x. getD words x 0) (from 0 n))
 
--- the live words of slots that are all live
-live-held : {words : List ℕ} {slots : Slots} (n : ℕ) → Reset words n words → slots ≡ based n → LiveRight words (live-flags words (slots .bound)) slots
-live-held {words = words} n reset is =
-    subst (λ (s : Slots). LiveRight words (live-flags words (s .bound)) s) (sym is)
-    (record { unused-clear = reset .packs; live-right = sym (ap live-count (reset .flags) ∙ live-count-all-live n) })
+-- slots that are all live and all in the base pass the check
+slots-checked : {c : ℕ} {words : List ℕ} {slots : Slots} (n : ℕ) → slots ≡ based n → n ≤ c → live-words c ≤ length words → Reset words n words → SlotsChecked c words slots
+slots-checked {c} {words} n is fit long reset =
+    subst (λ (s : Slots). SlotsChecked c words s) (sym is)
+    (record {
+      bounded = record { bound-within = fit; base-within = omega arith };
+      live-long = long;
+      live = record { unused-clear = reset .packs; live-right = sym (ap live-count (reset .flags) ∙ live-count-all-live n) };
+    })
+
+-- and are canonical
+slots-canonical : {words : List ℕ} {slots : Slots} (n : ℕ) → slots ≡ based n → Reset words n words → SlotsCanonical words slots
+slots-canonical {words} n is reset = subst (λ (s : Slots). SlotsCanonical words s) (sym is) (record { based = refl; live = refl; words-set = reset })
 
 -- a new base is canonical
 axis-canonical : {ws : List ℕ} {ce cn : ℕ} {counts : Counts} {ends : List ℕ} {ls : List (List ℕ)} → NewBase ws ce cn counts ends ls
@@ -193,12 +201,8 @@ module _ {v : Words} {s : Survivors} (h : Holding v s) where
   -- the store is checked
   pub holding-checked : Checked v
   holding-checked = record {
-    nodes = record { bound-within = omega (arith, nodes-bound, h .nodes-fit); base-within = omega (arith, nodes-bound, nodes-base) };
-    edges = record { bound-within = omega (arith, edges-bound, h .edges-fit); base-within = omega (arith, edges-bound, edges-base) };
-    live-nodes-long = h .live-nodes-long;
-    live-edges-long = h .live-edges-long;
-    nodes-live = live-held (length (s .nodes)) (h .live-nodes) node-slots;
-    edges-live = live-held (length (s .edges)) (h .live-edges) edge-slots;
+    nodes = slots-checked (length (s .nodes)) node-slots (h .nodes-fit) (h .live-nodes-long) (h .live-nodes);
+    edges = slots-checked (length (s .edges)) edge-slots (h .edges-fit) (h .live-edges-long) (h .live-edges);
     axis = axis-held;
     walks = subst (WellFormed (capacities v)) (sym plain-held) (of-survivors-well-formed (capacities v) s (h .sound) (h .nodes-fit) (h .edges-fit));
   }
@@ -220,11 +224,7 @@ module _ {v : Words} {s : Survivors} (h : Holding v s) where
   -- its words are canonical
   pub holding-canonical : Canonical v
   holding-canonical = record {
-    nodes-based = nodes-base ∙ sym nodes-bound;
-    nodes-live = ap (λ (c : Slots). c .live) node-slots ∙ sym nodes-bound;
-    edges-based = edges-base ∙ sym edges-bound;
-    edges-live = ap (λ (c : Slots). c .live) edge-slots ∙ sym edges-bound;
-    node-words = subst (λ (n : ℕ). Reset (v .live-nodes) n (v .live-nodes)) (sym nodes-bound) (h .live-nodes);
-    edge-words = subst (λ (n : ℕ). Reset (v .live-edges) n (v .live-edges)) (sym edges-bound) (h .live-edges);
+    nodes = slots-canonical (length (s .nodes)) node-slots (h .live-nodes);
+    edges = slots-canonical (length (s .edges)) edge-slots (h .live-edges);
     axis = directions;
   }

@@ -209,6 +209,6 @@ module _ {w : Words} (k : Checked w) (d : TraversalDirection) where
   checked-writable room = record {
     walkable = λ x node. checked-walkable k d x node;
     once = λ x node. ap distinct (sym (list-is-walk w d x node)) ∙ incident (k .walks) d .once x;
-    live-long = let long = k .live-nodes-long in let bounded = k .nodes in omega arith;
+    live-long = let long = k .nodes .live-long in let bounded = k .nodes .bounded in omega arith;
     fits = omega (arith, lists-total);
   }

@@ -9,8 +9,7 @@ use Rattle.plain.specs.declared.Answer.{Answer}
 use Rattle.plain.specs.declared.Counts.{Counts}
 use Rattle.plain.specs.Calls.{read-image}
 use Rattle.shape.specs.Shape.{Words, store, node-capacity, edge-capacity, lengths-of, axis-words}
-use Rattle.shape.specs.Kept.{AxisRenewed, Renewed, nothing-spared, renewed-none, renewed-spared}
-use Rattle.store.specs.Operations.{same-lengths}
+use Rattle.shape.specs.Kept.{AxisRenewed, Renewed, nothing-spared, same-nodes, same-edges, renewed-none, renewed-spared}
 use Rattle.compact.specs.Holding.{holding-shape, holding-state, holding-reached, holding-checked, holding-canonical}
 use Rattle.image.specs.Reading.{Accepted, Placed, placed-holding, placed-renewed}
 use Rattle.image.proofs.Answering.{read-accepted}
@@ -26,7 +25,7 @@ module _ (w : Words) (bytes : List ℕ) (answer : Answer) (told : answer ≡ rea
     checked = λ h. absurd (refused h);
     reached = λ h. absurd (refused h);
     canonical = λ h. absurd (refused h);
-    lengths = same-lengths w;
+    lengths = refl;
     refused-keeps = λ h. refl;
     renewed = renewed-none w;
     spared = nothing-spared w;
@@ -43,13 +42,7 @@ module _ (w : Words) (bytes : List ℕ) (answer : Answer) (told : answer ≡ rea
         let holding = placed-holding accepted placed in
         let same = placed .lengths in
         let left = placed-renewed accepted placed in
-        let renewed : Renewed w v = record {
-          nodes = left .nodes;
-          edges = left .edges;
-          live-nodes = left .live-nodes;
-          live-edges = left .live-edges;
-          axis = axis-left placed;
-        } in
+        let renewed : Renewed w v = record { nodes = left .nodes; edges = left .edges; axis = axis-left placed } in
         record {
           answered = told;
           state = λ h. holding-state holding;
@@ -57,18 +50,11 @@ module _ (w : Words) (bytes : List ℕ) (answer : Answer) (told : answer ≡ rea
           checked = λ h. holding-checked holding;
           reached = λ h. holding-reached holding;
           canonical = λ h. holding-canonical holding;
-          lengths = record {
-            nodes = same .nodes;
-            edges = same .edges;
-            live-nodes = same .live-nodes;
-            live-edges = same .live-edges;
-            outgoing = same .outgoing;
-            incoming = same .incoming;
-          };
+          lengths = same;
           refused-keeps = λ h. absurd (h done);
           renewed = renewed;
           spared = let c = holding-checked holding in
-              renewed-spared (omega (arith, c .nodes .bound-within, same .nodes)) (omega (arith, c .edges .bound-within, same .edges)) renewed;
+              renewed-spared (omega (arith, c .nodes .bounded .bound-within, same-nodes same)) (omega (arith, c .edges .bounded .bound-within, same-edges same)) renewed;
         }
       where
         axis-left : {v : Words} → Placed (store counts (w .nodes) (w .edges) (w .live-nodes) (w .live-edges) (w .outgoing) (w .incoming)) bytes v → (d : TraversalDirection)

@@ -8,9 +8,8 @@ use Rattle.plain.specs.Image.{parsed}
 use Rattle.plain.specs.Calls.{read-image, read-state, write-image}
 use Rattle.shape.specs.Shape.{Words, lengths-of, shape-of}
 use Rattle.shape.specs.Checked.{Checked, Reached}
-use Rattle.shape.specs.Kept.{Renewed, Spared}
+use Rattle.shape.specs.Kept.{SameLengths, Renewed, Spared}
 use Rattle.shape.specs.Steps.{state-of}
-use Rattle.store.specs.Operations.{SameLengths}
 use Rattle.compact.specs.Survivors.{shape-of-survivors}
 use Rattle.compact.specs.Calls.{Canonical}
 

@@ -26,10 +26,9 @@ use Rattle.memory.specs.Laws.{Roomy}
 use Rattle.liveness.specs.Calls.{Reset}
 use Rattle.shape.specs.Columns.{Sized}
 use Rattle.shape.specs.Shape.{Words, node-capacity, edge-capacity, lengths-of, axis-words as words-of}
-use Rattle.shape.specs.Kept.{AxisRenewed, Renewed}
+use Rattle.shape.specs.Kept.{SameLengths, AxisRenewed, Renewed, same-nodes, same-edges, same-live-nodes, same-live-edges, same-axis}
 use Rattle.shape.specs.Index.{Rewritten}
 use Rattle.shape.specs.Laws.NewBase.{NewBase}
-use Rattle.store.specs.Operations.{SameLengths}
 use Rattle.compact.specs.Slots.{rewritten-range}
 use Rattle.compact.specs.Bases.{rebuilt-renewed}
 use Rattle.compact.specs.Holding.{based, front, Holding, reset-same, reset-word, sized-as}
@@ -208,8 +207,8 @@ module _ {w : Words} {bytes : List ℕ} {v : Words} (a : Accepted (lengths-of w)
       (targets-spread bytes (least-width (nodes-in bytes)) (edges-start (nodes-in bytes)) (edges-in bytes)) (sound .ins)
 
   sized-again : (d : TraversalDirection) → Sized (words-of d v) (edge-capacity v) (node-capacity v)
-  sized-again Outgoing = subst₂ (Sized (v .outgoing)) (sym (r .lengths .edges)) (sym (r .lengths .nodes)) (sized-as (r .lengths .outgoing) (ready .sources .sized))
-  sized-again Incoming = subst₂ (Sized (v .incoming)) (sym (r .lengths .edges)) (sym (r .lengths .nodes)) (sized-as (r .lengths .incoming) (ready .targets .sized))
+  sized-again Outgoing = subst₂ (Sized (v .outgoing)) (sym (same-edges (r .lengths))) (sym (same-nodes (r .lengths))) (sized-as (same-axis w v (r .lengths) Outgoing) (ready .sources .sized))
+  sized-again Incoming = subst₂ (Sized (v .incoming)) (sym (same-edges (r .lengths))) (sym (same-nodes (r .lengths))) (sized-as (same-axis w v (r .lengths) Incoming) (ready .targets .sized))
 
   -- the store holds what the bytes hold
   pub placed-holding : Holding v (parsed bytes)
@@ -221,20 +220,20 @@ module _ {w : Words} {bytes : List ℕ} {v : Words} (a : Accepted (lengths-of w)
       record {
         sound = sound;
         counts = r .counts ∙ ap₂ {C = Counts} (λ (n m : ℕ). record { nodes = based n; edges = based m }) (sym many-nodes) (sym many-edges);
-        nodes-fit = omega (arith, a .nodes-room, same .nodes);
-        edges-fit = omega (arith, a .edges-room, same .edges);
-        live-nodes-long = rw (same .nodes, same .live-nodes) (a .roomy .live-nodes-room);
-        live-edges-long = rw (same .edges, same .live-edges) (a .roomy .live-edges-room);
+        nodes-fit = omega (arith, a .nodes-room, same-nodes same);
+        edges-fit = omega (arith, a .edges-room, same-edges same);
+        live-nodes-long = rw (same-nodes same, same-live-nodes same) (a .roomy .live-nodes-room);
+        live-edges-long = rw (same-edges same, same-live-edges same) (a .roomy .live-edges-room);
         sized = sized-again;
         nodes = ap (front (v .nodes)) many-nodes ∙ rewritten-range (r .payloads .nodes-read) ∙ fields-spread bytes 32 32 (nodes-in bytes);
         edges = ap (front (v .edges)) many-edges ∙ rewritten-range (r .payloads .edges-read)
             ∙ payloads-spread bytes (least-width (nodes-in bytes)) (edges-start (nodes-in bytes)) (edges-in bytes);
         live-nodes = subst (λ (k : ℕ). Reset (v .live-nodes) k (v .live-nodes)) (sym many-nodes) (reset-same (r .live-nodes));
         live-edges = subst (λ (k : ℕ). Reset (v .live-edges) k (v .live-edges)) (sym many-edges) (reset-same (r .live-edges));
-        outgoing = subst₂ (λ (ce cn : ℕ). NewBase (v .outgoing) ce cn (v .counts) (map source-of (parsed bytes .edges)) (parsed bytes .outs)) (sym (same .edges))
-            (sym (same .nodes)) out-base;
-        incoming = subst₂ (λ (ce cn : ℕ). NewBase (v .incoming) ce cn (v .counts) (map target-of (parsed bytes .edges)) (parsed bytes .ins)) (sym (same .edges))
-            (sym (same .nodes)) in-base;
+        outgoing = subst₂ (λ (ce cn : ℕ). NewBase (v .outgoing) ce cn (v .counts) (map source-of (parsed bytes .edges)) (parsed bytes .outs)) (sym (same-edges same))
+            (sym (same-nodes same)) out-base;
+        incoming = subst₂ (λ (ce cn : ℕ). NewBase (v .incoming) ce cn (v .counts) (map target-of (parsed bytes .edges)) (parsed bytes .ins)) (sym (same-edges same))
+            (sym (same-nodes same)) in-base;
       }
 
   -- ---- the words that are left
@@ -257,10 +256,8 @@ module _ {w : Words} {bytes : List ℕ} {v : Words} (a : Accepted (lengths-of w)
       let nodes-bound = ap (λ (c : Counts). c .nodes .bound) (r .counts) in
       let edges-bound = ap (λ (c : Counts). c .edges .bound) (r .counts) in
       record {
-        nodes = λ i h. r .payloads .nodes-read .above i (omega arith);
-        edges = λ i h. r .payloads .edges-read .above i (omega arith);
-        live-nodes = λ i h. reset-word (r .live-nodes) i (omega arith);
-        live-edges = λ i h. reset-word (r .live-edges) i (omega arith);
+        nodes = record { payloads = λ i h. r .payloads .nodes-read .above i (omega arith); live = λ i h. reset-word (r .live-nodes) i (omega arith) };
+        edges = record { payloads = λ i h. r .payloads .edges-read .above i (omega arith); live = λ i h. reset-word (r .live-edges) i (omega arith) };
         axis = λ d. subst₂ (λ (n m : ℕ). AxisRenewed (words-of d w) (words-of d v) (edge-capacity w) (node-capacity w) n m) (sym nodes-bound) (sym edges-bound)
             (axis-left d);
       }

@@ -29,6 +29,7 @@ use Rattle.plain.specs.Laws.Compacting.{survivors-sound, survivors-of, survivin
 use Rattle.plain.specs.Laws.ImageLaws.{image-length}
 use Rattle.shape.specs.Shape.{Words, store, capacities, lengths-of, shape-of, plain-of, lists, is-compact}
 use Rattle.shape.specs.Checked.{Checked, Reached}
+use Rattle.shape.specs.Kept.{same-capacities}
 use Rattle.shape.specs.Rules.{broken}
 use Rattle.shape.specs.Steps.{state-of}
 use Rattle.shape.specs.Laws.Judging.{checked-sound}
@@ -112,7 +113,7 @@ module _ {nodes edges live-nodes live-edges outgoing incoming words entry : List
         held = record {
           checked = done .checked (done .numbered ∙ ap (λ (o : Stripped). o .number) is);
           reached = done .reached (made .reached);
-          sized = (λ i. record { nodes = done .lengths .nodes i; edges = done .lengths .edges i }) ∙ caps;
+          sized = same-capacities (done .lengths) ∙ caps;
         };
         state = done .state ∙ ap (λ (o : Stripped). o .after) is;
         answered = done .answered ∙ ap (λ (o : Stripped). written (o .words) entry) is;

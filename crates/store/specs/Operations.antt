@@ -2,7 +2,7 @@
 -- shape's own step makes of it, the store is checked again, and every slice is as long as it was. That the plain lists are then those of document 01 is
 -- `step-refines` of crate `shape`.
 use Prim.Native.Nat.{ℕ, _+_, _-_, _≤_, _<_}
-use mathlib.Core.Path.{_≡_, refl}
+use mathlib.Core.Path.{_≡_}
 use mathlib.Core.Bool.{Bool, true, false}
 use mathlib.Core.List.{[]}
 use mathlib.Core.Logic.{_≢_}
@@ -15,33 +15,11 @@ use Rattle.plain.specs.declared.Counts.{Counts}
 use Rattle.plain.specs.Plain.{list-of}
 use Rattle.plain.specs.Numbers.{LIMIT}
 use Rattle.shape.specs.Columns.{end-at}
-use Rattle.shape.specs.Shape.{Words, node-capacity, edge-capacity, lengths-of, node-live, edge-live, axis-words, shape-of, lists}
+use Rattle.shape.specs.Shape.{Words, node-capacity, edge-capacity, node-live, edge-live, axis-words, shape-of, lists}
 use Rattle.shape.specs.Checked.{Checked}
-use Rattle.shape.specs.Kept.{Kept}
+use Rattle.shape.specs.Kept.{SameLengths, Kept}
 use Rattle.shape.specs.Writes.{Writes}
 use Rattle.shape.specs.Steps.{acted}
-
--- Every slice is as long as it was.
-pub record SameLengths (w v : Words) : Type 0 where
-  pub nodes : node-capacity v ≡ node-capacity w
-  pub edges : edge-capacity v ≡ edge-capacity w
-  pub live-nodes : length (v .live-nodes) ≡ length (w .live-nodes)
-  pub live-edges : length (v .live-edges) ≡ length (w .live-edges)
-  pub outgoing : length (v .outgoing) ≡ length (w .outgoing)
-  pub incoming : length (v .incoming) ≡ length (w .incoming)
-
-pub same-lengths : (w : Words) → SameLengths w w
-same-lengths w = record { nodes = refl; edges = refl; live-nodes = refl; live-edges = refl; outgoing = refl; incoming = refl }
-
-pub lengths-same : {w v : Words} → SameLengths w v → lengths-of v ≡ lengths-of w
-lengths-same same =
-    let n = same .nodes in
-    let e = same .edges in
-    let ln = same .live-nodes in
-    let le = same .live-edges in
-    let out = same .outgoing in
-    let inc = same .incoming in
-    λ i. record { capacities = record { nodes = n i; edges = e i }; live-nodes = ln i; live-edges = le i; outgoing = out i; incoming = inc i }
 
 -- The operation was done.
 pub record Acted (operation : Operation) (w v : Words) : Type 0 where

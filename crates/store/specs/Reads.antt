@@ -9,31 +9,17 @@ use Rattle.plain.specs.declared.TraversalDirection.{TraversalDirection}
 use Rattle.plain.specs.declared.TraversalDirection.the-variants.{Outgoing, Incoming}
 use Rattle.plain.specs.declared.Record.{Record}
 use Rattle.plain.specs.Numbers.{NONE}
-use Rattle.plain.specs.Plain.{NodeSlot, EdgeSlot, no-node, no-edge, end-of, list-of}
+use Rattle.plain.specs.Plain.{end-of, list-of}
 use Rattle.plain.specs.Reads.{answered, yes-or-no, no-record, node-payload, edge-record, live-edge-record, contains-node, contains-edge}
 use Rattle.plain.specs.Laws.CallCases.{node-payload-absent, node-payload-there, edge-record-absent, edge-record-there, live-edge-record-absent, live-edge-record-removed, live-edge-record-there, contains-node-is, contains-edge-is}
 use Rattle.liveness.specs.FlagLaws.{length-flags}
 use Rattle.shape.specs.Shape.{Words, Axis, node-capacity, edge-capacity, node-live, edge-live, axis-words, shape-of, plain-of, lists}
-use Rattle.shape.specs.Laws.Reading.{made-at, node-bound-is, edge-bound-is, node-flags-are, edge-flags-are, axis-is, axis-end}
+use Rattle.shape.specs.Laws.Reading.{node-bound-is, edge-bound-is, node-at, edge-at, node-flags-are, edge-flags-are, axis-is, axis-end}
 use Rattle.shape.specs.Checked.{Checked}
 use Rattle.adjacency.specs.Walk.{walk-in}
 use Rattle.adjacency.specs.StoreWalks.{list-is-walk}
 
 module _ (w : Words) where
-  -- the payload of a node slot
-  pub node-at : (x : ℕ) → x < w .counts .nodes .bound → getD (shape-of w .nodes) x no-node .payload ≡ getD (w .nodes) x 0
-  unfolding shape-of
-  node-at x l =
-      ap (λ (s : NodeSlot). s .payload)
-      (made-at (λ x. record { payload = getD (w .nodes) x 0; live = getD (node-live w) x false }) (w .counts .nodes .bound) x no-node l)
-
-  -- the payload of an edge slot
-  pub edge-at : (e : ℕ) → e < w .counts .edges .bound → getD (shape-of w .edges) e no-edge .payload ≡ getD (w .edges) e 0
-  unfolding shape-of
-  edge-at e l =
-      ap (λ (s : EdgeSlot). s .payload)
-      (made-at (λ e. record { payload = getD (w .edges) e 0; live = getD (edge-live w) e false }) (w .counts .edges .bound) e no-edge l)
-
   -- an end of an edge slot
   end-read : (d : TraversalDirection) (e : ℕ) → e < w .counts .edges .bound → end-of d (lists w) e ≡ getD (axis-words d w) e 0
   unfolding plain-of
@@ -43,7 +29,7 @@ module _ (w : Words) where
 module _ {w : Words} (checked : Checked w) where
   -- an edge's end is a word of each direction
   pub end-in : (d : TraversalDirection) (e : ℕ) → e < w .counts .edges .bound → e < length (axis-words d w)
-  end-in d e l = omega (arith, checked .edges .bound-within, checked .axis d .sized .room)
+  end-in d e l = omega (arith, checked .edges .bounded .bound-within, checked .axis d .sized .room)
 
   -- a node's payload is refused past the bound
   pub payload-past : (x : ℕ) → w .counts .nodes .bound ≤ x → node-payload (lists w) x ≡ record { number = 5; value = NONE }

@@ -82,7 +82,7 @@ module _ {w : Words} (k : Checked w) where
   pub marks-there : (d : TraversalDirection) → MarksThere (axis-words d w) (edge-capacity w) (node-capacity w) (w .counts .nodes .bound)
   marks-there d =
       let sized = k .axis d .sized in
-      record { edges-within = sized .edges-within; nodes-within = sized .nodes-within; room = omega (arith, sized .room, k .nodes .bound-within) }
+      record { edges-within = sized .edges-within; nodes-within = sized .nodes-within; room = omega (arith, sized .room, k .nodes .bounded .bound-within) }
 
   pub compact-parts : is-compact (shape-of w)
       ≡ (eqb (w .counts .nodes .base) (w .counts .nodes .bound) && (eqb (w .counts .edges .base) (w .counts .edges .bound)
@@ -102,8 +102,8 @@ module _ {w : Words} (k : Checked w) where
         all-live,
         length-flags,
         length-flags,
-        ← k .nodes-live .live-right,
-        ← k .edges-live .live-right,
+        ← k .nodes .live .live-right,
+        ← k .edges .live .live-right,
         axis-is w Outgoing,
         axis-is w Incoming,
         no-runs,
