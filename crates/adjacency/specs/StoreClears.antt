@@ -21,8 +21,8 @@ use Rattle.liveness.specs.Flags.{live-flags}
 use Rattle.liveness.specs.FlagLaws.{length-flags}
 use Rattle.shape.specs.Columns.{mark-at}
 use Rattle.shape.specs.Chains.{In}
-use Rattle.shape.specs.Shape.{Words, node-live, edge-live, axis-words, shape-of, adjacency-in, run-list, run-of, part, raw, live-in}
-use Rattle.shape.specs.Checked.{LiveRight, Checked}
+use Rattle.shape.specs.Shape.{Words, node-capacity, edge-capacity, node-live, edge-live, axis-words, edge-slot-at, shape-of, adjacency-in, run-list, run-of, part, raw, live-in}
+use Rattle.shape.specs.Checked.{SlotsChecked, Checked}
 use Rattle.shape.specs.Steps.{retired, walk-in as walk-of-shape}
 use Rattle.shape.specs.Laws.Chains.{in-none}
 use Rattle.shape.specs.Laws.Keeping.{retired-length}
@@ -34,7 +34,7 @@ use Rattle.adjacency.specs.ClearLaws.{getD-cleared, retired-both}
 
 -- a node of a checked store can be cleared in either direction, whatever stands in the live words
 pub checked-clearable : {w : Words} → Checked w → (d : TraversalDirection) (x : ℕ) → x < w .counts .nodes .bound → {live-edges : List ℕ}
-    → length live-edges ≡ length (w .live-edges) → Clearable (axis-words d w) (length (w .edges)) (length (w .nodes)) (w .counts) live-edges x
+    → length live-edges ≡ length (w .live-edges) → Clearable (axis-words d w) (edge-capacity w) (node-capacity w) (w .counts) live-edges x
 checked-clearable k d x node long =
     let enough = checked-walkable k d x node .live-long in
     record { readable = checked-readable k d x node; live-long = omega arith }
@@ -80,7 +80,7 @@ slots-ext (s ∷ a) (t ∷ b) p l =
 payloads-are : (w : Words) → map payload-of (shape-of w .edges) ≡ map (λ e. getD (w .edges) e 0) (from 0 (w .counts .edges .bound))
 unfolding shape-of
 payloads-are w =
-    map-map payload-of (λ e. record { payload = getD (w .edges) e 0; live = getD (edge-live w) e false }) (from 0 (w .counts .edges .bound))
+    map-map payload-of (edge-slot-at w) (from 0 (w .counts .edges .bound))
 
 -- A store v whose live words are those of w with the edges es made dead, all else of the edge slots as it was.
 module _ (w v : Words) (payloads : v .edges ≡ w .edges) (bound : v .counts .edges .bound ≡ w .counts .edges .bound) {es : List ℕ} {n : ℕ}
@@ -103,26 +103,30 @@ module _ (w v : Words) (payloads : v .edges ≡ w .edges) (bound : v .counts .ed
 
 -- ---- the live count
 
-module _ {words after es : List ℕ} {s : Slots} {n : ℕ} (right : LiveRight words (live-flags words (s .bound)) s) (gone : Retired (s .bound) es words after n) where
+module _ {c : ℕ} {words after es : List ℕ} {s : Slots} {n : ℕ} (k : SlotsChecked c words s) (gone : Retired (s .bound) es words after n) where
   -- no more are made dead than are counted
   pub retired-within : n ≤ s .live
-  retired-within = omega (arith, right .live-right, gone .counted)
+  retired-within = omega (arith, k .live .live-right, gone .counted)
 
-  -- and counted off, the count is right again
-  pub retired-right : LiveRight after (live-flags after (s .bound)) (record { bound = s .bound; base = s .base; live = s .live - n })
-  retired-right = record { unused-clear = gone .packs (right .unused-clear); live-right = omega (arith, right .live-right, gone .counted) }
+  -- and counted off, the slots pass the check again
+  pub retired-checked : SlotsChecked c after (record { bound = s .bound; base = s .base; live = s .live - n })
+  retired-checked = record {
+    bounded = record { bound-within = k .bounded .bound-within; base-within = k .bounded .base-within };
+    live-long = rw (gone .long) (k .live-long);
+    live = record { unused-clear = gone .packs (k .live .unused-clear); live-right = omega (arith, k .live .live-right, gone .counted) };
+  }
 
 -- ---- a node's edges
 
 -- the walk of one direction cleared, and then that of the other, as it is read then: both walks of the shape are dead
 pub node-retired : (w : Words) (x : ℕ) → x < w .counts .nodes .bound → {mid after : List ℕ} {n m : ℕ} → let live = getD (node-live w) x false in
-    Retired (w .counts .edges .bound) (walk-in (w .outgoing) (length (w .edges)) (length (w .nodes)) (w .counts) (w .live-edges) x live) (w .live-edges) mid n
-    → Retired (w .counts .edges .bound) (walk-in (w .incoming) (length (w .edges)) (length (w .nodes)) (w .counts) mid x live) mid after m
+    Retired (w .counts .edges .bound) (walk-in (w .outgoing) (edge-capacity w) (node-capacity w) (w .counts) (w .live-edges) x live) (w .live-edges) mid n
+    → Retired (w .counts .edges .bound) (walk-in (w .incoming) (edge-capacity w) (node-capacity w) (w .counts) mid x live) mid after m
     → Retired (w .counts .edges .bound) (walk-of-shape Outgoing (shape-of w) x ++ walk-of-shape Incoming (shape-of w) x) (w .live-edges) after (n + m)
 node-retired w x node first second =
     rw (shape-walk w Outgoing x node, shape-walk w Incoming x node)
-    (retired-both (getD (node-live w) x false) (adjacency-in (w .outgoing) (length (w .edges)) (length (w .nodes)) (w .counts) x)
-    (adjacency-in (w .incoming) (length (w .edges)) (length (w .nodes)) (w .counts) x) first second)
+    (retired-both (getD (node-live w) x false) (adjacency-in (w .outgoing) (edge-capacity w) (node-capacity w) (w .counts) x)
+    (adjacency-in (w .incoming) (edge-capacity w) (node-capacity w) (w .counts) x) first second)
 
 -- an entry of a node's run is an entry of its adjacency
 run-raw : (ws : List ℕ) (ce cn : ℕ) (counts : Counts) (x e : ℕ) → In e (run-list ws ce cn x) → In e (raw (adjacency-in ws ce cn counts x))
@@ -134,7 +138,7 @@ run-raw ws ce cn counts x e m =
 -- then no live edge is in the node's run, in either direction
 pub node-dead : (w : Words) (x : ℕ) → x < w .counts .nodes .bound → getD (node-live w) x false ≡ true → {after : List ℕ} {n : ℕ}
     → Retired (w .counts .edges .bound) (walk-of-shape Outgoing (shape-of w) x ++ walk-of-shape Incoming (shape-of w) x) (w .live-edges) after n
-    → (d : TraversalDirection) (e : ℕ) → In e (run-list (axis-words d w) (length (w .edges)) (length (w .nodes)) x)
+    → (d : TraversalDirection) (e : ℕ) → In e (run-list (axis-words d w) (edge-capacity w) (node-capacity w) x)
     → getD (live-flags after (w .counts .edges .bound)) e false ≡ false
 node-dead w x node live gone d e m =
     gone .flags e ∙ by-test (getD (edge-live w) e false) (λ q. rw (q, either d (walked d m q))) (λ q. rw q)
@@ -145,13 +149,13 @@ node-dead w x node live gone d e m =
     into : List ℕ
     into = walk-of-shape Incoming (shape-of w) x
 
-    walked : (d : TraversalDirection) → In e (run-list (axis-words d w) (length (w .edges)) (length (w .nodes)) x) → getD (edge-live w) e false ≡ true
+    walked : (d : TraversalDirection) → In e (run-list (axis-words d w) (edge-capacity w) (node-capacity w) x) → getD (edge-live w) e false ≡ true
         → In e (walk-of-shape d (shape-of w) x)
     walked d m q =
-        let adjacency = adjacency-in (axis-words d w) (length (w .edges)) (length (w .nodes)) (w .counts) x in
+        let adjacency = adjacency-in (axis-words d w) (edge-capacity w) (node-capacity w) (w .counts) x in
         rw (shape-walk w d x node, live)
         (member-keep (live-in (edge-live w)) e (raw adjacency)
-        ∙ rw (run-raw (axis-words d w) (length (w .edges)) (length (w .nodes)) (w .counts) x e m, q))
+        ∙ rw (run-raw (axis-words d w) (edge-capacity w) (node-capacity w) (w .counts) x e m, q))
 
     either : (d : TraversalDirection) → In e (walk-of-shape d (shape-of w) x) → In e (out ++ into)
     either Outgoing k = member-append e out into ∙ rw k

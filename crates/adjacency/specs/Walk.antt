@@ -60,7 +60,7 @@ pub record Readable (ws : List ℕ) (ce cn : ℕ) (counts : Counts) (x : ℕ) : 
 pub record Walkable (ws : List ℕ) (ce cn : ℕ) (counts : Counts) (live-edges : List ℕ) (x : ℕ) : Type 0 where
   pub readable : Readable ws ce cn counts x
   pub live-long : counts .edges .bound ≤ 64 * length live-edges
-  pub live-right : LiveRight live-edges (live-flags live-edges (counts .edges .bound)) (counts .edges)
+  pub live-right : LiveRight live-edges (counts .edges)
 
 -- What it takes to write the walk to a slice: room for it.
 pub record WalkFits (ws : List ℕ) (ce cn : ℕ) (counts : Counts) (live-edges : List ℕ) (x : ℕ) (live : Bool) (out : List ℕ) : Type 0 where

@@ -9,10 +9,10 @@ use lib.ListN.{length, take, drop, set, length-append, length-take, length-set, 
 use lib.Seq.{take-at, drop-at, take-add, drop-drop, set-split}
 use lib.Pow.{shr-shr, pow-pos}
 use Rattle.plain.specs.Lists.{written}
-use Rattle.plain.specs.Bits.{bits-of, bits, bytes-for, pack}
+use Rattle.plain.specs.Bits.{bits-of, bits, bytes-for, padding, pack}
 use Rattle.plain.specs.Laws.Below.{Below, below-append, below-drop}
 use Rattle.plain.specs.Laws.Bits.{length-bits-of, bits-of-split, bits-of-ext, length-bits, bits-append, bits-injective}
-use Rattle.plain.specs.Laws.Packing.{Stands, length-pack, below-pack, bits-pack, padding}
+use Rattle.plain.specs.Laws.Packing.{Stands, length-pack, below-pack, bits-pack}
 use Rattle.bits.specs.Put.{Put, put-none, put-then, put-split, split-put}
 
 pub record Wrote (s : List ℕ) (p : ℕ) (f t : List ℕ) : Type 0 where

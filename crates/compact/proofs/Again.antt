@@ -18,10 +18,10 @@ use Rattle.plain.specs.Laws.ListLaws.{getD-map, length-from, getD-from}
 use Rattle.liveness.specs.Flags.{live-flags}
 use Rattle.liveness.specs.Calls.{all-live}
 use Rattle.shape.specs.Columns.{cell, end-at}
-use Rattle.shape.specs.Shape.{Words, capacities, node-live, edge-live, axis-words, lists}
+use Rattle.shape.specs.Shape.{Words, capacities, node-live, edge-live, axis-words, lists, node-capacity, edge-capacity}
 use Rattle.shape.specs.Checked.{Checked}
 use Rattle.shape.specs.Laws.Reading.{plain-node-bound, plain-edge-bound, plain-node-flags, plain-edge-flags}
-use Rattle.shape.specs.Laws.Indexing.{Rewritten, before, ends-of}
+use Rattle.shape.specs.Index.{Rewritten, before, ends-of}
 use Rattle.compact.specs.Slots.{kept-word, rewritten-same, kept-all-live}
 use Rattle.compact.specs.Bases.{Compactable, AxisCompacted}
 use Rattle.compact.specs.Dropping.{Droppable, Dropped, axis-compactable, first-half, drop-room}
@@ -115,17 +115,17 @@ module _ {w : Words} {node-map work : List ℕ} {v : Words} (pre : Droppable w n
       ∙ own-rank (node-live w) (w .counts .nodes .bound) x (node-flags-on k s) low
 
   direction-again : (d : TraversalDirection) (entries ws' : List ℕ)
-      → AxisCompacted (axis-words d w) (length (w .edges)) (length (w .nodes)) (w .live-edges) (w .counts .edges .bound) node-map (w .counts .nodes .live)
+      → AxisCompacted (axis-words d w) (edge-capacity w) (node-capacity w) (w .live-edges) (w .counts .edges .bound) node-map (w .counts .nodes .live)
       (w .counts .edges .live) entries ws'
       → w .counts .edges .live ≤ length entries
       → take (w .counts .edges .live) entries ≡ joined (map (list-of d (lists w)) (from 0 (w .counts .nodes .bound))) → ws' ≡ axis-words d w
   direction-again d entries ws' a there lined =
       axis-again (joined (map (list-of d (lists w)) (from 0 (w .counts .nodes .bound))))
-      (subst₂ (λ (n m : ℕ). Compactable (axis-words d w) (length (w .edges)) (length (w .nodes)) (w .live-edges) (w .counts .edges .bound) node-map n m entries)
-      (s .nodes-live) (s .edges-live) (axis-compactable pre d entries there))
-      (subst₂ (λ (n m : ℕ). AxisCompacted (axis-words d w) (length (w .edges)) (length (w .nodes)) (w .live-edges) (w .counts .edges .bound) node-map n m entries ws')
-      (s .nodes-live) (s .edges-live) a)
-      (edge-flags-on k s) (own-number d) (s .axis d) (ap (λ (m : ℕ). take m entries) (sym (s .edges-live)) ∙ lined)
+      (subst₂ (λ (n m : ℕ). Compactable (axis-words d w) (edge-capacity w) (node-capacity w) (w .live-edges) (w .counts .edges .bound) node-map n m entries)
+      (s .nodes .live) (s .edges .live) (axis-compactable pre d entries there))
+      (subst₂ (λ (n m : ℕ). AxisCompacted (axis-words d w) (edge-capacity w) (node-capacity w) (w .live-edges) (w .counts .edges .bound) node-map n m entries ws')
+      (s .nodes .live) (s .edges .live) a)
+      (edge-flags-on k s) (own-number d) (s .axis d) (ap (λ (m : ℕ). take m entries) (sym (s .edges .live)) ∙ lined)
 
   -- compacting a canonical store leaves every word, and the counts
   pub dropped-again : v ≡ w
@@ -134,9 +134,9 @@ module _ {w : Words} {node-map work : List ℕ} {v : Words} (pre : Droppable w n
       let nodes : v .nodes ≡ w .nodes = kept-all-live (node-live w) (w .counts .nodes .bound) (node-flags-on k s) (r .nodes) in
       let edges : v .edges ≡ w .edges = kept-all-live (edge-live w) (w .counts .edges .bound) (edge-flags-on k s) (r .edges) in
       let live-nodes : v .live-nodes ≡ w .live-nodes =
-      r .live-nodes .words ∙ ap (λ (n : ℕ). written (all-live n) (w .live-nodes)) (s .nodes-live) ∙ sym (s .node-words .words) in
+      r .live-nodes .words ∙ ap (λ (n : ℕ). written (all-live n) (w .live-nodes)) (s .nodes .live) ∙ sym (s .nodes .words-set .words) in
       let live-edges : v .live-edges ≡ w .live-edges =
-      r .live-edges .words ∙ ap (λ (n : ℕ). written (all-live n) (w .live-edges)) (s .edges-live) ∙ sym (s .edge-words .words) in
+      r .live-edges .words ∙ ap (λ (n : ℕ). written (all-live n) (w .live-edges)) (s .edges .live) ∙ sym (s .edges .words-set .words) in
       let outgoing : v .outgoing ≡ w .outgoing =
       direction-again Outgoing work (v .outgoing) (r .outgoing) (first-half pre) (outs ∙ ap joined (outs-again k s)) in
       let incoming : v .incoming ≡ w .incoming =
@@ -156,5 +156,5 @@ module _ {w : Words} {node-map work : List ℕ} {v : Words} (pre : Droppable w n
 
       counts-again : _≡_ {A = Counts} (record { nodes = based (w .counts .nodes .live); edges = based (w .counts .edges .live) }) (w .counts)
       counts-again =
-          ap₂ {C = Counts} (λ (n e : Slots). record { nodes = n; edges = e }) (slots-again (w .counts .nodes) (s .nodes-based) (s .nodes-live))
-          (slots-again (w .counts .edges) (s .edges-based) (s .edges-live))
+          ap₂ {C = Counts} (λ (n e : Slots). record { nodes = n; edges = e }) (slots-again (w .counts .nodes) (s .nodes .based) (s .nodes .live))
+          (slots-again (w .counts .edges) (s .edges .based) (s .edges .live))

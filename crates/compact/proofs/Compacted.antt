@@ -15,18 +15,18 @@ use Rattle.plain.specs.Lists.{joined, from}
 use Rattle.plain.specs.Plain.{no-node, no-edge, node-flags, edge-flags, end-of}
 use Rattle.plain.specs.Reads.{live-count, live-slots}
 use Rattle.plain.specs.Compaction.{Survivors, rank, survivors, surviving-edge, source-of, target-of}
+use Rattle.plain.specs.WellFormed.{Fitted, Sound}
 use Rattle.plain.specs.Laws.ListLaws.{map-same, map-getD, member-below}
 use Rattle.plain.specs.Laws.Rank.{live-below, live-slot-live, length-live-slots, member-live-slots}
-use Rattle.plain.specs.Laws.WellFormed.{Fitted, Sound}
 use Rattle.plain.specs.Laws.Compacting.{survivors-sound, length-surviving-nodes, length-surviving-edges}
 use Rattle.plain.specs.Laws.ImageBits.{payload-of}
 use Rattle.liveness.specs.Flags.{live-flags}
 use Rattle.liveness.specs.Calls.{Reset}
 use Rattle.liveness.specs.FlagLaws.{length-flags}
 use Rattle.shape.specs.Columns.{Sized, end-at}
-use Rattle.shape.specs.Shape.{Words, capacities, node-live, edge-live, axis-words, shape-of, plain-of, lists}
-use Rattle.shape.specs.Kept.{AxisRenewed, Renewed}
-use Rattle.shape.specs.Laws.Indexing.{Rewritten, ends-of}
+use Rattle.shape.specs.Shape.{Words, capacities, node-live, edge-live, axis-words, shape-of, plain-of, lists, node-capacity, edge-capacity}
+use Rattle.shape.specs.Kept.{AxisRenewed, Renewed, same-nodes, same-edges, same-live-nodes, same-live-edges, same-axis}
+use Rattle.shape.specs.Index.{Rewritten, ends-of}
 use Rattle.shape.specs.Laws.NewBase.{NewBase}
 use Rattle.shape.specs.Laws.Reading.{plain-node-flags, plain-edge-flags, plain-end}
 use Rattle.relocate.specs.Stores.{checked-end}
@@ -92,20 +92,20 @@ module _ {w : Words} {node-map work : List ℕ} {v : Words} (pre : Droppable w n
   abbrev left : Survivors
   left = survivors (lists w)
 
-  few-nodes : length (w .nodes) ≤ LIMIT
+  few-nodes : node-capacity w ≤ LIMIT
   few-nodes = pre .checked .axis Outgoing .sized .nodes-within
 
-  few-edges : length (w .edges) ≤ LIMIT
+  few-edges : edge-capacity w ≤ LIMIT
   few-edges = pre .checked .axis Outgoing .sized .edges-within
 
   pub left-sound : Sound left
   left-sound = survivors-sound (capacities w) (lists w) (pre .checked .walks) few-nodes few-edges
 
   pub left-nodes : length (left .nodes) ≡ w .counts .nodes .live
-  left-nodes = length-surviving-nodes (lists w) ∙ ap live-count (plain-node-flags w) ∙ sym (pre .checked .nodes-live .live-right)
+  left-nodes = length-surviving-nodes (lists w) ∙ ap live-count (plain-node-flags w) ∙ sym (pre .checked .nodes .live .live-right)
 
   pub left-edges : length (left .edges) ≡ w .counts .edges .live
-  left-edges = length-surviving-edges (lists w) ∙ ap live-count (plain-edge-flags w) ∙ sym (pre .checked .edges-live .live-right)
+  left-edges = length-surviving-edges (lists w) ∙ ap live-count (plain-edge-flags w) ∙ sym (pre .checked .edges .live .live-right)
 
   -- the new number of a live edge's end
   new-end : (d : TraversalDirection) (e : ℕ) → getD (edge-live w) e false ≡ true
@@ -145,12 +145,12 @@ module _ {w : Words} {node-map work : List ℕ} {v : Words} (pre : Droppable w n
   -- both directions, where the work slice holds the joined lists
   module _ (outs : take (w .counts .edges .live) work ≡ joined (left .outs))
       (ins : take (w .counts .edges .live) (drop (w .counts .edges .live) work) ≡ joined (left .ins)) where
-    out-base : NewBase (v .outgoing) (length (w .edges)) (length (w .nodes)) (v .counts) (map source-of (left .edges)) (left .outs)
+    out-base : NewBase (v .outgoing) (edge-capacity w) (node-capacity w) (v .counts) (map source-of (left .edges)) (left .outs)
     out-base =
         new-base-of (axis-compactable pre Outgoing work (first-half pre)) (r .outgoing) (v .counts) (left .outs) nodes-bound nodes-base edges-bound edges-base outs
         (map source-of (left .edges)) sources-left (subst (λ (k : ℕ). Fitted k (map source-of (left .edges)) (left .outs)) left-nodes (left-sound .outs))
 
-    in-base-of : NewBase (v .incoming) (length (w .edges)) (length (w .nodes)) (v .counts) (map target-of (left .edges)) (left .ins)
+    in-base-of : NewBase (v .incoming) (edge-capacity w) (node-capacity w) (v .counts) (map target-of (left .edges)) (left .ins)
     in-base-of =
         new-base-of (axis-compactable pre Incoming (drop (w .counts .edges .live) work) (drop-room pre)) (r .incoming) (v .counts) (left .ins) nodes-bound nodes-base
         edges-bound edges-base ins (map target-of (left .edges)) targets-left
@@ -165,41 +165,45 @@ module _ {w : Words} {node-map work : List ℕ} {v : Words} (pre : Droppable w n
         record {
           sound = left-sound;
           counts = r .counts ∙ ap₂ {C = Counts} (λ (n m : ℕ). record { nodes = based n; edges = based m }) (sym left-nodes) (sym left-edges);
-          nodes-fit = let low = node-count pre in omega (arith, left-nodes, same .nodes, k .nodes .bound-within);
-          edges-fit = let low = edge-count pre in omega (arith, left-edges, same .edges, k .edges .bound-within);
-          live-nodes-long = rw (same .nodes, same .live-nodes) (k .live-nodes-long);
-          live-edges-long = rw (same .edges, same .live-edges) (k .live-edges-long);
+          nodes-fit = let low = node-count pre in omega (arith, left-nodes, same-nodes same, k .nodes .bounded .bound-within);
+          edges-fit = let low = edge-count pre in omega (arith, left-edges, same-edges same, k .edges .bounded .bound-within);
+          live-nodes-long = rw (same-nodes same, same-live-nodes same) (k .nodes .live-long);
+          live-edges-long = rw (same-edges same, same-live-edges same) (k .edges .live-long);
           sized = sized-left;
-          nodes = kept-payloads (node-live w) (λ x. getD (shape-of w .nodes) x no-node .payload) (length (left .nodes)) (r .nodes) (left-nodes ∙ k .nodes-live .live-right)
+          nodes = kept-payloads (node-live w) (λ x. getD (shape-of w .nodes) x no-node .payload) (length (left .nodes)) (r .nodes) (left-nodes ∙ k .nodes .live .live-right)
               (λ x l. sym (node-at w x (slot-low (w .live-nodes) (w .counts .nodes .bound) x l)))
               ∙ ap (λ (f : List Bool). map (λ x. getD (shape-of w .nodes) x no-node .payload) (live-slots f)) (sym (plain-node-flags w));
-          edges = kept-payloads (edge-live w) (λ e. getD (shape-of w .edges) e no-edge .payload) (length (left .edges)) (r .edges) (left-edges ∙ k .edges-live .live-right)
+          edges = kept-payloads (edge-live w) (λ e. getD (shape-of w .edges) e no-edge .payload) (length (left .edges)) (r .edges) (left-edges ∙ k .edges .live .live-right)
               (λ e l. sym (edge-at w e (slot-low (w .live-edges) (w .counts .edges .bound) e l)))
               ∙ ap (λ (f : List Bool). map (λ e. getD (shape-of w .edges) e no-edge .payload) (live-slots f)) (sym (plain-edge-flags w))
               ∙ sym (map-map payload-of (surviving-edge (lists w)) (live-slots (edge-flags (lists w))));
           live-nodes = subst (λ (n : ℕ). Reset (v .live-nodes) n (v .live-nodes)) (sym left-nodes) (reset-same (r .live-nodes));
           live-edges = subst (λ (n : ℕ). Reset (v .live-edges) n (v .live-edges)) (sym left-edges) (reset-same (r .live-edges));
-          outgoing = subst₂ (λ (ce cn : ℕ). NewBase (v .outgoing) ce cn (v .counts) (map source-of (left .edges)) (left .outs)) (sym (same .edges)) (sym (same .nodes)) out-base;
-          incoming = subst₂ (λ (ce cn : ℕ). NewBase (v .incoming) ce cn (v .counts) (map target-of (left .edges)) (left .ins)) (sym (same .edges)) (sym (same .nodes)) in-base-of;
+          outgoing = subst₂ (λ (ce cn : ℕ). NewBase (v .outgoing) ce cn (v .counts) (map source-of (left .edges)) (left .outs)) (sym (same-edges same)) (sym (same-nodes same)) out-base;
+          incoming = subst₂ (λ (ce cn : ℕ). NewBase (v .incoming) ce cn (v .counts) (map target-of (left .edges)) (left .ins)) (sym (same-edges same)) (sym (same-nodes same)) in-base-of;
         }
       where
-        sized-left : (d : TraversalDirection) → Sized (axis-words d v) (length (v .edges)) (length (v .nodes))
-        sized-left Outgoing = subst₂ (Sized (v .outgoing)) (sym (r .lengths .edges)) (sym (r .lengths .nodes)) (sized-as (r .lengths .outgoing) (pre .checked .axis Outgoing .sized))
-        sized-left Incoming = subst₂ (Sized (v .incoming)) (sym (r .lengths .edges)) (sym (r .lengths .nodes)) (sized-as (r .lengths .incoming) (pre .checked .axis Incoming .sized))
+        sized-left : (d : TraversalDirection) → Sized (axis-words d v) (edge-capacity v) (node-capacity v)
+        sized-left d =
+            subst₂ (Sized (axis-words d v)) (sym (same-edges (r .lengths))) (sym (same-nodes (r .lengths))) (sized-as (same-axis w v (r .lengths) d) (pre .checked .axis d .sized))
 
   -- ---- the words that are left
 
   axis-left : (d : TraversalDirection)
-      → AxisRenewed (axis-words d w) (axis-words d v) (length (w .edges)) (length (w .nodes)) (w .counts .nodes .live) (w .counts .edges .live)
+      → AxisRenewed (axis-words d w) (axis-words d v) (edge-capacity w) (node-capacity w) (w .counts .nodes .live) (w .counts .edges .live)
   axis-left Outgoing = axis-renewed (axis-compactable pre Outgoing work (first-half pre)) (r .outgoing)
   axis-left Incoming = axis-renewed (axis-compactable pre Incoming (drop (w .counts .edges .live) work) (drop-room pre)) (r .incoming)
 
   pub dropped-renewed : Renewed w v
   dropped-renewed = record {
-    nodes = λ i h. r .nodes .above i (omega (arith, nodes-bound, pre .checked .nodes-live .live-right));
-    edges = λ i h. r .edges .above i (omega (arith, edges-bound, pre .checked .edges-live .live-right));
-    live-nodes = λ i h. reset-word (r .live-nodes) i (omega (arith, nodes-bound));
-    live-edges = λ i h. reset-word (r .live-edges) i (omega (arith, edges-bound));
-    axis = λ d. subst₂ (λ (n m : ℕ). AxisRenewed (axis-words d w) (axis-words d v) (length (w .edges)) (length (w .nodes)) n m) (sym nodes-bound) (sym edges-bound)
+    nodes = record {
+      payloads = λ i h. r .nodes .above i (omega (arith, nodes-bound, pre .checked .nodes .live .live-right));
+      live = λ i h. reset-word (r .live-nodes) i (omega (arith, nodes-bound));
+    };
+    edges = record {
+      payloads = λ i h. r .edges .above i (omega (arith, edges-bound, pre .checked .edges .live .live-right));
+      live = λ i h. reset-word (r .live-edges) i (omega (arith, edges-bound));
+    };
+    axis = λ d. subst₂ (λ (n m : ℕ). AxisRenewed (axis-words d w) (axis-words d v) (edge-capacity w) (node-capacity w) n m) (sym nodes-bound) (sym edges-bound)
         (axis-left d);
   }

@@ -14,17 +14,16 @@ use Rattle.plain.specs.Plain.{node-flags, edge-flags}
 use Rattle.plain.specs.Reads.{live-edges, live-count}
 use Rattle.plain.specs.Memory.{first-short}
 use Rattle.plain.specs.Compaction.{Survivors, survivors, source-of, target-of, renumbering, adjacency, compacted}
-use Rattle.plain.specs.Laws.WellFormed.{Sound}
+use Rattle.plain.specs.WellFormed.{Sound}
 use Rattle.plain.specs.Laws.Compacting.{survivors-sound, length-surviving-edges}
 use Rattle.plain.specs.Calls.{Compacted, compaction, judged-compaction}
 use Rattle.shape.specs.Shape.{Words, capacities, shape-of, lists}
-use Rattle.shape.specs.Kept.{nothing-spared, renewed-none, renewed-spared}
+use Rattle.shape.specs.Kept.{nothing-spared, renewed-none, renewed-spared, same-nodes, same-edges}
 use Rattle.shape.specs.Rules.{broken}
 use Rattle.shape.specs.Steps.{state-of}
 use Rattle.shape.specs.Laws.NewBase.{fitted-total}
 use Rattle.shape.specs.Laws.Reading.{plain-node-bound, plain-edge-bound, plain-node-flags, plain-edge-flags}
 use Rattle.validate.specs.Judging.{Judged}
-use Rattle.store.specs.Operations.{same-lengths}
 use Rattle.compact.specs.Settling.{Settleable, Settling, droppable}
 use Rattle.compact.specs.Holding.{holding-shape, holding-state, holding-checked, holding-canonical, canonical-leaves}
 use Rattle.compact.proofs.Compacted.{dropped-holding, dropped-renewed}
@@ -46,7 +45,7 @@ module _ (w : Words) (node-map edge-map work : List ℕ) where
     checked = λ h. absurd (refused h);
     canonical = λ h. absurd (refused h);
     again = λ h. absurd (refused h);
-    lengths = same-lengths w;
+    lengths = refl;
     refused-keeps = λ h. refl;
     renewed = renewed-none w;
     spared = nothing-spared w;
@@ -69,7 +68,7 @@ module _ (w : Words) (node-map edge-map work : List ℕ) where
         ap (λ (n : ℕ). judged-compaction n (state-of (shape-of w)) (compaction (state-of (shape-of w)) (length node-map) (length edge-map) (length work))) (sym (j .first) ∙ sound)
 
     many-edges : live-edges (lists w) ≡ w .counts .edges .live
-    many-edges = ap live-count (plain-edge-flags w) ∙ sym (j .checked sound .edges-live .live-right)
+    many-edges = ap live-count (plain-edge-flags w) ∙ sym (j .checked sound .edges .live .live-right)
 
     -- "a lent slice too short | 2 | length needed | everything"
     abbrev short : ℕ → Compacted
@@ -193,7 +192,7 @@ module _ (w : Words) (node-map edge-map work : List ℕ) where
                 refused-keeps = λ h. absurd (h refl);
                 renewed = dropped-renewed pre r;
                 spared = let c = holding-checked holding in
-                    renewed-spared (omega (arith, c .nodes .bound-within, r .lengths .nodes)) (omega (arith, c .edges .bound-within, r .lengths .edges))
+                    renewed-spared (omega (arith, c .nodes .bounded .bound-within, same-nodes (r .lengths))) (omega (arith, c .edges .bounded .bound-within, same-edges (r .lengths)))
                     (dropped-renewed pre r);
-                leaves = canonical-leaves w v (r .lengths .nodes) (r .lengths .edges) (holding-canonical holding) (dropped-renewed pre r);
+                leaves = canonical-leaves w v (r .lengths) (holding-canonical holding) (dropped-renewed pre r);
               }

@@ -10,14 +10,15 @@ use Rattle.plain.specs.declared.Counts.{Counts}
 use Rattle.plain.specs.Numbers.{NONE}
 use Rattle.plain.specs.Lists.{joined}
 use Rattle.plain.specs.Reads.{live-count, live-slots}
+use Rattle.plain.specs.WellFormed.{Fitted}
 use Rattle.plain.specs.Laws.ListLaws.{count-length}
 use Rattle.plain.specs.Laws.Rank.{live-slot-live}
-use Rattle.plain.specs.Laws.WellFormed.{Fitted}
 use Rattle.liveness.specs.Flags.{live-flags}
 use Rattle.liveness.specs.FlagLaws.{length-flags}
 use Rattle.shape.specs.Columns.{Sized, cell, end-at}
 use Rattle.shape.specs.Kept.{AxisRenewed}
-use Rattle.shape.specs.Laws.Indexing.{Rewritten, before, ends-of, ends-same, length-ends, map-from-same}
+use Rattle.shape.specs.Index.{Rewritten, before, ends-of}
+use Rattle.shape.specs.Laws.Indexing.{ends-same, length-ends, map-from-same}
 use Rattle.shape.specs.Laws.NewBase.{NewBase, built-by}
 use Rattle.adjacency.specs.Index.{Compressible}
 use Rattle.compact.specs.Slots.{kept-word, Translatable, translated-word}

@@ -4,6 +4,7 @@ use mathlib.Core.Path.{_≡_}
 use mathlib.Core.List.{List, map}
 use lib.ListN.{length}
 use Rattle.plain.specs.declared.TraversalDirection.{TraversalDirection}
+use Rattle.plain.specs.declared.Slots.{Slots}
 use Rattle.plain.specs.Numbers.{NONE}
 use Rattle.plain.specs.Lists.{written, joined, from}
 use Rattle.plain.specs.Plain.{list-of}
@@ -11,14 +12,13 @@ use Rattle.plain.specs.Compaction.{survivors}
 use Rattle.plain.specs.Calls.{Compacted, compaction, judged-compaction}
 use Rattle.liveness.specs.Calls.{Reset}
 use Rattle.shape.specs.Columns.{cell, offset-at, last-at, mark-at}
-use Rattle.shape.specs.Shape.{Words, axis-words, shape-of, lists}
+use Rattle.shape.specs.Shape.{Words, axis-words, shape-of, lists, node-capacity, edge-capacity}
 use Rattle.shape.specs.Checked.{Checked}
-use Rattle.shape.specs.Kept.{Renewed, Spared}
+use Rattle.shape.specs.Kept.{Renewed, Spared, SameLengths}
 use Rattle.shape.specs.Fields.{RenewalLeaves}
 use Rattle.shape.specs.Rules.{broken}
 use Rattle.shape.specs.Steps.{state-of}
-use Rattle.shape.specs.Laws.Indexing.{before, ends-of}
-use Rattle.store.specs.Operations.{SameLengths}
+use Rattle.shape.specs.Index.{before, ends-of}
 use Rattle.compact.specs.Survivors.{shape-of-survivors}
 
 -- what document 01 says of a compaction of a store, number 1 included, by the lengths of the three lent slices
@@ -32,16 +32,18 @@ pub record AxisCanonical (ws : List ℕ) (ce cn n m : ℕ) (entries : List ℕ) 
   pub rings : (x : ℕ) → x < n → last-at ws ce x ≡ NONE
   pub marks : (x : ℕ) → x < n → mark-at ws ce cn x ≡ 0
 
+-- One kind of slot, with its live words: every slot is in the base and live.
+pub record SlotsCanonical (words : List ℕ) (s : Slots) : Type 0 where
+  pub based : s .base ≡ s .bound
+  pub live : s .live ≡ s .bound
+  pub words-set : Reset words (s .bound) words
+
 -- A store whose words are what compaction and image reading write.
 pub record Canonical (w : Words) : Type 0 where
-  pub nodes-based : w .counts .nodes .base ≡ w .counts .nodes .bound
-  pub nodes-live : w .counts .nodes .live ≡ w .counts .nodes .bound
-  pub edges-based : w .counts .edges .base ≡ w .counts .edges .bound
-  pub edges-live : w .counts .edges .live ≡ w .counts .edges .bound
-  pub node-words : Reset (w .live-nodes) (w .counts .nodes .bound) (w .live-nodes)
-  pub edge-words : Reset (w .live-edges) (w .counts .edges .bound) (w .live-edges)
+  pub nodes : SlotsCanonical (w .live-nodes) (w .counts .nodes)
+  pub edges : SlotsCanonical (w .live-edges) (w .counts .edges)
   pub axis : (d : TraversalDirection)
-      → AxisCanonical (axis-words d w) (length (w .edges)) (length (w .nodes)) (w .counts .nodes .bound) (w .counts .edges .bound)
+      → AxisCanonical (axis-words d w) (edge-capacity w) (node-capacity w) (w .counts .nodes .bound) (w .counts .edges .bound)
       (joined (map (list-of d (lists w)) (from 0 (w .counts .nodes .bound))))
 
 pub record CompactOf (w : Words) (node-map edge-map work : List ℕ) (number value : ℕ) (v : Words) (node-map' edge-map' work' : List ℕ) : Type 0 where

@@ -14,11 +14,11 @@ use Rattle.plain.specs.Laws.Rank.{rank-live, live-below}
 use Rattle.liveness.specs.Calls.{Reset}
 use Rattle.liveness.specs.FlagLaws.{length-flags}
 use Rattle.shape.specs.Columns.{end-at}
-use Rattle.shape.specs.Shape.{Words, node-live, edge-live, axis-words}
+use Rattle.shape.specs.Shape.{Words, node-capacity, edge-capacity, node-live, edge-live, axis-words}
 use Rattle.shape.specs.Checked.{Checked}
-use Rattle.shape.specs.Laws.Indexing.{Rewritten}
+use Rattle.shape.specs.Kept.{SameLengths}
+use Rattle.shape.specs.Index.{Rewritten}
 use Rattle.relocate.specs.Stores.{checked-end}
-use Rattle.store.specs.Operations.{SameLengths}
 use Rattle.compact.specs.Slots.{kept-word, Keepable}
 use Rattle.compact.specs.Holding.{based}
 use Rattle.compact.specs.Bases.{Compactable, AxisCompacted}
@@ -37,9 +37,9 @@ pub record Dropped (w : Words) (node-map work : List ℕ) (v : Words) : Type 0 w
   pub edges : Rewritten (w .edges) (v .edges) 0 (live-count (edge-live w)) (kept-word (w .edges) (edge-live w))
   pub live-nodes : Reset (w .live-nodes) (w .counts .nodes .live) (v .live-nodes)
   pub live-edges : Reset (w .live-edges) (w .counts .edges .live) (v .live-edges)
-  pub outgoing : AxisCompacted (w .outgoing) (length (w .edges)) (length (w .nodes)) (w .live-edges) (w .counts .edges .bound) node-map (w .counts .nodes .live)
+  pub outgoing : AxisCompacted (w .outgoing) (edge-capacity w) (node-capacity w) (w .live-edges) (w .counts .edges .bound) node-map (w .counts .nodes .live)
       (w .counts .edges .live) work (v .outgoing)
-  pub incoming : AxisCompacted (w .incoming) (length (w .edges)) (length (w .nodes)) (w .live-edges) (w .counts .edges .bound) node-map (w .counts .nodes .live)
+  pub incoming : AxisCompacted (w .incoming) (edge-capacity w) (node-capacity w) (w .live-edges) (w .counts .edges .bound) node-map (w .counts .nodes .live)
       (w .counts .edges .live) (drop (w .counts .edges .live) work) (v .incoming)
 
 -- ---- a part of a slice up to its end
@@ -57,35 +57,35 @@ from-rest {ws} {ce} {cn} {live} {bound} {node-map} {n} {m} {ws'} k work a =
 
 module _ {w : Words} {node-map work : List ℕ} (pre : Droppable w node-map work) where
   pub node-count : w .counts .nodes .live ≤ w .counts .nodes .bound
-  node-count = let right = pre .checked .nodes-live .live-right in
+  node-count = let right = pre .checked .nodes .live .live-right in
       omega (arith, count-length (λ f. f) (node-live w), length-flags (w .live-nodes) (w .counts .nodes .bound))
 
   pub edge-count : w .counts .edges .live ≤ w .counts .edges .bound
-  edge-count = let right = pre .checked .edges-live .live-right in
+  edge-count = let right = pre .checked .edges .live .live-right in
       omega (arith, count-length (λ f. f) (edge-live w), length-flags (w .live-edges) (w .counts .edges .bound))
 
   nodes-there : w .counts .nodes .bound ≤ 64 * length (w .live-nodes)
-  nodes-there = let long = pre .checked .live-nodes-long in omega (arith, pre .checked .nodes .bound-within)
+  nodes-there = let long = pre .checked .nodes .live-long in omega (arith, pre .checked .nodes .bounded .bound-within)
 
   edges-there : w .counts .edges .bound ≤ 64 * length (w .live-edges)
-  edges-there = let long = pre .checked .live-edges-long in omega (arith, pre .checked .edges .bound-within)
+  edges-there = let long = pre .checked .edges .live-long in omega (arith, pre .checked .edges .bounded .bound-within)
 
   pub axis-compactable : (d : TraversalDirection) (entries : List ℕ) → w .counts .edges .live ≤ length entries
-      → Compactable (axis-words d w) (length (w .edges)) (length (w .nodes)) (w .live-edges) (w .counts .edges .bound) node-map (w .counts .nodes .live)
+      → Compactable (axis-words d w) (edge-capacity w) (node-capacity w) (w .live-edges) (w .counts .edges .bound) node-map (w .counts .nodes .live)
       (w .counts .edges .live) entries
   axis-compactable d entries there =
       let k = pre .checked in
       record {
         sized = k .axis d .sized;
         slots-there = edges-there;
-        slots-fit = k .edges .bound-within;
-        nodes-fit = omega (arith, node-count, k .nodes .bound-within);
-        counted = k .edges-live .live-right;
+        slots-fit = k .edges .bounded .bound-within;
+        nodes-fit = omega (arith, node-count, k .nodes .bounded .bound-within);
+        counted = k .edges .live .live-right;
         ends-there = λ e l. let low = end-low d e l in omega (arith, pre .nodes-there);
         ends-below = λ e l. let alive = checked-end k d e l in
             let number = pre .mapped (end-at (axis-words d w) e) alive in
             let low = rank-live (node-live w) (end-at (axis-words d w) e) alive in
-            omega (arith, k .nodes-live .live-right);
+            omega (arith, k .nodes .live .live-right);
         there = there;
       }
     where
@@ -105,10 +105,10 @@ module _ {w : Words} {node-map work : List ℕ} (pre : Droppable w node-map work
   second-half = rw (rest-whole (w .counts .edges .live) work) drop-room
 
   pub nodes-keepable : Keepable (w .nodes) (w .live-nodes) (w .counts .nodes .bound)
-  nodes-keepable = record { there = nodes-there; room = pre .checked .nodes .bound-within }
+  nodes-keepable = record { there = nodes-there; room = pre .checked .nodes .bounded .bound-within }
 
   pub edges-keepable : Keepable (w .edges) (w .live-edges) (w .counts .edges .bound)
-  edges-keepable = record { there = edges-there; room = pre .checked .edges .bound-within }
+  edges-keepable = record { there = edges-there; room = pre .checked .edges .bounded .bound-within }
 
   pub nodes-resettable : w .counts .nodes .live ≤ 64 * length (w .live-nodes)
   nodes-resettable = omega (arith, node-count, nodes-there)

@@ -18,27 +18,28 @@ use Rattle.plain.specs.Plain.{Plain, NodeSlot, EdgeSlot, list-of}
 use Rattle.plain.specs.Reads.{live-count}
 use Rattle.plain.specs.Memory.{live-words}
 use Rattle.plain.specs.Compaction.{Survivors, kept-node, kept-edge, source-of, target-of, of-survivors}
+use Rattle.plain.specs.WellFormed.{Sound, WellFormed}
 use Rattle.plain.specs.Laws.Booleans.{by-test}
 use Rattle.plain.specs.Laws.ListLaws.{map-same, map-getD, member-below}
 use Rattle.plain.specs.Laws.Rank.{live-all-live, live-count-all-live}
-use Rattle.plain.specs.Laws.WellFormed.{Sound, WellFormed}
 use Rattle.plain.specs.Laws.Fitting.{fitted-many}
 use Rattle.plain.specs.Laws.Compacting.{of-survivors-well-formed}
 use Rattle.plain.specs.Laws.ImageBits.{payload-of}
 use Rattle.liveness.specs.Flags.{live-flags}
 use Rattle.liveness.specs.Calls.{Reset, all-live}
 use Rattle.shape.specs.Columns.{Sized, cell}
-use Rattle.shape.specs.Shape.{Words, capacities, node-live, edge-live, axis-words, shape-of, plain-of, lists}
-use Rattle.shape.specs.Checked.{LiveRight, AxisChecked, Checked}
-use Rattle.shape.specs.Kept.{Renewed}
+use Rattle.shape.specs.Shape.{Words, capacities, node-live, edge-live, axis-words, shape-of, plain-of, lists, node-capacity, edge-capacity}
+use Rattle.shape.specs.Checked.{AxisChecked, Checked, SlotsChecked}
+use Rattle.shape.specs.Kept.{SameLengths, Renewed}
 use Rattle.shape.specs.Fields.{RenewalLeaves}
 use Rattle.shape.specs.Steps.{state-of}
-use Rattle.shape.specs.Laws.Indexing.{before, ends-of, before-zero}
+use Rattle.shape.specs.Laws.Indexing.{before-zero}
+use Rattle.shape.specs.Index.{before, ends-of}
 use Rattle.shape.specs.Laws.NewBase.{NewBase, new-axis, new-checked}
 use Rattle.shape.specs.Laws.NoFields.{renewed-leaves}
 use Rattle.store.specs.Acting.{shape-ext}
 use Rattle.compact.specs.Survivors.{shape-of-survivors, survivors-plain, survivors-state}
-use Rattle.compact.specs.Calls.{AxisCanonical, Canonical}
+use Rattle.compact.specs.Calls.{AxisCanonical, Canonical, SlotsCanonical}
 
 -- the counts of slots that are all live and all in the base
 abbrev pub based : ℕ → Slots
@@ -52,17 +53,17 @@ front words n = map (λ x. getD words x 0) (from 0 n)
 pub record Holding (v : Words) (s : Survivors) : Type 0 where
   pub sound : Sound s
   pub counts : v .counts ≡ record { nodes = based (length (s .nodes)); edges = based (length (s .edges)) }
-  pub nodes-fit : length (s .nodes) ≤ length (v .nodes)
-  pub edges-fit : length (s .edges) ≤ length (v .edges)
-  pub live-nodes-long : live-words (length (v .nodes)) ≤ length (v .live-nodes)
-  pub live-edges-long : live-words (length (v .edges)) ≤ length (v .live-edges)
-  pub sized : (d : TraversalDirection) → Sized (axis-words d v) (length (v .edges)) (length (v .nodes))
+  pub nodes-fit : length (s .nodes) ≤ node-capacity v
+  pub edges-fit : length (s .edges) ≤ edge-capacity v
+  pub live-nodes-long : live-words (node-capacity v) ≤ length (v .live-nodes)
+  pub live-edges-long : live-words (edge-capacity v) ≤ length (v .live-edges)
+  pub sized : (d : TraversalDirection) → Sized (axis-words d v) (edge-capacity v) (node-capacity v)
   pub nodes : front (v .nodes) (length (s .nodes)) ≡ s .nodes
   pub edges : front (v .edges) (length (s .edges)) ≡ map payload-of (s .edges)
   pub live-nodes : Reset (v .live-nodes) (length (s .nodes)) (v .live-nodes)
   pub live-edges : Reset (v .live-edges) (length (s .edges)) (v .live-edges)
-  pub outgoing : NewBase (v .outgoing) (length (v .edges)) (length (v .nodes)) (v .counts) (map source-of (s .edges)) (s .outs)
-  pub incoming : NewBase (v .incoming) (length (v .edges)) (length (v .nodes)) (v .counts) (map target-of (s .edges)) (s .ins)
+  pub outgoing : NewBase (v .outgoing) (edge-capacity v) (node-capacity v) (v .counts) (map source-of (s .edges)) (s .outs)
+  pub incoming : NewBase (v .incoming) (edge-capacity v) (node-capacity v) (v .counts) (map target-of (s .edges)) (s .ins)
 
 -- ---- for those who make one
 
@@ -115,11 +116,19 @@ slots-held {A} make words flags n on =
     (ap (λ (f : List Bool). getD f x false) on ∙ live-all-live n x ∙ lt-ltb x n (ltb-true x n (sym (member-below x n) ∙ m))))
     ∙ sym (map-map (λ p. make p true) (λ x. getD words x 0) (from 0 n))
 
--- the live words of slots that are all live
-live-held : {words : List ℕ} {slots : Slots} (n : ℕ) → Reset words n words → slots ≡ based n → LiveRight words (live-flags words (slots .bound)) slots
-live-held {words = words} n reset is =
-    subst (λ (s : Slots). LiveRight words (live-flags words (s .bound)) s) (sym is)
-    (record { unused-clear = reset .packs; live-right = sym (ap live-count (reset .flags) ∙ live-count-all-live n) })
+-- slots that are all live and all in the base pass the check
+slots-checked : {c : ℕ} {words : List ℕ} {slots : Slots} (n : ℕ) → slots ≡ based n → n ≤ c → live-words c ≤ length words → Reset words n words → SlotsChecked c words slots
+slots-checked {c} {words} n is fit long reset =
+    subst (λ (s : Slots). SlotsChecked c words s) (sym is)
+    (record {
+      bounded = record { bound-within = fit; base-within = omega arith };
+      live-long = long;
+      live = record { unused-clear = reset .packs; live-right = sym (ap live-count (reset .flags) ∙ live-count-all-live n) };
+    })
+
+-- and are canonical
+slots-canonical : {words : List ℕ} {slots : Slots} (n : ℕ) → slots ≡ based n → Reset words n words → SlotsCanonical words slots
+slots-canonical {words} n is reset = subst (λ (s : Slots). SlotsCanonical words s) (sym is) (record { based = refl; live = refl; words-set = reset })
 
 -- a new base is canonical
 axis-canonical : {ws : List ℕ} {ce cn : ℕ} {counts : Counts} {ends : List ℕ} {ls : List (List ℕ)} → NewBase ws ce cn counts ends ls
@@ -186,19 +195,15 @@ module _ {v : Words} {s : Survivors} (h : Holding v s) where
   plain-held = ap plain-of holding-shape ∙ survivors-plain s (h .sound)
 
   -- each direction passes rules 3 to 6
-  axis-held : (d : TraversalDirection) → AxisChecked (axis-words d v) (length (v .edges)) (length (v .nodes)) (v .counts) (node-live v) (edge-live v)
+  axis-held : (d : TraversalDirection) → AxisChecked (axis-words d v) (edge-capacity v) (node-capacity v) (v .counts) (node-live v) (edge-live v)
   axis-held Outgoing = new-checked (h .outgoing) (h .sized Outgoing) (node-live v) (edge-live v)
   axis-held Incoming = new-checked (h .incoming) (h .sized Incoming) (node-live v) (edge-live v)
 
   -- the store is checked
   pub holding-checked : Checked v
   holding-checked = record {
-    nodes = record { bound-within = omega (arith, nodes-bound, h .nodes-fit); base-within = omega (arith, nodes-bound, nodes-base) };
-    edges = record { bound-within = omega (arith, edges-bound, h .edges-fit); base-within = omega (arith, edges-bound, edges-base) };
-    live-nodes-long = h .live-nodes-long;
-    live-edges-long = h .live-edges-long;
-    nodes-live = live-held (length (s .nodes)) (h .live-nodes) node-slots;
-    edges-live = live-held (length (s .edges)) (h .live-edges) edge-slots;
+    nodes = slots-checked (length (s .nodes)) node-slots (h .nodes-fit) (h .live-nodes-long) (h .live-nodes);
+    edges = slots-checked (length (s .edges)) edge-slots (h .edges-fit) (h .live-edges-long) (h .live-edges);
     axis = axis-held;
     walks = subst (WellFormed (capacities v)) (sym plain-held) (of-survivors-well-formed (capacities v) s (h .sound) (h .nodes-fit) (h .edges-fit));
   }
@@ -207,30 +212,26 @@ module _ {v : Words} {s : Survivors} (h : Holding v s) where
   listed : (d : TraversalDirection) → map (list-of d (lists v)) (from 0 (v .counts .nodes .bound)) ≡ map (list-of d (of-survivors s)) (from 0 (length (s .nodes)))
   listed d = ap₂ (λ (p : Plain) (n : ℕ). map (list-of d p) (from 0 n)) plain-held nodes-bound
 
-  directions : (d : TraversalDirection) → AxisCanonical (axis-words d v) (length (v .edges)) (length (v .nodes)) (v .counts .nodes .bound) (v .counts .edges .bound)
+  directions : (d : TraversalDirection) → AxisCanonical (axis-words d v) (edge-capacity v) (node-capacity v) (v .counts .nodes .bound) (v .counts .edges .bound)
       (joined (map (list-of d (lists v)) (from 0 (v .counts .nodes .bound))))
   unfolding of-survivors
   directions Outgoing =
-      subst (AxisCanonical (v .outgoing) (length (v .edges)) (length (v .nodes)) (v .counts .nodes .bound) (v .counts .edges .bound))
+      subst (AxisCanonical (v .outgoing) (edge-capacity v) (node-capacity v) (v .counts .nodes .bound) (v .counts .edges .bound))
       (sym (ap joined (listed Outgoing ∙ all-lists (length (s .nodes)) (s .outs) (fitted-many (h .sound .outs))))) (axis-canonical (h .outgoing))
   directions Incoming =
-      subst (AxisCanonical (v .incoming) (length (v .edges)) (length (v .nodes)) (v .counts .nodes .bound) (v .counts .edges .bound))
+      subst (AxisCanonical (v .incoming) (edge-capacity v) (node-capacity v) (v .counts .nodes .bound) (v .counts .edges .bound))
       (sym (ap joined (listed Incoming ∙ all-lists (length (s .nodes)) (s .ins) (fitted-many (h .sound .ins))))) (axis-canonical (h .incoming))
 
   -- its words are canonical
   pub holding-canonical : Canonical v
   holding-canonical = record {
-    nodes-based = nodes-base ∙ sym nodes-bound;
-    nodes-live = ap (λ (c : Slots). c .live) node-slots ∙ sym nodes-bound;
-    edges-based = edges-base ∙ sym edges-bound;
-    edges-live = ap (λ (c : Slots). c .live) edge-slots ∙ sym edges-bound;
-    node-words = subst (λ (n : ℕ). Reset (v .live-nodes) n (v .live-nodes)) (sym nodes-bound) (h .live-nodes);
-    edge-words = subst (λ (n : ℕ). Reset (v .live-edges) n (v .live-edges)) (sym edges-bound) (h .live-edges);
+    nodes = slots-canonical (length (s .nodes)) node-slots (h .live-nodes);
+    edges = slots-canonical (length (s .edges)) edge-slots (h .live-edges);
     axis = directions;
   }
 
 -- What is no field is as it was where such a store stands in place of another, but for the offset of no node.
-pub canonical-leaves : (w v : Words) → length (v .nodes) ≡ length (w .nodes) → length (v .edges) ≡ length (w .edges) → Canonical v → Renewed w v → RenewalLeaves w v
-canonical-leaves w v nodes edges c k =
-    renewed-leaves w v nodes edges (c .nodes-based, c .edges-based)
+pub canonical-leaves : (w v : Words) → SameLengths w v → Canonical v → Renewed w v → RenewalLeaves w v
+canonical-leaves w v same c k =
+    renewed-leaves w v same (c .nodes-based, c .edges-based)
     (λ d. c .axis d .offsets 0 (omega arith) ∙ before-zero (ends-of (axis-words d v) (v .counts .edges .bound))) k

@@ -15,16 +15,16 @@ use Rattle.plain.specs.Plain.{Plain, list-of, end-of, node-flags, edge-flags}
 use Rattle.plain.specs.Step.{Capacities}
 use Rattle.plain.specs.Reads.{live-slots, live-count}
 use Rattle.plain.specs.Compaction.{rank, survivors, surviving-list, source-of, target-of}
+use Rattle.plain.specs.WellFormed.{Incident, WellFormed}
 use Rattle.plain.specs.Laws.Booleans.{and-left}
 use Rattle.plain.specs.Laws.ListLaws.{map-same, joined-member, member-getD-map}
-use Rattle.plain.specs.Laws.WellFormed.{WellFormed}
 use Rattle.plain.specs.Laws.Operating.{incident}
 use Rattle.plain.specs.Laws.Compacting.{survivors-sound, length-surviving-edges}
 use Rattle.plain.specs.Laws.ImageLaws.{fitted-joined}
 use Rattle.plain.specs.Laws.Rank.{live-below, member-live-slots}
 use Rattle.liveness.specs.FlagLaws.{length-flags}
 use Rattle.shape.specs.Chains.{In}
-use Rattle.shape.specs.Shape.{Words, node-live, edge-live, axis-words, lists}
+use Rattle.shape.specs.Shape.{Words, node-live, edge-live, axis-words, lists, node-capacity, edge-capacity}
 use Rattle.shape.specs.Checked.{Checked}
 use Rattle.shape.specs.Laws.Reading.{plain-node-flags, plain-edge-flags}
 use Rattle.adjacency.specs.Walk.{walk-in}
@@ -74,15 +74,15 @@ well-formed-total {caps} {p} h few-nodes few-edges Incoming =
 
 -- the walks written are the lists of the live nodes
 walks-are : (w : Words) (d : TraversalDirection)
-    → live-walks (axis-words d w) (length (w .edges)) (length (w .nodes)) (w .counts) (w .live-nodes) (w .live-edges)
+    → live-walks (axis-words d w) (edge-capacity w) (node-capacity w) (w .counts) (w .live-nodes) (w .live-edges)
     ≡ joined (map (list-of d (lists w)) (live-slots (node-live w)))
 unfolding live-walks
 walks-are w d = ap joined (map-same
-    (λ x. walk-in (axis-words d w) (length (w .edges)) (length (w .nodes)) (w .counts) (w .live-edges) x true) (list-of d (lists w))
+    (λ x. walk-in (axis-words d w) (edge-capacity w) (node-capacity w) (w .counts) (w .live-edges) x true) (list-of d (lists w))
     (live-slots (node-live w)) each)
   where
     each : (x : ℕ) → member x (live-slots (node-live w)) ≡ true
-        → walk-in (axis-words d w) (length (w .edges)) (length (w .nodes)) (w .counts) (w .live-edges) x true ≡ list-of d (lists w) x
+        → walk-in (axis-words d w) (edge-capacity w) (node-capacity w) (w .counts) (w .live-edges) x true ≡ list-of d (lists w) x
     each x m =
         let live : getD (node-live w) x false ≡ true = sym (member-live-slots (node-live w) x) ∙ m in
         let node : x < w .counts .nodes .bound = rw (length-flags (w .live-nodes) (w .counts .nodes .bound)) at (live-below (node-live w) x live) in
@@ -90,7 +90,7 @@ walks-are w d = ap joined (map-same
 
 module _ {w : Words} (k : Checked w) (d : TraversalDirection) where
   abbrev walks : List ℕ
-  walks = live-walks (axis-words d w) (length (w .edges)) (length (w .nodes)) (w .counts) (w .live-nodes) (w .live-edges)
+  walks = live-walks (axis-words d w) (edge-capacity w) (node-capacity w) (w .counts) (w .live-nodes) (w .live-edges)
 
   -- by new numbers they are those that survive
   pub lists-renumbered : map (rank (edge-live w)) walks ≡ joined (map (surviving-list d (lists w)) (live-slots (node-live w)))
@@ -114,9 +114,9 @@ module _ {w : Words} (k : Checked w) (d : TraversalDirection) where
 
   -- so they can be written where there is room for the live edges
   pub checked-writable : {out : List ℕ} → live-count (edge-live w) ≤ length out
-      → ListsFit (axis-words d w) (length (w .edges)) (length (w .nodes)) (w .counts) (w .live-nodes) (w .live-edges) out
+      → ListsFit (axis-words d w) (edge-capacity w) (node-capacity w) (w .counts) (w .live-nodes) (w .live-edges) out
   checked-writable room = record {
     walkable = λ x node. checked-walkable k d x node;
-    live-long = let long = k .live-nodes-long in let bounded = k .nodes in omega arith;
+    live-long = let long = k .nodes .live-long in let bounded = k .nodes .bounded in omega arith;
     fits = omega (arith, lists-total);
   }

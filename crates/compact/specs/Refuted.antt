@@ -10,7 +10,7 @@ use Rattle.compact.specs.Calls.{CompactOf}
 module _ {w : Words} {node-map edge-map work node-map' edge-map' work' : List ℕ} {value : ℕ} where
   -- an edge was removed
   pub compaction-leaves-no-dead-slot : CompactOf w node-map edge-map work 0 value w node-map' edge-map' work' → w .counts .edges .live < w .counts .edges .bound → ⊥
-  compaction-leaves-no-dead-slot does dead = let all = does .canonical refl .edges-live in omega arith
+  compaction-leaves-no-dead-slot does dead = let all = does .canonical refl .edges .live in omega arith
 
   -- nothing was removed, but an edge is not in the base
   pub compaction-leaves-no-edge-out-of-the-base : CompactOf w node-map edge-map work 0 value w node-map' edge-map' work'

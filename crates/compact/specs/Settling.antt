@@ -39,16 +39,16 @@ module _ {w : Words} {node-map edge-map work : List ℕ} (pre : Settleable w nod
   pub nodes-map-fits : MapFits (w .live-nodes) (w .counts .nodes .bound) node-map
   nodes-map-fits =
       let k = pre .checked in
-      let long = k .live-nodes-long in
-      let within = k .nodes .bound-within in
+      let long = k .nodes .live-long in
+      let within = k .nodes .bounded .bound-within in
       let few = k .axis Outgoing .sized .nodes-within in
       record { there = omega arith; few = omega arith; room = pre .nodes-room }
 
   pub edges-map-fits : MapFits (w .live-edges) (w .counts .edges .bound) edge-map
   edges-map-fits =
       let k = pre .checked in
-      let long = k .live-edges-long in
-      let within = k .edges .bound-within in
+      let long = k .edges .live-long in
+      let within = k .edges .bounded .bound-within in
       let few = k .axis Outgoing .sized .edges-within in
       record { there = omega arith; few = omega arith; room = pre .edges-room }
 

@@ -18,7 +18,8 @@ use Rattle.plain.specs.Laws.ListLaws.{getD-default, getD-from, map-getD}
 use Rattle.plain.specs.Laws.Rank.{live-below, live-count-all-live, live-from-all-live}
 use Rattle.plain.specs.Laws.Renumberings.{length-renumbering, lookup-renumbering}
 use Rattle.shape.specs.Columns.{cell}
-use Rattle.shape.specs.Laws.Indexing.{Rewritten, rewritten-as, rewritten-again, map-from-same, front-range}
+use Rattle.shape.specs.Index.{Rewritten}
+use Rattle.shape.specs.Laws.Indexing.{rewritten-as, rewritten-again, map-from-same, front-range}
 
 -- ---- what is asked
 

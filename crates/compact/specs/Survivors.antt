@@ -11,9 +11,9 @@ use Rattle.plain.specs.Lists.{member, from, all}
 use Rattle.plain.specs.Plain.{Plain, Incidence, NodeSlot, EdgeSlot}
 use Rattle.plain.specs.Step.{State}
 use Rattle.plain.specs.Compaction.{Survivors, EdgeRecord, kept-node, kept-edge, source-of, target-of, of-survivors}
+use Rattle.plain.specs.WellFormed.{Fitted, Sound}
 use Rattle.plain.specs.Laws.ListLaws.{map-same, map-getD, member-below}
 use Rattle.plain.specs.Laws.Rank.{live-all-live}
-use Rattle.plain.specs.Laws.WellFormed.{Fitted, Sound}
 use Rattle.plain.specs.Laws.Fitting.{fitted-many, right-at, has-end-below}
 use Rattle.plain.specs.Laws.Compacting.{node-flags-of, edge-flags-of}
 use Rattle.shape.specs.Shape.{Shape, live-in, walk-of, no-adjacency, walks-of, plain-of, has-run, is-compact}

@@ -8,7 +8,7 @@ ghost use Rattle.plain.specs.Lists.{written};
 ghost use Rattle.plain.specs.Reads.{live-count};
 ghost use Rattle.plain.specs.Compaction.{renumbering};
 ghost use Rattle.liveness.specs.Flags.{live-flags};
-ghost use Rattle.shape.specs.Laws.Indexing.{Rewritten};
+ghost use Rattle.shape.specs.Index.{Rewritten};
 ghost use Rattle.compact.specs.Slots.{MapFits, Keepable, kept-word, Translatable, translated-word};
 
 // Writes the new number of every live slot, and NONE for the dead ones, to the start of `map`.

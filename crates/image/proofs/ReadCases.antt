@@ -4,15 +4,13 @@ use native.Mathlib.Omega.{arith}
 use mathlib.Core.Path.{_≡_, refl, sym, ap, _∙_}
 use mathlib.Core.Logic.{inl}
 use mathlib.Core.List.{List}
-use lib.ListN.{length}
 use Rattle.plain.specs.declared.TraversalDirection.{TraversalDirection}
 use Rattle.plain.specs.declared.TraversalDirection.the-variants.{Outgoing, Incoming}
 use Rattle.plain.specs.declared.Answer.{Answer}
 use Rattle.plain.specs.declared.Counts.{Counts}
 use Rattle.plain.specs.Calls.{read-image}
-use Rattle.shape.specs.Shape.{Words, store, lengths-of, axis-words}
-use Rattle.shape.specs.Kept.{AxisRenewed, Renewed, nothing-spared, renewed-none, renewed-spared}
-use Rattle.store.specs.Operations.{same-lengths}
+use Rattle.shape.specs.Shape.{Words, store, lengths-of, axis-words, node-capacity, edge-capacity}
+use Rattle.shape.specs.Kept.{AxisRenewed, Renewed, nothing-spared, renewed-none, renewed-spared, same-nodes, same-edges}
 use Rattle.compact.specs.Holding.{holding-shape, holding-state, holding-checked, holding-canonical, canonical-leaves}
 use Rattle.image.specs.Reading.{Accepted, Placed, placed-holding, placed-renewed}
 use Rattle.image.proofs.Answering.{read-accepted}
@@ -27,7 +25,7 @@ module _ (w : Words) (bytes : List ℕ) (answer : Answer) (told : answer ≡ rea
     shape = λ h. absurd (refused h);
     checked = λ h. absurd (refused h);
     canonical = λ h. absurd (refused h);
-    lengths = same-lengths w;
+    lengths = refl;
     refused-keeps = λ h. refl;
     renewed = renewed-none w;
     spared = nothing-spared w;
@@ -45,35 +43,22 @@ module _ (w : Words) (bytes : List ℕ) (answer : Answer) (told : answer ≡ rea
         let holding = placed-holding accepted placed in
         let same = placed .lengths in
         let left = placed-renewed accepted placed in
-        let renewed : Renewed w v = record {
-          nodes = left .nodes;
-          edges = left .edges;
-          live-nodes = left .live-nodes;
-          live-edges = left .live-edges;
-          axis = axis-left placed;
-        } in
+        let renewed : Renewed w v = record { nodes = left .nodes; edges = left .edges; axis = axis-left placed } in
         record {
           answered = told;
           state = λ h. holding-state holding;
           shape = λ h. holding-shape holding;
           checked = λ h. holding-checked holding;
           canonical = λ h. holding-canonical holding;
-          lengths = record {
-            nodes = same .nodes;
-            edges = same .edges;
-            live-nodes = same .live-nodes;
-            live-edges = same .live-edges;
-            outgoing = same .outgoing;
-            incoming = same .incoming;
-          };
+          lengths = same;
           refused-keeps = λ h. absurd (h done);
           renewed = renewed;
           spared = let c = holding-checked holding in
-              renewed-spared (omega (arith, c .nodes .bound-within, same .nodes)) (omega (arith, c .edges .bound-within, same .edges)) renewed;
-          leaves = canonical-leaves w v (same .nodes) (same .edges) (holding-canonical holding) renewed;
+              renewed-spared (omega (arith, c .nodes .bounded .bound-within, same-nodes same)) (omega (arith, c .edges .bounded .bound-within, same-edges same)) renewed;
+          leaves = canonical-leaves w v same (holding-canonical holding) renewed;
         }
       where
         axis-left : {v : Words} → Placed (store counts (w .nodes) (w .edges) (w .live-nodes) (w .live-edges) (w .outgoing) (w .incoming)) bytes v → (d : TraversalDirection)
-            → AxisRenewed (axis-words d w) (axis-words d v) (length (w .edges)) (length (w .nodes)) (v .counts .nodes .bound) (v .counts .edges .bound)
+            → AxisRenewed (axis-words d w) (axis-words d v) (edge-capacity w) (node-capacity w) (v .counts .nodes .bound) (v .counts .edges .bound)
         axis-left placed Outgoing = placed-renewed accepted placed .axis Outgoing
         axis-left placed Incoming = placed-renewed accepted placed .axis Incoming

@@ -9,7 +9,6 @@ use Rattle.plain.specs.Laws.Booleans.{by-test}
 use Rattle.shape.specs.Shape.{Words}
 use Rattle.shape.specs.Fields.{SameFields}
 use Rattle.shape.specs.Laws.Agreeing.{kept-both}
-use Rattle.store.specs.Operations.{lengths-same}
 use Rattle.compact.specs.Agreeing.{canonical-fields}
 use Rattle.image.specs.Calls.{ReadOf}
 
@@ -20,7 +19,7 @@ reading-outcomes-agree {number = number} {number' = number'} a b =
     by-test (eqb number 0)
     (λ t. let done = eqb-true number 0 t in
     let too = one ∙ done in
-    canonical-fields (a .checked done) (b .checked too) (b .shape too ∙ sym (a .shape done)) (lengths-same (b .lengths) ∙ sym (lengths-same (a .lengths)))
+    canonical-fields (a .checked done) (b .checked too) (b .shape too ∙ sym (a .shape done)) (b .lengths ∙ sym (a .lengths))
     (a .canonical done) (b .canonical too))
     (λ t. let refused = eqb-false number 0 t in
     kept-both (a .refused-keeps refused) (b .refused-keeps (λ q. refused (sym one ∙ q))))

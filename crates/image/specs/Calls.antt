@@ -8,10 +8,9 @@ use Rattle.plain.specs.Image.{parsed}
 use Rattle.plain.specs.Calls.{read-image, read-state, write-image}
 use Rattle.shape.specs.Shape.{Words, lengths-of, shape-of}
 use Rattle.shape.specs.Checked.{Checked}
-use Rattle.shape.specs.Kept.{Renewed, Spared}
+use Rattle.shape.specs.Kept.{Renewed, Spared, SameLengths}
 use Rattle.shape.specs.Fields.{RenewalLeaves}
 use Rattle.shape.specs.Steps.{state-of}
-use Rattle.store.specs.Operations.{SameLengths}
 use Rattle.compact.specs.Survivors.{shape-of-survivors}
 use Rattle.compact.specs.Calls.{Canonical}
 

@@ -11,10 +11,11 @@ use Rattle.plain.specs.Numbers.{NONE}
 use Rattle.plain.specs.Lists.{from, joined}
 use Rattle.plain.specs.Bits.{fields-at, least-width}
 use Rattle.plain.specs.Image.{record-width}
+use Rattle.plain.specs.WellFormed.{Fitted}
 use Rattle.plain.specs.Laws.Bits.{length-fields-at}
-use Rattle.plain.specs.Laws.WellFormed.{Fitted}
 use Rattle.shape.specs.Columns.{Sized}
-use Rattle.shape.specs.Laws.Indexing.{Rewritten, rewritten-as, before, ends-of}
+use Rattle.shape.specs.Index.{Rewritten, before, ends-of}
+use Rattle.shape.specs.Laws.Indexing.{rewritten-as}
 use Rattle.shape.specs.Laws.NewBase.{NewBase}
 use Rattle.adjacency.specs.Index.{Compressible}
 use Rattle.compact.specs.Bases.{Rebuildable, Rebuilt, rebuilt-base}

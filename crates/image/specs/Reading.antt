@@ -15,21 +15,20 @@ use Rattle.plain.specs.Compaction.{EdgeRecord, source-of, target-of}
 use Rattle.plain.specs.Image.{record-width, nodes-in, edges-in, edges-start, outs-start, ins-start, image-size, cut, list-lengths, parsed, broken-image}
 use Rattle.plain.specs.Memory.{Lengths, axis-words}
 use Rattle.plain.specs.Calls.{limits}
+use Rattle.plain.specs.WellFormed.{Fitted, Sound}
 use Rattle.plain.specs.Laws.Bits.{length-fields-at}
 use Rattle.plain.specs.Laws.Below.{below-of}
 use Rattle.plain.specs.Laws.Cutting.{joined-cut, sum-list-lengths}
 use Rattle.plain.specs.Laws.Width.{width-most}
-use Rattle.plain.specs.Laws.WellFormed.{Fitted, Sound}
 use Rattle.plain.specs.Laws.Refusals.{Counted, Readable, readable, length-edges-in}
 use Rattle.plain.specs.Laws.ImageLaws.{nodes-length, edges-length, parsed-sound}
 use Rattle.memory.specs.Laws.{Roomy}
 use Rattle.liveness.specs.Calls.{Reset}
 use Rattle.shape.specs.Columns.{Sized}
-use Rattle.shape.specs.Shape.{Words, lengths-of, axis-words as words-of}
-use Rattle.shape.specs.Kept.{AxisRenewed, Renewed}
-use Rattle.shape.specs.Laws.Indexing.{Rewritten}
+use Rattle.shape.specs.Shape.{Words, node-capacity, edge-capacity, lengths-of, axis-words as words-of}
+use Rattle.shape.specs.Kept.{SameLengths, AxisRenewed, Renewed, same-nodes, same-edges, same-live-nodes, same-live-edges, same-axis}
+use Rattle.shape.specs.Index.{Rewritten}
 use Rattle.shape.specs.Laws.NewBase.{NewBase}
-use Rattle.store.specs.Operations.{SameLengths}
 use Rattle.compact.specs.Slots.{rewritten-range}
 use Rattle.compact.specs.Bases.{rebuilt-renewed}
 use Rattle.compact.specs.Holding.{based, front, Holding, reset-same, reset-word, sized-as}
@@ -92,7 +91,7 @@ pub record Placed (w : Words) (bytes : List ℕ) (v : Words) : Type 0 where
   pub lengths : SameLengths w v
   pub counts : v .counts ≡ record { nodes = based (nodes-in bytes); edges = based (edges-in bytes) }
   pub payloads : PayloadsRead (w .nodes) (w .edges) bytes (nodes-in bytes) (edges-in bytes) (v .nodes) (v .edges)
-  pub axes : AxesRead (w .outgoing) (w .incoming) (length (w .edges)) (length (w .nodes)) bytes (nodes-in bytes) (edges-in bytes) (v .outgoing) (v .incoming)
+  pub axes : AxesRead (w .outgoing) (w .incoming) (edge-capacity w) (node-capacity w) bytes (nodes-in bytes) (edges-in bytes) (v .outgoing) (v .incoming)
   pub live-nodes : Reset (w .live-nodes) (nodes-in bytes) (v .live-nodes)
   pub live-edges : Reset (w .live-edges) (edges-in bytes) (v .live-edges)
 
@@ -174,16 +173,16 @@ module _ {w : Words} {bytes : List ℕ} {v : Words} (a : Accepted (lengths-of w)
   sound : Sound (parsed bytes)
   sound = parsed-sound bytes (a .image)
 
-  ready : AxesReadable (w .outgoing) (w .incoming) (length (w .edges)) (length (w .nodes)) bytes (nodes-in bytes) (edges-in bytes)
+  ready : AxesReadable (w .outgoing) (w .incoming) (edge-capacity w) (node-capacity w) bytes (nodes-in bytes) (edges-in bytes)
   ready = axes-readable a (w .outgoing) (w .incoming) (a .roomy .outgoing-room) (a .roomy .incoming-room)
 
   -- the base of one direction
   base-of : {ws ws' : List ℕ} (end : EdgeRecord → ℕ) (ends lists : ℕ)
-      → AxisReadable ws (length (w .edges)) (length (w .nodes)) (nodes-in bytes) (edges-in bytes) bytes ends lists
-      → AxisRead ws (length (w .edges)) (length (w .nodes)) (nodes-in bytes) (edges-in bytes) bytes ends lists ws'
+      → AxisReadable ws (edge-capacity w) (node-capacity w) (nodes-in bytes) (edges-in bytes) bytes ends lists
+      → AxisRead ws (edge-capacity w) (node-capacity w) (nodes-in bytes) (edges-in bytes) bytes ends lists ws'
       → map (spread bytes ends (record-width (least-width (nodes-in bytes))) (least-width (nodes-in bytes))) (from 0 (edges-in bytes)) ≡ map end (parsed bytes .edges)
       → Fitted (length (parsed bytes .nodes)) (map end (parsed bytes .edges)) (lists-at lists (map end (parsed bytes .edges)))
-      → NewBase ws' (length (w .edges)) (length (w .nodes)) (v .counts) (map end (parsed bytes .edges)) (lists-at lists (map end (parsed bytes .edges)))
+      → NewBase ws' (edge-capacity w) (node-capacity w) (v .counts) (map end (parsed bytes .edges)) (lists-at lists (map end (parsed bytes .edges)))
   base-of end ends lists ready read are fitted =
       let of-nodes = subst (λ (k : ℕ). Fitted k (map end (parsed bytes .edges)) (lists-at lists (map end (parsed bytes .edges)))) (nodes-length bytes) fitted in
       let entries = fields-at bytes lists (least-width (edges-in bytes)) (edges-in bytes) in
@@ -195,21 +194,21 @@ module _ {w : Words} {bytes : List ℕ} {v : Words} (a : Accepted (lengths-of w)
       (sum-list-lengths (nodes-in bytes) (below-of (map end (parsed bytes .edges)) (of-nodes .ends-below)) ∙ sym long)))
       of-nodes
 
-  out-base : NewBase (v .outgoing) (length (w .edges)) (length (w .nodes)) (v .counts) (map source-of (parsed bytes .edges)) (parsed bytes .outs)
+  out-base : NewBase (v .outgoing) (edge-capacity w) (node-capacity w) (v .counts) (map source-of (parsed bytes .edges)) (parsed bytes .outs)
   unfolding parsed
   out-base =
       base-of source-of (edges-start (nodes-in bytes)) (outs-start (nodes-in bytes) (edges-in bytes)) (ready .sources) (r .axes .sources)
       (sources-spread bytes (least-width (nodes-in bytes)) (edges-start (nodes-in bytes)) (edges-in bytes)) (sound .outs)
 
-  in-base : NewBase (v .incoming) (length (w .edges)) (length (w .nodes)) (v .counts) (map target-of (parsed bytes .edges)) (parsed bytes .ins)
+  in-base : NewBase (v .incoming) (edge-capacity w) (node-capacity w) (v .counts) (map target-of (parsed bytes .edges)) (parsed bytes .ins)
   unfolding parsed
   in-base =
       base-of target-of (edges-start (nodes-in bytes) + least-width (nodes-in bytes)) (ins-start (nodes-in bytes) (edges-in bytes)) (ready .targets) (r .axes .targets)
       (targets-spread bytes (least-width (nodes-in bytes)) (edges-start (nodes-in bytes)) (edges-in bytes)) (sound .ins)
 
-  sized-again : (d : TraversalDirection) → Sized (words-of d v) (length (v .edges)) (length (v .nodes))
-  sized-again Outgoing = subst₂ (Sized (v .outgoing)) (sym (r .lengths .edges)) (sym (r .lengths .nodes)) (sized-as (r .lengths .outgoing) (ready .sources .sized))
-  sized-again Incoming = subst₂ (Sized (v .incoming)) (sym (r .lengths .edges)) (sym (r .lengths .nodes)) (sized-as (r .lengths .incoming) (ready .targets .sized))
+  sized-again : (d : TraversalDirection) → Sized (words-of d v) (edge-capacity v) (node-capacity v)
+  sized-again Outgoing = subst₂ (Sized (v .outgoing)) (sym (same-edges (r .lengths))) (sym (same-nodes (r .lengths))) (sized-as (same-axis w v (r .lengths) Outgoing) (ready .sources .sized))
+  sized-again Incoming = subst₂ (Sized (v .incoming)) (sym (same-edges (r .lengths))) (sym (same-nodes (r .lengths))) (sized-as (same-axis w v (r .lengths) Incoming) (ready .targets .sized))
 
   -- the store holds what the bytes hold
   pub placed-holding : Holding v (parsed bytes)
@@ -221,34 +220,34 @@ module _ {w : Words} {bytes : List ℕ} {v : Words} (a : Accepted (lengths-of w)
       record {
         sound = sound;
         counts = r .counts ∙ ap₂ {C = Counts} (λ (n m : ℕ). record { nodes = based n; edges = based m }) (sym many-nodes) (sym many-edges);
-        nodes-fit = omega (arith, a .nodes-room, same .nodes);
-        edges-fit = omega (arith, a .edges-room, same .edges);
-        live-nodes-long = rw (same .nodes, same .live-nodes) (a .roomy .live-nodes-room);
-        live-edges-long = rw (same .edges, same .live-edges) (a .roomy .live-edges-room);
+        nodes-fit = omega (arith, a .nodes-room, same-nodes same);
+        edges-fit = omega (arith, a .edges-room, same-edges same);
+        live-nodes-long = rw (same-nodes same, same-live-nodes same) (a .roomy .live-nodes-room);
+        live-edges-long = rw (same-edges same, same-live-edges same) (a .roomy .live-edges-room);
         sized = sized-again;
         nodes = ap (front (v .nodes)) many-nodes ∙ rewritten-range (r .payloads .nodes-read) ∙ fields-spread bytes 32 32 (nodes-in bytes);
         edges = ap (front (v .edges)) many-edges ∙ rewritten-range (r .payloads .edges-read)
             ∙ payloads-spread bytes (least-width (nodes-in bytes)) (edges-start (nodes-in bytes)) (edges-in bytes);
         live-nodes = subst (λ (k : ℕ). Reset (v .live-nodes) k (v .live-nodes)) (sym many-nodes) (reset-same (r .live-nodes));
         live-edges = subst (λ (k : ℕ). Reset (v .live-edges) k (v .live-edges)) (sym many-edges) (reset-same (r .live-edges));
-        outgoing = subst₂ (λ (ce cn : ℕ). NewBase (v .outgoing) ce cn (v .counts) (map source-of (parsed bytes .edges)) (parsed bytes .outs)) (sym (same .edges))
-            (sym (same .nodes)) out-base;
-        incoming = subst₂ (λ (ce cn : ℕ). NewBase (v .incoming) ce cn (v .counts) (map target-of (parsed bytes .edges)) (parsed bytes .ins)) (sym (same .edges))
-            (sym (same .nodes)) in-base;
+        outgoing = subst₂ (λ (ce cn : ℕ). NewBase (v .outgoing) ce cn (v .counts) (map source-of (parsed bytes .edges)) (parsed bytes .outs)) (sym (same-edges same))
+            (sym (same-nodes same)) out-base;
+        incoming = subst₂ (λ (ce cn : ℕ). NewBase (v .incoming) ce cn (v .counts) (map target-of (parsed bytes .edges)) (parsed bytes .ins)) (sym (same-edges same))
+            (sym (same-nodes same)) in-base;
       }
 
   -- ---- the words that are left
 
-  axis-renewed : {ws ws' : List ℕ} {ends lists : ℕ} → AxisReadable ws (length (w .edges)) (length (w .nodes)) (nodes-in bytes) (edges-in bytes) bytes ends lists
-      → AxisRead ws (length (w .edges)) (length (w .nodes)) (nodes-in bytes) (edges-in bytes) bytes ends lists ws'
-      → AxisRenewed ws ws' (length (w .edges)) (length (w .nodes)) (nodes-in bytes) (edges-in bytes)
+  axis-renewed : {ws ws' : List ℕ} {ends lists : ℕ} → AxisReadable ws (edge-capacity w) (node-capacity w) (nodes-in bytes) (edges-in bytes) bytes ends lists
+      → AxisRead ws (edge-capacity w) (node-capacity w) (nodes-in bytes) (edges-in bytes) bytes ends lists ws'
+      → AxisRenewed ws ws' (edge-capacity w) (node-capacity w) (nodes-in bytes) (edges-in bytes)
   axis-renewed {ws} {lists = lists} ready read =
       let long = length-fields-at bytes lists (least-width (edges-in bytes)) (edges-in bytes) in
       rebuilt-renewed (record { compressible = base-readable ready (read .places) .compressible; there = omega arith }) (read .rebuilds) ws
       (λ i h. read .places .above i (omega arith))
 
   axis-left : (d : TraversalDirection)
-      → AxisRenewed (words-of d w) (words-of d v) (length (w .edges)) (length (w .nodes)) (nodes-in bytes) (edges-in bytes)
+      → AxisRenewed (words-of d w) (words-of d v) (edge-capacity w) (node-capacity w) (nodes-in bytes) (edges-in bytes)
   axis-left Outgoing = axis-renewed (ready .sources) (r .axes .sources)
   axis-left Incoming = axis-renewed (ready .targets) (r .axes .targets)
 
@@ -257,10 +256,8 @@ module _ {w : Words} {bytes : List ℕ} {v : Words} (a : Accepted (lengths-of w)
       let nodes-bound = ap (λ (c : Counts). c .nodes .bound) (r .counts) in
       let edges-bound = ap (λ (c : Counts). c .edges .bound) (r .counts) in
       record {
-        nodes = λ i h. r .payloads .nodes-read .above i (omega arith);
-        edges = λ i h. r .payloads .edges-read .above i (omega arith);
-        live-nodes = λ i h. reset-word (r .live-nodes) i (omega arith);
-        live-edges = λ i h. reset-word (r .live-edges) i (omega arith);
-        axis = λ d. subst₂ (λ (n m : ℕ). AxisRenewed (words-of d w) (words-of d v) (length (w .edges)) (length (w .nodes)) n m) (sym nodes-bound) (sym edges-bound)
+        nodes = record { payloads = λ i h. r .payloads .nodes-read .above i (omega arith); live = λ i h. reset-word (r .live-nodes) i (omega arith) };
+        edges = record { payloads = λ i h. r .payloads .edges-read .above i (omega arith); live = λ i h. reset-word (r .live-edges) i (omega arith) };
+        axis = λ d. subst₂ (λ (n m : ℕ). AxisRenewed (words-of d w) (words-of d v) (edge-capacity w) (node-capacity w) n m) (sym nodes-bound) (sym edges-bound)
             (axis-left d);
       }

@@ -4,13 +4,13 @@ use Prim.Native.Nat.{ℕ, _<_}
 use native.Mathlib.Nat.{le-refl}
 use mathlib.Core.Path.{_≡_, sym, _∙_}
 use mathlib.Core.List.{List}
-use lib.ListN.{length, getD, set}
+use lib.ListN.{getD, set}
 use lib.Seq.{getD-set-same}
-use Rattle.shape.specs.Shape.{Words, store}
+use Rattle.shape.specs.Shape.{Words, store, node-capacity}
 use Rattle.image.specs.Calls.{ReadOf}
 
 -- Whatever a reading leaves, v, it is not v with another word than before at the payload of the first node slot past the bound.
-pub reading-writes-no-payload-past-the-bound : (w v : Words) (bytes : List ℕ) (number value word : ℕ) → v .counts .nodes .bound < length (v .nodes)
+pub reading-writes-no-payload-past-the-bound : (w v : Words) (bytes : List ℕ) (number value word : ℕ) → v .counts .nodes .bound < node-capacity v
     → (getD (w .nodes) (v .counts .nodes .bound) 0 ≡ word → ⊥)
     → ReadOf w bytes number value
     (store (v .counts) (set (v .nodes) (v .counts .nodes .bound) word) (v .edges) (v .live-nodes) (v .live-edges) (v .outgoing) (v .incoming)) → ⊥

@@ -28,10 +28,11 @@ use Rattle.plain.specs.Laws.Operating.{incident}
 use Rattle.plain.specs.Laws.Rank.{live-from-all-live}
 use Rattle.shape.specs.Columns.{cell, offset-at}
 use Rattle.shape.specs.Chains.{In, ring, until}
-use Rattle.shape.specs.Shape.{Words, node-live, edge-live, Shape, Adjacency, capacities, axis-words, axis-in, adjacency-of, no-adjacency, base-of, ring-of, raw, part, hiding, live-in, walk-of, has-run, node-flags-of, edge-flags-of, shape-of, plain-of, lists, is-compact}
+use Rattle.shape.specs.Shape.{Words, node-capacity, edge-capacity, Shape, Adjacency, capacities, axis-words, node-slot-at, edge-slot-at, axis-in, adjacency-of, no-adjacency, base-of, ring-of, raw, part, hiding, live-in, walk-of, has-run, node-flags-of, edge-flags-of, shape-of, plain-of, lists, is-compact}
 use Rattle.shape.specs.Checked.{Checked, Index, Indexed}
+use Rattle.shape.specs.Index.{total}
 use Rattle.shape.specs.Laws.CheckedShape.{checked-proper}
-use Rattle.shape.specs.Laws.Indexing.{total, parts-joined, front-range, ends-below-all}
+use Rattle.shape.specs.Laws.Indexing.{parts-joined, front-range, ends-below-all}
 use Rattle.shape.specs.Laws.Reading.{made-at, made-length, node-bound-is, edge-bound-is, shape-adjacency, plain-end, axis-is, axis-nodes}
 use Rattle.shape.specs.Laws.Refining.{list-is-walk}
 use Rattle.shape.specs.Laws.Taking.{keep-passing}
@@ -160,10 +161,10 @@ module _ {w : Words} (k : Checked w) (compact : is-compact (shape-of w) ≡ true
   m = w .counts .edges .bound
 
   abbrev ce : ℕ
-  ce = length (w .edges)
+  ce = edge-capacity w
 
   abbrev cn : ℕ
-  cn = length (w .nodes)
+  cn = node-capacity w
 
   parts : CompactShape (shape-of w)
   parts = compact-shape compact
@@ -220,7 +221,7 @@ module _ {w : Words} (k : Checked w) (compact : is-compact (shape-of w) ≡ true
 
   -- the adjacency column is there
   column-there : (d : TraversalDirection) → ce + m ≤ length (axis-words d w)
-  column-there d = omega (arith, k .axis d .sized .room, k .edges .bound-within)
+  column-there d = omega (arith, k .axis d .sized .room, k .edges .bounded .bound-within)
 
   -- the lists of a direction joined are the first words of its adjacency column
   lists-joined : (d : TraversalDirection) → joined (incidence d (lists w) .lists) ≡ take m (drop ce (axis-words d w))
@@ -245,12 +246,12 @@ module _ {w : Words} (k : Checked w) (compact : is-compact (shape-of w) ≡ true
   node-payload : (x : ℕ) → x < n → getD (lists w .nodes) x no-node .payload ≡ getD (w .nodes) x 0
   unfolding plain-of shape-of
   node-payload x l =
-      ap (λ (s : NodeSlot). s .payload) (made-at (λ x. record { payload = getD (w .nodes) x 0; live = getD (node-live w) x false }) n x no-node l)
+      ap (λ (s : NodeSlot). s .payload) (made-at (node-slot-at w) n x no-node l)
 
   edge-payload : (e : ℕ) → e < m → getD (lists w .edges) e no-edge .payload ≡ getD (w .edges) e 0
   unfolding plain-of shape-of
   edge-payload e l =
-      ap (λ (s : EdgeSlot). s .payload) (made-at (λ e. record { payload = getD (w .edges) e 0; live = getD (edge-live w) e false }) m e no-edge l)
+      ap (λ (s : EdgeSlot). s .payload) (made-at (edge-slot-at w) m e no-edge l)
 
   -- so the survivors are the words
   nodes-are : survivors (lists w) .nodes ≡ take n (w .nodes)
@@ -259,7 +260,7 @@ module _ {w : Words} (k : Checked w) (compact : is-compact (shape-of w) ≡ true
       ap (map (λ x. getD (lists w .nodes) x no-node .payload)) node-slots
       ∙ map-same (λ x. getD (lists w .nodes) x no-node .payload) (λ x. getD (w .nodes) x 0) (from 0 n)
       (λ x h. node-payload x (ltb-true x n (sym (member-below x n) ∙ h)))
-      ∙ sym (front-range (w .nodes) n (k .nodes .bound-within))
+      ∙ sym (front-range (w .nodes) n (k .nodes .bounded .bound-within))
 
   -- a node keeps its number
   own-end : (d : TraversalDirection) (e : ℕ) → e < m → rank (node-flags (lists w)) (end-of d (lists w) e) ≡ getD (take m (axis-words d w)) e 0
@@ -279,7 +280,7 @@ module _ {w : Words} (k : Checked w) (compact : is-compact (shape-of w) ≡ true
       let payload = edge-payload e l ∙ sym (getD-take m (w .edges) e 0 l) in
       λ i. record { source = source i; target = target i; payload = payload i })
       ∙ ap (λ (j : ℕ). map (record-at (take m (w .outgoing)) (take m (w .incoming)) (take m (w .edges))) (from 0 j))
-      (sym (length-take-le m (w .edges) (k .edges .bound-within)))
+      (sym (length-take-le m (w .edges) (k .edges .bounded .bound-within)))
 
   -- compaction would leave the lists as they are
   same-lists : of-survivors (survivors (lists w)) ≡ lists w
@@ -316,10 +317,10 @@ module _ {w : Words} (k : Checked w) (compact : is-compact (shape-of w) ≡ true
   compact-stored =
       let sized = k .axis Outgoing .sized in
       record {
-        nodes-within = omega (arith, sized .nodes-within, k .nodes .bound-within);
-        edges-within = omega (arith, sized .edges-within, k .edges .bound-within);
-        nodes-there = k .nodes .bound-within;
-        edges-there = k .edges .bound-within;
+        nodes-within = omega (arith, sized .nodes-within, k .nodes .bounded .bound-within);
+        edges-within = omega (arith, sized .edges-within, k .edges .bounded .bound-within);
+        nodes-there = k .nodes .bounded .bound-within;
+        edges-there = k .edges .bounded .bound-within;
         outgoing-there = column-there Outgoing;
         incoming-there = column-there Incoming;
         sources-below = ends-low Outgoing;

@@ -9,12 +9,11 @@ use lib.ListN.{length, getD, length-append, length-map}
 use Rattle.plain.specs.Numbers.{LIMIT}
 use Rattle.plain.specs.Lists.{from, written}
 use Rattle.plain.specs.Compaction.{EdgeRecord}
-use Rattle.plain.specs.Bits.{bits-of, row, pack, bytes-for, least-width}
+use Rattle.plain.specs.Bits.{bits-of, row, padding, pack, bytes-for, least-width}
 use Rattle.plain.specs.Image.{payload-bits, edge-bits, record-width, edges-start, image-size}
 use Rattle.plain.specs.Laws.Below.{Below, below-mono, below-append, below-within}
 use Rattle.plain.specs.Laws.Bits.{length-bits-of, below-bits-of, length-row, below-row}
 use Rattle.plain.specs.Laws.ListLaws.{length-from}
-use Rattle.plain.specs.Laws.Packing.{padding}
 use Rattle.plain.specs.Laws.ImageBits.{length-edge-bits, below-edge-bits}
 use Rattle.plain.specs.Laws.Width.{width-holds, width-most}
 use Rattle.bits.specs.Fields.{Room}

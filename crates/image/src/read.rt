@@ -18,7 +18,7 @@ ghost use Rattle.plain.specs.Bits.{fields-at};
 ghost use Rattle.plain.specs.Calls.{read-image};
 ghost use Rattle.memory.specs.Lengths.{lengths, measured};
 ghost use Rattle.shape.specs.Lent.{at-entry, at-exit};
-ghost use Rattle.shape.specs.Laws.Indexing.{Rewritten};
+ghost use Rattle.shape.specs.Index.{Rewritten};
 ghost use Rattle.compact.specs.Bases.{Rebuilt};
 ghost use Rattle.image.specs.Spread.{spread, SpreadFits};
 ghost use Rattle.image.specs.Directions.{BaseReadable, AxisReadable, AxisRead};

@@ -2,7 +2,7 @@
 
 ghost use Prim.Native.Nat.{_+_, _*_};
 ghost use lib.ListN.{getD};
-ghost use Rattle.shape.specs.Laws.Indexing.{Rewritten, before, ends-of};
+ghost use Rattle.shape.specs.Index.{Rewritten, before, ends-of};
 ghost use Rattle.adjacency.specs.Index.{Compressible, Copyable};
 
 #[no_mangle]

@@ -20,7 +20,7 @@ use Rattle.plain.specs.Image.{image, record-width}
 use Rattle.plain.specs.Memory.{Lengths, first-short, exact}
 use Rattle.plain.specs.Calls.{Stripped, Compacted, strip, judged-strip, judged-compaction, judged-reply, compaction, compacting, fresh-state, within, fresh-within, fresh}
 use Rattle.plain.specs.Lotstrip.{lotstrip-capacities}
-use Rattle.plain.specs.Laws.WellFormed.{WellFormed}
+use Rattle.plain.specs.WellFormed.{WellFormed}
 use Rattle.plain.specs.Laws.Width.{width-least}
 use Rattle.plain.specs.Laws.ListLaws.{count-length}
 use Rattle.plain.specs.Laws.Strips.{length-operations}
@@ -29,6 +29,7 @@ use Rattle.plain.specs.Laws.Compacting.{survivors-sound, survivors-of, survivin
 use Rattle.plain.specs.Laws.ImageLaws.{image-length}
 use Rattle.shape.specs.Shape.{Words, store, capacities, lengths-of, shape-of, plain-of, lists, is-compact}
 use Rattle.shape.specs.Checked.{Checked}
+use Rattle.shape.specs.Kept.{same-capacities}
 use Rattle.shape.specs.Rules.{broken}
 use Rattle.shape.specs.Steps.{state-of}
 use Rattle.shape.specs.Laws.Judging.{checked-sound}
@@ -108,7 +109,7 @@ module _ {nodes edges live-nodes live-edges outgoing incoming words entry : List
       record {
         held = record {
           checked = done .checked (done .numbered ∙ ap (λ (o : Stripped). o .number) is);
-          sized = (λ i. record { nodes = done .lengths .nodes i; edges = done .lengths .edges i }) ∙ caps;
+          sized = same-capacities (done .lengths) ∙ caps;
         };
         state = done .state ∙ ap (λ (o : Stripped). o .after) is;
         answered = done .answered ∙ ap (λ (o : Stripped). written (o .words) entry) is;

@@ -38,6 +38,10 @@ row w (v ∷ vs) = bits-of w v ++ row w vs
 abbrev pub bytes-for : ℕ → ℕ
 bytes-for n = (n + 7) / 8
 
+-- the bits of n bits' last byte that are left over
+abbrev pub padding : ℕ → ℕ
+padding n = 8 * bytes-for n - n
+
 -- the first n bytes of bits
 unfoldable pub bytes-of : ℕ → List ℕ → List ℕ
 bytes-of zero bs = []

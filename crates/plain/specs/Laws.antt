@@ -2,7 +2,6 @@
 pub mod Booleans
 pub mod ListLaws
 pub mod Deleting
-pub mod WellFormed
 pub mod Directions
 pub mod Cases
 pub mod Operating

@@ -8,6 +8,7 @@ pub mod Renumbering
 pub mod Compaction
 pub mod Bits
 pub mod Image
+pub mod WellFormed
 pub mod Memory
 pub mod Calls
 pub mod Lotstrip

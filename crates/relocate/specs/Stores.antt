@@ -22,7 +22,7 @@ use Rattle.plain.specs.Laws.Operating.{incident}
 use Rattle.liveness.specs.FlagLaws.{length-flags}
 use Rattle.shape.specs.Columns.{end-at}
 use Rattle.shape.specs.Chains.{In}
-use Rattle.shape.specs.Shape.{Words, Adjacency, adjacency-in, adjacency-of, hiding, raw, live-in, node-live, edge-live, axis-words, shape-of, plain-of, node-flags-of, walk-of, run-list}
+use Rattle.shape.specs.Shape.{Words, Adjacency, node-capacity, edge-capacity, adjacency-in, adjacency-of, hiding, raw, live-in, node-live, edge-live, axis-words, shape-of, plain-of, node-flags-of, walk-of, run-list}
 use Rattle.shape.specs.Steps.{live-entries}
 use Rattle.shape.specs.Checked.{Checked}
 use Rattle.shape.specs.Laws.Chains.{in-none, in-front}
@@ -61,10 +61,10 @@ module _ {w : Words} (k : Checked w) (d : TraversalDirection) where
   ws = axis-words d w
 
   abbrev ce : ℕ
-  ce = length (w .edges)
+  ce = edge-capacity w
 
   abbrev cn : ℕ
-  cn = length (w .nodes)
+  cn = node-capacity w
 
   -- the rules of one axis
   pub checked-linked : Linked ws ce cn (w .counts)
@@ -75,10 +75,10 @@ module _ {w : Words} (k : Checked w) (d : TraversalDirection) where
         index = axis .index;
         rings = axis .rings;
         runs = axis .runs;
-        nodes-within = k .nodes .bound-within;
-        edges-within = k .edges .bound-within;
-        nodes-based = k .nodes .base-within;
-        edges-based = k .edges .base-within;
+        nodes-within = k .nodes .bounded .bound-within;
+        edges-within = k .edges .bounded .bound-within;
+        nodes-based = k .nodes .bounded .base-within;
+        edges-based = k .edges .bounded .base-within;
       }
 
   -- the list of a live node is its live entries
@@ -123,8 +123,8 @@ module _ {w : Words} (k : Checked w) (d : TraversalDirection) where
   -- every checked store can be relocated
   pub checked-relocatable : Relocatable ws ce cn (w .counts) (w .live-edges)
   checked-relocatable =
-      let long = k .live-edges-long in
-      let bounded = k .edges in
+      let long = k .edges .live-long in
+      let bounded = k .edges .bounded in
       record { linked = checked-linked; live-long = omega arith; run-ends = run-ends }
     where
       run-ends : (x e : ℕ) → x < w .counts .nodes .bound → live-in (edge-live w) e ≡ true → In e (run-list ws ce cn x) → end-at ws e ≡ x
@@ -169,4 +169,4 @@ module _ {w : Words} (k : Checked w) (d : TraversalDirection) where
   -- where as many edges are live as there are, none is removed
   pub checked-all-live : w .counts .edges .live ≡ w .counts .edges .bound → (f : ℕ) → f < w .counts .edges .bound → live-in (edge-live w) f ≡ true
   checked-all-live full f h =
-      all-counted (edge-live w) (sym (k .edges-live .live-right) ∙ full ∙ sym (length-flags (w .live-edges) (w .counts .edges .bound))) f (rw length-flags h)
+      all-counted (edge-live w) (sym (k .edges .live .live-right) ∙ full ∙ sym (length-flags (w .live-edges) (w .counts .edges .bound))) f (rw length-flags h)

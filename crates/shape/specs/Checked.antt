@@ -11,11 +11,11 @@ use Rattle.plain.specs.declared.Slots.{Slots}
 use Rattle.plain.specs.declared.Counts.{Counts}
 use Rattle.plain.specs.Reads.{live-count}
 use Rattle.plain.specs.Memory.{live-words}
-use Rattle.plain.specs.Laws.WellFormed.{WellFormed}
-use Rattle.liveness.specs.Flags.{packed}
+use Rattle.plain.specs.WellFormed.{WellFormed}
+use Rattle.liveness.specs.Flags.{live-flags, packed}
 use Rattle.shape.specs.Columns.{Sized, cell, end-at, adjacency-at, last-at, first-at, tail-at, count-at, mark-at, offset-at}
 use Rattle.shape.specs.Chains.{In, Run, Ring}
-use Rattle.shape.specs.Shape.{Words, capacities, node-live, edge-live, axis-words, run-list, ring-of, shape-of, plain-of}
+use Rattle.shape.specs.Shape.{Words, capacities, node-live, edge-live, axis-words, run-list, ring-of, shape-of, plain-of, node-capacity, edge-capacity}
 
 -- rule 1 for one kind of slot, of capacity c
 pub record Bounded (c : ℕ) (s : Slots) : Type 0 where
@@ -23,9 +23,15 @@ pub record Bounded (c : ℕ) (s : Slots) : Type 0 where
   pub base-within : s .base ≤ s .bound
 
 -- rule 2 for one kind of slot: "live bits agree with both counts and the last word's unused bits are 0"
-pub record LiveRight (words : List ℕ) (flags : List Bool) (s : Slots) : Type 0 where
+pub record LiveRight (words : List ℕ) (s : Slots) : Type 0 where
   pub unused-clear : packed words (s .bound) ≡ true
-  pub live-right : s .live ≡ live-count flags
+  pub live-right : s .live ≡ live-count (live-flags words (s .bound))
+
+-- one kind of slot, of capacity c and with these live words: rules 1 and 2
+pub record SlotsChecked (c : ℕ) (words : List ℕ) (s : Slots) : Type 0 where
+  pub bounded : Bounded c s
+  pub live-long : live-words c ≤ length words
+  pub live : LiveRight words s
 
 -- rule 4: the compressed index, of bn nodes and be edges; "no index word being read where both base counts are 0"
 pub record Indexed (ws : List ℕ) (ce cn bn be : ℕ) : Type 0 where
@@ -61,12 +67,8 @@ pub record AxisChecked (ws : List ℕ) (ce cn : ℕ) (counts : Counts) (nodes ed
 
 -- A store that passes the check.
 pub record Checked (w : Words) : Type 0 where
-  pub nodes : Bounded (length (w .nodes)) (w .counts .nodes)
-  pub edges : Bounded (length (w .edges)) (w .counts .edges)
-  pub live-nodes-long : live-words (length (w .nodes)) ≤ length (w .live-nodes)
-  pub live-edges-long : live-words (length (w .edges)) ≤ length (w .live-edges)
-  pub nodes-live : LiveRight (w .live-nodes) (node-live w) (w .counts .nodes)
-  pub edges-live : LiveRight (w .live-edges) (edge-live w) (w .counts .edges)
-  pub axis : (d : TraversalDirection) → AxisChecked (axis-words d w) (length (w .edges)) (length (w .nodes)) (w .counts) (node-live w) (edge-live w)
+  pub nodes : SlotsChecked (node-capacity w) (w .live-nodes) (w .counts .nodes)
+  pub edges : SlotsChecked (edge-capacity w) (w .live-edges) (w .counts .edges)
+  pub axis : (d : TraversalDirection) → AxisChecked (axis-words d w) (edge-capacity w) (node-capacity w) (w .counts) (node-live w) (edge-live w)
   -- rule 7: "each live edge exactly once in its source's out-walk and once in its target's in-walk, both ends live, and no walk listing anything else"
   pub walks : WellFormed (capacities w) (plain-of (shape-of w))

@@ -12,7 +12,8 @@ use Rattle.plain.specs.declared.TraversalDirection.{TraversalDirection}
 use Rattle.plain.specs.declared.Counts.{Counts}
 use Rattle.shape.specs.Columns.{cell, tail-at, count-at, mark-at}
 use Rattle.shape.specs.Chains.{In}
-use Rattle.shape.specs.Shape.{Words, lengths-of, axis-words, run-list, ring-of}
+use Rattle.shape.specs.Shape.{Words, node-capacity, edge-capacity, axis-words, run-list, ring-of}
+use Rattle.shape.specs.Kept.{SameLengths}
 
 -- the columns of an axis
 pub data Column : Type 0 where
@@ -71,14 +72,14 @@ word-at w (node-payload x) = getD (w .nodes) x 0
 word-at w (edge-payload e) = getD (w .edges) e 0
 word-at w (node-bits i) = getD (w .live-nodes) i 0
 word-at w (edge-bits i) = getD (w .live-edges) i 0
-word-at w (axis-word d c x) = cell (axis-words d w) (begins (length (w .edges)) (length (w .nodes)) c) x
+word-at w (axis-word d c x) = cell (axis-words d w) (begins (edge-capacity w) (node-capacity w) c) x
 
 abbrev pub Field : Words → Place → Type 0
 Field w (node-payload x) = x < w .counts .nodes .bound
 Field w (edge-payload e) = e < w .counts .edges .bound
 Field w (node-bits i) = 64 * i < w .counts .nodes .bound
 Field w (edge-bits i) = 64 * i < w .counts .edges .bound
-Field w (axis-word d c x) = AxisField (axis-words d w) (length (w .edges)) (length (w .nodes)) (w .counts) c x
+Field w (axis-word d c x) = AxisField (axis-words d w) (edge-capacity w) (node-capacity w) (w .counts) c x
 
 -- the words of a column: behind them stand those of the next, and behind the last offset the spare words of the axis
 abbrev pub InColumn : List ℕ → ℕ → ℕ → Column → ℕ → Type 0
@@ -95,11 +96,11 @@ InColumn ws ce cn offsets x = begins ce cn offsets + x < length ws
 
 -- a place is there, and is named by its own column: every word of a store's memory has one (`axis-place` of Laws.NoFields)
 abbrev pub Stands : Words → Place → Type 0
-Stands w (node-payload x) = x < length (w .nodes)
-Stands w (edge-payload e) = e < length (w .edges)
+Stands w (node-payload x) = x < node-capacity w
+Stands w (edge-payload e) = e < edge-capacity w
 Stands w (node-bits i) = i < length (w .live-nodes)
 Stands w (edge-bits i) = i < length (w .live-edges)
-Stands w (axis-word d c x) = InColumn (axis-words d w) (length (w .edges)) (length (w .nodes)) c x
+Stands w (axis-word d c x) = InColumn (axis-words d w) (edge-capacity w) (node-capacity w) c x
 
 -- What is no field: payloads and ends past the bounds; live words past the last; first, tail and count where the mark is 0; first and tail of an empty run; links of
 -- no entry and of a run's last; ring links of base edges; adjacency words past the base edge count; offsets past the base nodes; every offset of an empty base; and
@@ -141,5 +142,5 @@ RenewalLeaves w v = (p : Place) → NoField v p → (word-at v p ≡ word-at w p
 -- Every field of w is in v as it is in w.
 pub record SameFields (w v : Words) : Type 0 where
   pub counts : v .counts ≡ w .counts
-  pub lengths : lengths-of v ≡ lengths-of w
+  pub lengths : SameLengths w v
   pub words : (p : Place) → Field w p → word-at v p ≡ word-at w p

@@ -1,15 +1,21 @@
 -- What calls leave of the words of a store: of the store at entry, w, and at exit, v, or of the words of one axis, `ws` and `vs`. Word i of a list is `getD l i 0`;
--- that every slice is as long as it was is said beside.
+-- that every slice is as long as it was is said beside, by `SameLengths`.
 use Prim.Native.Nat.{ℕ, _+_, _*_, _≤_, _<_}
 use native.Mathlib.Nat.{le-refl, le-trans}
 use native.Mathlib.Omega.{arith}
-use mathlib.Core.Path.{_≡_, refl, sym, _∙_}
+use mathlib.Core.Path.{_≡_, refl, sym, ap, _∙_}
 use mathlib.Core.Logic.{_⊎_, inl, inr, ⊎-elim}
 use mathlib.Core.List.{List}
 use lib.ListN.{length, getD}
 use Rattle.plain.specs.declared.TraversalDirection.{TraversalDirection}
+use Rattle.plain.specs.declared.TraversalDirection.the-variants.{Outgoing, Incoming}
+use Rattle.plain.specs.Memory.{Lengths}
 use Rattle.plain.specs.Laws.Booleans.{below-or-not}
-use Rattle.shape.specs.Shape.{Words, axis-words}
+use Rattle.shape.specs.Shape.{Words, node-capacity, edge-capacity, lengths-of, axis-words}
+
+-- every slice is as long as it was
+abbrev pub SameLengths : Words → Words → Type 0
+SameLengths w v = lengths-of v ≡ lengths-of w
 
 -- the words from `from` on, and those of them below `to`
 abbrev pub SameFrom : List ℕ → List ℕ → ℕ → Type 0
@@ -18,13 +24,22 @@ SameFrom ws vs from = (i : ℕ) → from ≤ i → getD vs i 0 ≡ getD ws i 0
 abbrev pub SameWithin : List ℕ → List ℕ → ℕ → ℕ → Type 0
 SameWithin ws vs from to = (i : ℕ) → from ≤ i → i < to → getD vs i 0 ≡ getD ws i 0
 
+-- the live words that hold no bit of a slot below n
+abbrev pub SameBits : List ℕ → List ℕ → ℕ → Type 0
+SameBits ws vs n = (i : ℕ) → n ≤ 64 * i → getD vs i 0 ≡ getD ws i 0
+
+-- One kind of slot, with payload words ps and live words ws before, qs and vs after: no word is written that holds nothing of a slot below n.
+pub record SlotsPast (ps qs ws vs : List ℕ) (n : ℕ) : Type 0 where
+  pub payloads : SameFrom ps qs n
+  pub live : SameBits ws vs n
+
 -- ---- spare words
 
 -- The words that no call writes: of both live slices those that hold no bit of a slot below the capacity, of both axes those past the last offset.
 pub record Spared (w v : Words) : Type 0 where
-  pub live-nodes : (i : ℕ) → length (w .nodes) ≤ 64 * i → getD (v .live-nodes) i 0 ≡ getD (w .live-nodes) i 0
-  pub live-edges : (i : ℕ) → length (w .edges) ≤ 64 * i → getD (v .live-edges) i 0 ≡ getD (w .live-edges) i 0
-  pub axis : (d : TraversalDirection) → SameFrom (axis-words d w) (axis-words d v) (4 * length (w .edges) + 6 * length (w .nodes) + 1)
+  pub live-nodes : SameBits (w .live-nodes) (v .live-nodes) (node-capacity w)
+  pub live-edges : SameBits (w .live-edges) (v .live-edges) (edge-capacity w)
+  pub axis : (d : TraversalDirection) → SameFrom (axis-words d w) (axis-words d v) (4 * edge-capacity w + 6 * node-capacity w + 1)
 
 pub nothing-spared : (w : Words) → Spared w w
 nothing-spared w = record { live-nodes = λ i h. refl; live-edges = λ i h. refl; axis = λ d i h. refl }
@@ -63,12 +78,10 @@ pub record AxisKept (ws vs : List ℕ) (ce cn ob nb eb : ℕ) : Type 0 where
 pub record Kept (w v : Words) : Type 0 where
   pub nodes-grow : w .counts .nodes .bound ≤ v .counts .nodes .bound
   pub edges-grow : w .counts .edges .bound ≤ v .counts .edges .bound
-  pub nodes : SameFrom (w .nodes) (v .nodes) (v .counts .nodes .bound)
-  pub edges : SameFrom (w .edges) (v .edges) (v .counts .edges .bound)
-  pub live-nodes : (i : ℕ) → v .counts .nodes .bound ≤ 64 * i → getD (v .live-nodes) i 0 ≡ getD (w .live-nodes) i 0
-  pub live-edges : (i : ℕ) → v .counts .edges .bound ≤ 64 * i → getD (v .live-edges) i 0 ≡ getD (w .live-edges) i 0
+  pub nodes : SlotsPast (w .nodes) (v .nodes) (w .live-nodes) (v .live-nodes) (v .counts .nodes .bound)
+  pub edges : SlotsPast (w .edges) (v .edges) (w .live-edges) (v .live-edges) (v .counts .edges .bound)
   pub axis : (d : TraversalDirection)
-      → AxisKept (axis-words d w) (axis-words d v) (length (w .edges)) (length (w .nodes)) (w .counts .nodes .bound) (v .counts .nodes .bound) (v .counts .edges .bound)
+      → AxisKept (axis-words d w) (axis-words d v) (edge-capacity w) (node-capacity w) (w .counts .nodes .bound) (v .counts .nodes .bound) (v .counts .edges .bound)
 
 -- ---- what compaction and image reading may write
 
@@ -87,14 +100,42 @@ pub record AxisRenewed (ws vs : List ℕ) (ce cn n m : ℕ) : Type 0 where
 
 -- Of a store: no word past the bounds.
 pub record Renewed (w v : Words) : Type 0 where
-  pub nodes : SameFrom (w .nodes) (v .nodes) (v .counts .nodes .bound)
-  pub edges : SameFrom (w .edges) (v .edges) (v .counts .edges .bound)
-  pub live-nodes : (i : ℕ) → v .counts .nodes .bound ≤ 64 * i → getD (v .live-nodes) i 0 ≡ getD (w .live-nodes) i 0
-  pub live-edges : (i : ℕ) → v .counts .edges .bound ≤ 64 * i → getD (v .live-edges) i 0 ≡ getD (w .live-edges) i 0
+  pub nodes : SlotsPast (w .nodes) (v .nodes) (w .live-nodes) (v .live-nodes) (v .counts .nodes .bound)
+  pub edges : SlotsPast (w .edges) (v .edges) (w .live-edges) (v .live-edges) (v .counts .edges .bound)
   pub axis : (d : TraversalDirection)
-      → AxisRenewed (axis-words d w) (axis-words d v) (length (w .edges)) (length (w .nodes)) (v .counts .nodes .bound) (v .counts .edges .bound)
+      → AxisRenewed (axis-words d w) (axis-words d v) (edge-capacity w) (node-capacity w) (v .counts .nodes .bound) (v .counts .edges .bound)
 
 -- ---- laws
+
+-- each slice is as long as it was
+pub same-capacities : {a b : Lengths} → a ≡ b → a .capacities ≡ b .capacities
+same-capacities same = ap (λ (l : Lengths). l .capacities) same
+
+pub same-nodes : {a b : Lengths} → a ≡ b → a .capacities .nodes ≡ b .capacities .nodes
+same-nodes same = ap (λ (l : Lengths). l .capacities .nodes) same
+
+pub same-edges : {a b : Lengths} → a ≡ b → a .capacities .edges ≡ b .capacities .edges
+same-edges same = ap (λ (l : Lengths). l .capacities .edges) same
+
+pub same-live-nodes : {a b : Lengths} → a ≡ b → a .live-nodes ≡ b .live-nodes
+same-live-nodes same = ap (λ (l : Lengths). l .live-nodes) same
+
+pub same-live-edges : {a b : Lengths} → a ≡ b → a .live-edges ≡ b .live-edges
+same-live-edges same = ap (λ (l : Lengths). l .live-edges) same
+
+pub same-axis : (w v : Words) → SameLengths w v → (d : TraversalDirection) → length (axis-words d v) ≡ length (axis-words d w)
+same-axis w v same Outgoing = ap (λ (l : Lengths). l .outgoing) same
+same-axis w v same Incoming = ap (λ (l : Lengths). l .incoming) same
+
+-- one kind of slot: all as it was, and one after another
+pub past-none : (ps ws : List ℕ) (n : ℕ) → SlotsPast ps ps ws ws n
+past-none ps ws n = record { payloads = λ i h. refl; live = λ i h. refl }
+
+past-through : {a b c p q r : List ℕ} {m n : ℕ} → m ≤ n → SlotsPast a b p q m → SlotsPast b c q r n → SlotsPast a c p r n
+past-through grow s t = record {
+  payloads = λ i h. t .payloads i h ∙ s .payloads i (omega (arith, grow));
+  live = λ i h. t .live i h ∙ s .live i (omega (arith, grow));
+}
 
 pub mark-through : {a b c : ℕ} → Mark a b → Mark b c → Mark a c
 mark-through first second =
@@ -148,38 +189,32 @@ pub kept-none : (w : Words) → Kept w w
 kept-none w = record {
   nodes-grow = le-refl (w .counts .nodes .bound);
   edges-grow = le-refl (w .counts .edges .bound);
-  nodes = λ i h. refl;
-  edges = λ i h. refl;
-  live-nodes = λ i h. refl;
-  live-edges = λ i h. refl;
-  axis = λ d. axis-kept-none (axis-words d w) (length (w .edges)) (length (w .nodes)) (w .counts .nodes .bound) (w .counts .edges .bound);
+  nodes = past-none (w .nodes) (w .live-nodes) (w .counts .nodes .bound);
+  edges = past-none (w .edges) (w .live-edges) (w .counts .edges .bound);
+  axis = λ d. axis-kept-none (axis-words d w) (edge-capacity w) (node-capacity w) (w .counts .nodes .bound) (w .counts .edges .bound);
 }
 
-pub kept-through : {w v u : Words} → length (v .nodes) ≡ length (w .nodes) → length (v .edges) ≡ length (w .edges) → Kept w v → Kept v u → Kept w u
-kept-through {w} {v} {u} nodes edges a b = record {
+pub kept-through : {w v u : Words} → SameLengths w v → Kept w v → Kept v u → Kept w u
+kept-through {w} {v} {u} same a b = record {
   nodes-grow = le-trans (a .nodes-grow) (b .nodes-grow);
   edges-grow = le-trans (a .edges-grow) (b .edges-grow);
-  nodes = λ i h. b .nodes i h ∙ a .nodes i (omega (arith, b .nodes-grow));
-  edges = λ i h. b .edges i h ∙ a .edges i (omega (arith, b .edges-grow));
-  live-nodes = λ i h. b .live-nodes i h ∙ a .live-nodes i (omega (arith, b .nodes-grow));
-  live-edges = λ i h. b .live-edges i h ∙ a .live-edges i (omega (arith, b .edges-grow));
-  axis = λ d. axis-kept-through (a .nodes-grow) (b .nodes-grow) (b .edges-grow) (a .axis d) (rw (nodes, edges) at (b .axis d));
+  nodes = past-through (b .nodes-grow) (a .nodes) (b .nodes);
+  edges = past-through (b .edges-grow) (a .edges) (b .edges);
+  axis = λ d. axis-kept-through (a .nodes-grow) (b .nodes-grow) (b .edges-grow) (a .axis d) (rw (same-nodes same, same-edges same) at (b .axis d));
 }
 
 -- spare words are past the bounds, so they stay
-pub kept-spared : {w v : Words} → v .counts .nodes .bound ≤ length (w .nodes) → v .counts .edges .bound ≤ length (w .edges) → Kept w v → Spared w v
+pub kept-spared : {w v : Words} → v .counts .nodes .bound ≤ node-capacity w → v .counts .edges .bound ≤ edge-capacity w → Kept w v → Spared w v
 kept-spared nodes edges k = record {
-  live-nodes = λ i h. k .live-nodes i (omega arith);
-  live-edges = λ i h. k .live-edges i (omega arith);
+  live-nodes = λ i h. k .nodes .live i (omega arith);
+  live-edges = λ i h. k .edges .live i (omega arith);
   axis = λ d i h. k .axis d .offsets i (omega arith);
 }
 
 pub renewed-none : (w : Words) → Renewed w w
 renewed-none w = record {
-  nodes = λ i h. refl;
-  edges = λ i h. refl;
-  live-nodes = λ i h. refl;
-  live-edges = λ i h. refl;
+  nodes = past-none (w .nodes) (w .live-nodes) (w .counts .nodes .bound);
+  edges = past-none (w .edges) (w .live-edges) (w .counts .edges .bound);
   axis = λ d. record {
     ends = λ i l h. refl;
     adjacency = λ i l h. refl;
@@ -191,9 +226,9 @@ renewed-none w = record {
   };
 }
 
-pub renewed-spared : {w v : Words} → v .counts .nodes .bound ≤ length (w .nodes) → v .counts .edges .bound ≤ length (w .edges) → Renewed w v → Spared w v
+pub renewed-spared : {w v : Words} → v .counts .nodes .bound ≤ node-capacity w → v .counts .edges .bound ≤ edge-capacity w → Renewed w v → Spared w v
 renewed-spared nodes edges k = record {
-  live-nodes = λ i h. k .live-nodes i (omega arith);
-  live-edges = λ i h. k .live-edges i (omega arith);
+  live-nodes = λ i h. k .nodes .live i (omega arith);
+  live-edges = λ i h. k .edges .live i (omega arith);
   axis = λ d i h. k .axis d .offsets i (omega arith);
 }

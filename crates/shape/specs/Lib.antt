@@ -2,6 +2,7 @@ pub mod Columns
 pub mod Chains
 pub mod Shape
 pub mod Checked
+pub mod Index
 pub mod Steps
 pub mod Rules
 pub mod Lent

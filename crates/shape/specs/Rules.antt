@@ -13,10 +13,10 @@ use Rattle.plain.specs.Lists.{member, distinct, all, from, joined}
 use Rattle.plain.specs.Plain.{Plain, edge-bound, node-bound, node-flags, edge-flags, list-of, end-of}
 use Rattle.plain.specs.Reads.{live-count}
 use Rattle.plain.specs.Memory.{live-words}
-use Rattle.liveness.specs.Flags.{packed}
+use Rattle.liveness.specs.Flags.{live-flags, packed}
 use Rattle.shape.specs.Columns.{cell, end-at, adjacency-at, last-at, tail-at, offset-at}
 use Rattle.shape.specs.Chains.{until}
-use Rattle.shape.specs.Shape.{Words, node-live, edge-live, run-list, shape-of, plain-of}
+use Rattle.shape.specs.Shape.{Words, node-capacity, edge-capacity, node-live, edge-live, run-list, shape-of, plain-of}
 
 -- both directions pass a test of an axis
 abbrev pub both-axes : (List ℕ → Bool) → Words → Bool
@@ -29,15 +29,15 @@ slots-right capacity live-length s =
 
 unfoldable pub rule-1 : Words → Bool
 rule-1 w =
-    slots-right (length (w .nodes)) (length (w .live-nodes)) (w .counts .nodes) && (slots-right (length (w .edges)) (length (w .live-edges)) (w .counts .edges)
-    && both-axes (λ ws. leb (4 * length (w .edges) + 6 * length (w .nodes) + 1) (length ws)) w)
+    slots-right (node-capacity w) (length (w .live-nodes)) (w .counts .nodes) && (slots-right (edge-capacity w) (length (w .live-edges)) (w .counts .edges)
+    && both-axes (λ ws. leb (4 * edge-capacity w + 6 * node-capacity w + 1) (length ws)) w)
 
 -- "(2) live bits agree with both counts and the last word's unused bits are 0"
-abbrev pub live-agrees : List ℕ → List Bool → Slots → Bool
-live-agrees words flags s = packed words (s .bound) && eqb (s .live) (live-count flags)
+abbrev pub live-agrees : List ℕ → Slots → Bool
+live-agrees words s = packed words (s .bound) && eqb (s .live) (live-count (live-flags words (s .bound)))
 
 unfoldable pub rule-2 : Words → Bool
-rule-2 w = live-agrees (w .live-nodes) (node-live w) (w .counts .nodes) && live-agrees (w .live-edges) (edge-live w) (w .counts .edges)
+rule-2 w = live-agrees (w .live-nodes) (w .counts .nodes) && live-agrees (w .live-edges) (w .counts .edges)
 
 -- "(3) ends below the node bound"
 abbrev pub ends-right : Counts → List ℕ → Bool
@@ -53,7 +53,7 @@ index-right ce cn bn be ws =
     && (eqb (offset-at ws ce cn bn) be && all (λ i. ltb (adjacency-at ws ce i) be) (from 0 be))))
 
 unfoldable pub rule-4 : Words → Bool
-rule-4 w = both-axes (index-right (length (w .edges)) (length (w .nodes)) (w .counts .nodes .base) (w .counts .edges .base)) w
+rule-4 w = both-axes (index-right (edge-capacity w) (node-capacity w) (w .counts .nodes .base) (w .counts .edges .base)) w
 
 -- "(5) rings as in `DeltaChains::check`": no ring, or the links from its last edge come back to it, over the node's own edges of the delta
 unfoldable pub ring-right : ℕ → ℕ → ℕ → List ℕ → ℕ → Bool
@@ -64,7 +64,7 @@ ring-right ce be eb ws x =
 
 unfoldable pub rule-5 : Words → Bool
 rule-5 w =
-    both-axes (λ ws. all (ring-right (length (w .edges)) (w .counts .edges .base) (w .counts .edges .bound) ws) (from 0 (w .counts .nodes .bound))) w
+    both-axes (λ ws. all (ring-right (edge-capacity w) (w .counts .edges .base) (w .counts .edges .bound) ws) (from 0 (w .counts .nodes .bound))) w
 
 -- "(6) run entries below the edge bound, none twice in one direction, lengths true, no live edge in a removed node's run"
 unfoldable pub last-of : List ℕ → ℕ → ℕ
@@ -82,7 +82,7 @@ runs-right ce cn counts nodes edges ws =
     && all (λ x. getD nodes x false || all (λ e. not (getD edges e false)) (run-list ws ce cn x)) slots)
 
 unfoldable pub rule-6 : Words → Bool
-rule-6 w = both-axes (runs-right (length (w .edges)) (length (w .nodes)) (w .counts) (node-live w) (edge-live w)) w
+rule-6 w = both-axes (runs-right (edge-capacity w) (node-capacity w) (w .counts) (node-live w) (edge-live w)) w
 
 -- "(7) `check_adjacency`, and in any case each live edge exactly once in its source's out-walk and once in its target's in-walk, both ends live, and no walk listing
 -- anything else"

@@ -82,8 +82,15 @@ store counts nodes edges live-nodes live-edges outgoing incoming = record {
   incoming = incoming;
 }
 
+-- how many node slots and how many edge slots there is memory for
+abbrev pub node-capacity : Words → ℕ
+node-capacity w = length (w .nodes)
+
+abbrev pub edge-capacity : Words → ℕ
+edge-capacity w = length (w .edges)
+
 abbrev pub capacities : Words → Capacities
-capacities w = record { nodes = length (w .nodes); edges = length (w .edges) }
+capacities w = record { nodes = node-capacity w; edges = edge-capacity w }
 
 -- the lengths of a store's memory
 abbrev pub lengths-of : Words → Lengths
@@ -105,6 +112,13 @@ abbrev pub axis-words : TraversalDirection → Words → List ℕ
 axis-words Outgoing w = w .outgoing
 axis-words Incoming w = w .incoming
 
+-- a node slot and an edge slot, as the words have them
+abbrev pub node-slot-at : Words → ℕ → NodeSlot
+node-slot-at w x = record { payload = getD (w .nodes) x 0; live = getD (node-live w) x false }
+
+abbrev pub edge-slot-at : Words → ℕ → EdgeSlot
+edge-slot-at w e = record { payload = getD (w .edges) e 0; live = getD (edge-live w) e false }
+
 -- the adjacency of node x, in words of capacities ce and cn with these counts
 abbrev pub adjacency-in : List ℕ → ℕ → ℕ → Counts → ℕ → Adjacency
 adjacency-in ws ce cn counts x = record {
@@ -122,12 +136,12 @@ axis-of ws ce cn counts = record {
 
 unfoldable pub shape-of : Words → Shape
 shape-of w = record {
-  nodes = map (λ x. record { payload = getD (w .nodes) x 0; live = getD (node-live w) x false }) (from 0 (w .counts .nodes .bound));
-  edges = map (λ e. record { payload = getD (w .edges) e 0; live = getD (edge-live w) e false }) (from 0 (w .counts .edges .bound));
+  nodes = map (λ x. node-slot-at w x) (from 0 (w .counts .nodes .bound));
+  edges = map (λ e. edge-slot-at w e) (from 0 (w .counts .edges .bound));
   base-nodes = w .counts .nodes .base;
   base-edges = w .counts .edges .base;
-  outgoing = axis-of (w .outgoing) (length (w .edges)) (length (w .nodes)) (w .counts);
-  incoming = axis-of (w .incoming) (length (w .edges)) (length (w .nodes)) (w .counts);
+  outgoing = axis-of (w .outgoing) (edge-capacity w) (node-capacity w) (w .counts);
+  incoming = axis-of (w .incoming) (edge-capacity w) (node-capacity w) (w .counts);
 }
 
 -- ---- from the shape to the plain lists

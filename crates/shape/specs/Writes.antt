@@ -3,7 +3,7 @@ use Prim.Native.Nat.{ℕ, _+_, _*_, _/_}
 use mathlib.Core.Path.{_≡_, refl}
 use mathlib.Core.Logic.{_⊎_, _≢_}
 use mathlib.Core.List.{List}
-use lib.ListN.{length, getD}
+use lib.ListN.{getD}
 use Rattle.plain.specs.declared.TraversalDirection.{TraversalDirection}
 use Rattle.plain.specs.declared.TraversalDirection.the-variants.{Outgoing, Incoming}
 use Rattle.plain.specs.declared.Operation.{Operation}
@@ -13,7 +13,7 @@ use Rattle.plain.specs.Numbers.{NONE}
 use Rattle.plain.specs.Plain.{list-of}
 use Rattle.shape.specs.Columns.{end-at, last-at}
 use Rattle.shape.specs.Chains.{In}
-use Rattle.shape.specs.Shape.{Words, axis-words, adjacency-in, raw, lists}
+use Rattle.shape.specs.Shape.{Words, node-capacity, edge-capacity, axis-words, adjacency-in, raw, lists}
 
 -- the run link of one of some edges
 abbrev pub OfLinks : ℕ → List ℕ → ℕ → Type 0
@@ -28,6 +28,10 @@ OfNode ce cn x i =
 abbrev pub OnlyNode : List ℕ → List ℕ → ℕ → ℕ → Counts → ℕ → Type 0
 OnlyNode ws vs ce cn counts node =
     (i : ℕ) → (OfLinks ce (raw (adjacency-in ws ce cn counts node)) i → ⊥) → (OfNode ce cn node i → ⊥) → getD vs i 0 ≡ getD ws i 0
+
+-- no word of a list but those that `Written` says
+abbrev pub Only : (ℕ → Type 0) → List ℕ → List ℕ → Type 0
+Only Written ws vs = (i : ℕ) → (Written i → ⊥) → getD vs i 0 ≡ getD ws i 0
 
 -- ---- by operation
 
@@ -88,18 +92,18 @@ OfRing ws ce node e i = (i ≡ 2 * ce + e) ⊎ ((last-at ws ce node ≢ NONE) ×
 -- the words of a node and the run links of its entries: its run or base part and its ring, dead entries included
 abbrev pub OfEntries : Words → TraversalDirection → ℕ → ℕ → Type 0
 OfEntries w d x i =
-    OfLinks (length (w .edges)) (raw (adjacency-in (axis-words d w) (length (w .edges)) (length (w .nodes)) (w .counts) x)) i
-    ⊎ OfNode (length (w .edges)) (length (w .nodes)) x i
+    OfLinks (edge-capacity w) (raw (adjacency-in (axis-words d w) (edge-capacity w) (node-capacity w) (w .counts) x)) i
+    ⊎ OfNode (edge-capacity w) (node-capacity w) x i
 
 -- a word of an axis
 abbrev pub WritesAxis : Operation → Words → TraversalDirection → ℕ → Type 0
 -- last and mark of the new node
 WritesAxis (AddNode payload) w d i =
-    (i ≡ 4 * length (w .edges) + w .counts .nodes .bound) ⊎ (i ≡ 4 * length (w .edges) + 4 * length (w .nodes) + w .counts .nodes .bound)
+    (i ≡ 4 * edge-capacity w + w .counts .nodes .bound) ⊎ (i ≡ 4 * edge-capacity w + 4 * node-capacity w + w .counts .nodes .bound)
 -- the new edge's end, ring links, the last edge of its end
 WritesAxis (AddEdge source target payload) w d i =
-    (i ≡ w .counts .edges .bound) ⊎ (OfRing (axis-words d w) (length (w .edges)) (end-in d source target) (w .counts .edges .bound) i
-    ⊎ (i ≡ 4 * length (w .edges) + end-in d source target))
+    (i ≡ w .counts .edges .bound) ⊎ (OfRing (axis-words d w) (edge-capacity w) (end-in d source target) (w .counts .edges .bound) i
+    ⊎ (i ≡ 4 * edge-capacity w + end-in d source target))
 WritesAxis (RemoveEdge e) w d i = ⊥
 WritesAxis (RemoveNode x) w d i = ⊥
 -- in one direction the edge's end and what both nodes have
@@ -111,11 +115,11 @@ WritesAxis Unknown w d i = ⊥
 
 -- No other word was written.
 pub record Writes (operation : Operation) (w v : Words) : Type 0 where
-  pub nodes : (x : ℕ) → (WritesNode operation w x → ⊥) → getD (v .nodes) x 0 ≡ getD (w .nodes) x 0
-  pub edges : (e : ℕ) → (WritesEdge operation w e → ⊥) → getD (v .edges) e 0 ≡ getD (w .edges) e 0
-  pub live-nodes : (i : ℕ) → (WritesNodeBits operation w i → ⊥) → getD (v .live-nodes) i 0 ≡ getD (w .live-nodes) i 0
-  pub live-edges : (i : ℕ) → (WritesEdgeBits operation w i → ⊥) → getD (v .live-edges) i 0 ≡ getD (w .live-edges) i 0
-  pub axis : (d : TraversalDirection) (i : ℕ) → (WritesAxis operation w d i → ⊥) → getD (axis-words d v) i 0 ≡ getD (axis-words d w) i 0
+  pub nodes : Only (WritesNode operation w) (w .nodes) (v .nodes)
+  pub edges : Only (WritesEdge operation w) (w .edges) (v .edges)
+  pub live-nodes : Only (WritesNodeBits operation w) (w .live-nodes) (v .live-nodes)
+  pub live-edges : Only (WritesEdgeBits operation w) (w .live-edges) (v .live-edges)
+  pub axis : (d : TraversalDirection) → Only (WritesAxis operation w d) (axis-words d w) (axis-words d v)
 
 pub nothing-written : (operation : Operation) (w : Words) → Writes operation w w
 nothing-written operation w =

@@ -16,18 +16,18 @@ use Rattle.plain.specs.Laws.Cases.{comes-to, add-node, add-edge}
 use Rattle.plain.specs.Laws.Rank.{live-below}
 use Rattle.liveness.specs.Calls.{Pushed}
 use Rattle.liveness.specs.FlagLaws.{length-flags}
-use Rattle.shape.specs.Shape.{Words, capacities, node-live, edge-live, axis-words, axis-of, shape-of, plain-of, store, lists}
+use Rattle.shape.specs.Shape.{Words, node-capacity, edge-capacity, capacities, node-live, edge-live, axis-words, axis-of, shape-of, plain-of, store, lists}
 use Rattle.shape.specs.Checked.{AxisChecked}
-use Rattle.shape.specs.Kept.{AxisKept}
+use Rattle.shape.specs.Kept.{SameLengths, AxisKept, same-nodes, same-edges, past-none}
 use Rattle.shape.specs.Writes.{WritesAxis}
 use Rattle.shape.specs.Steps.{appended, acted}
 use Rattle.shape.specs.Laws.Reading.{node-bound-is, edge-bound-is, node-flags-are}
 use Rattle.adjacency.specs.Rings.{Openable, Opened, Appendable, Appended}
 use Rattle.store.proofs.Keeping.{pushed-word, pushed-other, opened-kept, appended-kept, appended-writes}
 use Rattle.store.proofs.Made.{slots-more}
-use Rattle.store.specs.Operations.{SameLengths, Acted, one-more, with-nodes, with-edges, Raisable, NodeAddable, EdgeAddable}
+use Rattle.store.specs.Operations.{Acted, one-more, with-nodes, with-edges, Raisable, NodeAddable, EdgeAddable}
 use Rattle.store.proofs.Axes.{opened-axis, opened-checked, appended-axis, appended-checked}
-use Rattle.store.specs.Acting.{shape-ext, acted-walks, live-within, pushed-right}
+use Rattle.store.specs.Acting.{shape-ext, acted-walks, live-within, pushed-checked}
 
 -- ---- a node
 
@@ -36,11 +36,11 @@ module _ {w : Words} (pre : NodeAddable w) where
   pub node-raisable : Raisable (w .counts .nodes)
   node-raisable = record {
     bound-below = omega (arith, pre .room, pre .checked .axis Outgoing .sized .nodes-within);
-    live-within = live-within (pre .checked .nodes-live);
+    live-within = live-within (pre .checked .nodes);
   }
 
   -- both directions have the words of the slot
-  pub node-openable : (d : TraversalDirection) → Openable (axis-words d w) (length (w .edges)) (length (w .nodes)) (w .counts .nodes .bound)
+  pub node-openable : (d : TraversalDirection) → Openable (axis-words d w) (edge-capacity w) (node-capacity w) (w .counts .nodes .bound)
   node-openable d = record { sized = pre .checked .axis d .sized; room = pre .room }
 
   -- the step of document 01 adds a node; its value is the slot
@@ -55,8 +55,8 @@ module _ {w : Words} (pre : NodeAddable w) where
       (fits : payload < 2 ^ 32)
       {live outgoing incoming : List ℕ}
       (pushed : Pushed (w .live-nodes) (w .counts .nodes .bound) live)
-      (out : Opened (w .outgoing) outgoing (length (w .edges)) (length (w .nodes)) (w .counts .nodes .bound))
-      (inc : Opened (w .incoming) incoming (length (w .edges)) (length (w .nodes)) (w .counts .nodes .bound))
+      (out : Opened (w .outgoing) outgoing (edge-capacity w) (node-capacity w) (w .counts .nodes .bound))
+      (inc : Opened (w .incoming) incoming (edge-capacity w) (node-capacity w) (w .counts .nodes .bound))
       (live-long : length live ≡ length (w .live-nodes))
       (out-long : length outgoing ≡ length (w .outgoing))
       (inc-long : length incoming ≡ length (w .incoming))
@@ -68,14 +68,15 @@ module _ {w : Words} (pre : NodeAddable w) where
 
       -- no slice grows or shrinks
       node-lengths : SameLengths w with-node
-      node-lengths = record {
-        nodes = length-set (w .nodes) (w .counts .nodes .bound) payload;
-        edges = refl;
-        live-nodes = live-long;
-        live-edges = refl;
-        outgoing = out-long;
-        incoming = inc-long;
-      }
+      node-lengths =
+          let nodes-long = length-set (w .nodes) (w .counts .nodes .bound) payload in
+          λ i. record {
+            capacities = record { nodes = nodes-long i; edges = edge-capacity w };
+            live-nodes = live-long i;
+            live-edges = length (w .live-edges);
+            outgoing = out-long i;
+            incoming = inc-long i;
+          }
 
       -- its shape is what the operation makes of the shape
       node-shape : shape-of with-node ≡ acted (AddNode payload) (shape-of w)
@@ -84,7 +85,7 @@ module _ {w : Words} (pre : NodeAddable w) where
           rw (length-set (w .nodes) (w .counts .nodes .bound) payload, pushed .flags)
           (shape-ext
           (slots-more (λ v b. record { payload = v; live = b }) (w .nodes) (node-live w) (w .counts .nodes .bound)
-          (length-flags (w .live-nodes) (w .counts .nodes .bound)) (pre .checked .nodes .bound-within) payload (pre .room))
+          (length-flags (w .live-nodes) (w .counts .nodes .bound)) (pre .checked .nodes .bounded .bound-within) payload (pre .room))
           refl refl refl (opened-axis (pre .checked) Outgoing outgoing out-long out (pre .room))
           (opened-axis (pre .checked) Incoming incoming inc-long inc (pre .room)))
 
@@ -93,12 +94,8 @@ module _ {w : Words} (pre : NodeAddable w) where
       node-acted = record {
         shape = node-shape;
         checked = record {
-          nodes = record { bound-within = rw (node-lengths .nodes) (omega (arith, pre .room)); base-within = omega (arith, pre .checked .nodes .base-within) };
+          nodes = rw (same-nodes node-lengths) (pushed-checked (pre .checked .nodes) pushed live-long (pre .room));
           edges = pre .checked .edges;
-          live-nodes-long = rw (node-lengths .nodes, live-long) (pre .checked .live-nodes-long);
-          live-edges-long = pre .checked .live-edges-long;
-          nodes-live = pushed-right (pre .checked .nodes-live) pushed;
-          edges-live = pre .checked .edges-live;
           axis = directions;
           walks = acted-walks (pre .checked) (AddNode payload) (node-comes payload) refl with-node fits node-lengths node-shape;
         };
@@ -106,10 +103,8 @@ module _ {w : Words} (pre : NodeAddable w) where
         kept = record {
           nodes-grow = omega arith;
           edges-grow = omega arith;
-          nodes = λ i h. getD-set-other (w .nodes) (w .counts .nodes .bound) i payload 0 (omega arith);
-          edges = λ i h. refl;
-          live-nodes = pushed-word pushed;
-          live-edges = λ i h. refl;
+          nodes = record { payloads = λ i h. getD-set-other (w .nodes) (w .counts .nodes .bound) i payload 0 (omega arith); live = pushed-word pushed };
+          edges = past-none (w .edges) (w .live-edges) (w .counts .edges .bound);
           axis = kept;
         };
         writes = record {
@@ -126,14 +121,14 @@ module _ {w : Words} (pre : NodeAddable w) where
           written Incoming i off = inc .kept i (λ q. off (inl q)) (λ q. off (inr q))
 
           kept : (d : TraversalDirection)
-              → AxisKept (axis-words d w) (axis-words d with-node) (length (w .edges)) (length (w .nodes)) (w .counts .nodes .bound) (w .counts .nodes .bound + 1) (w .counts .edges .bound)
+              → AxisKept (axis-words d w) (axis-words d with-node) (edge-capacity w) (node-capacity w) (w .counts .nodes .bound) (w .counts .nodes .bound + 1) (w .counts .edges .bound)
           kept Outgoing = opened-kept (w .counts .edges .bound) out (pre .room)
           kept Incoming = opened-kept (w .counts .edges .bound) inc (pre .room)
 
           directions : (d : TraversalDirection)
-              → AxisChecked (axis-words d with-node) (length (w .edges)) (length (with-node .nodes)) (with-node .counts) (node-live with-node) (edge-live w)
-          directions Outgoing = rw (node-lengths .nodes, pushed .flags) (opened-checked (pre .checked) Outgoing outgoing out-long out (pre .room))
-          directions Incoming = rw (node-lengths .nodes, pushed .flags) (opened-checked (pre .checked) Incoming incoming inc-long inc (pre .room))
+              → AxisChecked (axis-words d with-node) (edge-capacity w) (length (with-node .nodes)) (with-node .counts) (node-live with-node) (edge-live w)
+          directions Outgoing = rw (same-nodes node-lengths, pushed .flags) (opened-checked (pre .checked) Outgoing outgoing out-long out (pre .room))
+          directions Incoming = rw (same-nodes node-lengths, pushed .flags) (opened-checked (pre .checked) Incoming incoming inc-long inc (pre .room))
 
 -- ---- an edge
 
@@ -142,7 +137,7 @@ module _ {w : Words} {source target : ℕ} (pre : EdgeAddable w source target) w
   pub edge-raisable : Raisable (w .counts .edges)
   edge-raisable = record {
     bound-below = omega (arith, pre .room, pre .checked .axis Outgoing .sized .edges-within);
-    live-within = live-within (pre .checked .edges-live);
+    live-within = live-within (pre .checked .edges);
   }
 
   -- a live node is below the bound
@@ -151,13 +146,13 @@ module _ {w : Words} {source target : ℕ} (pre : EdgeAddable w source target) w
 
   -- in a direction the edge can be appended at a live node
   pub edge-appendable : (d : TraversalDirection) (x : ℕ) → getD (node-live w) x false ≡ true
-      → Appendable (axis-words d w) (length (w .edges)) (length (w .nodes)) (w .counts .nodes .bound) (w .counts .edges .base) x (w .counts .edges .bound)
+      → Appendable (axis-words d w) (edge-capacity w) (node-capacity w) (w .counts .nodes .bound) (w .counts .edges .base) x (w .counts .edges .bound)
   edge-appendable d x live = record {
     sized = pre .checked .axis d .sized;
     rings = pre .checked .axis d .rings;
     node-below = end-below x live;
-    nodes-within = pre .checked .nodes .bound-within;
-    base-within = pre .checked .edges .base-within;
+    nodes-within = pre .checked .nodes .bounded .bound-within;
+    base-within = pre .checked .edges .bounded .base-within;
     room = pre .room;
   }
 
@@ -175,8 +170,8 @@ module _ {w : Words} {source target : ℕ} (pre : EdgeAddable w source target) w
       (fits : payload < 2 ^ 32)
       {live outgoing incoming : List ℕ}
       (pushed : Pushed (w .live-edges) (w .counts .edges .bound) live)
-      (out : Appended (w .outgoing) outgoing (length (w .edges)) (w .counts .nodes .bound) (w .counts .edges .base) source (w .counts .edges .bound))
-      (inc : Appended (w .incoming) incoming (length (w .edges)) (w .counts .nodes .bound) (w .counts .edges .base) target (w .counts .edges .bound))
+      (out : Appended (w .outgoing) outgoing (edge-capacity w) (w .counts .nodes .bound) (w .counts .edges .base) source (w .counts .edges .bound))
+      (inc : Appended (w .incoming) incoming (edge-capacity w) (w .counts .nodes .bound) (w .counts .edges .base) target (w .counts .edges .bound))
       (live-long : length live ≡ length (w .live-edges))
       (out-long : length outgoing ≡ length (w .outgoing))
       (inc-long : length incoming ≡ length (w .incoming))
@@ -188,14 +183,15 @@ module _ {w : Words} {source target : ℕ} (pre : EdgeAddable w source target) w
 
       -- no slice grows or shrinks
       edge-lengths : SameLengths w with-edge
-      edge-lengths = record {
-        nodes = refl;
-        edges = length-set (w .edges) (w .counts .edges .bound) payload;
-        live-nodes = refl;
-        live-edges = live-long;
-        outgoing = out-long;
-        incoming = inc-long;
-      }
+      edge-lengths =
+          let edges-long = length-set (w .edges) (w .counts .edges .bound) payload in
+          λ i. record {
+            capacities = record { nodes = node-capacity w; edges = edges-long i };
+            live-nodes = length (w .live-nodes);
+            live-edges = live-long i;
+            outgoing = out-long i;
+            incoming = inc-long i;
+          }
 
       -- its shape is what the operation makes of the shape
       edge-shape : shape-of with-edge ≡ acted (AddEdge source target payload) (shape-of w)
@@ -204,12 +200,12 @@ module _ {w : Words} {source target : ℕ} (pre : EdgeAddable w source target) w
           rw (length-set (w .edges) (w .counts .edges .bound) payload, pushed .flags)
           (shape-ext refl
           (slots-more (λ v b. record { payload = v; live = b }) (w .edges) (edge-live w) (w .counts .edges .bound)
-          (length-flags (w .live-edges) (w .counts .edges .bound)) (pre .checked .edges .bound-within) payload (pre .room))
+          (length-flags (w .live-edges) (w .counts .edges .bound)) (pre .checked .edges .bounded .bound-within) payload (pre .room))
           refl refl
           (appended-axis (pre .checked) Outgoing outgoing out-long source out (pre .room) (end-below source (pre .source-live))
-          ∙ ap (λ (e : ℕ). appended e source (axis-of (w .outgoing) (length (w .edges)) (length (w .nodes)) (w .counts))) (sym (edge-bound-is w)))
+          ∙ ap (λ (e : ℕ). appended e source (axis-of (w .outgoing) (edge-capacity w) (node-capacity w) (w .counts))) (sym (edge-bound-is w)))
           (appended-axis (pre .checked) Incoming incoming inc-long target inc (pre .room) (end-below target (pre .target-live))
-          ∙ ap (λ (e : ℕ). appended e target (axis-of (w .incoming) (length (w .edges)) (length (w .nodes)) (w .counts))) (sym (edge-bound-is w))))
+          ∙ ap (λ (e : ℕ). appended e target (axis-of (w .incoming) (edge-capacity w) (node-capacity w) (w .counts))) (sym (edge-bound-is w))))
 
       -- the edge was added
       pub edge-acted : Acted (AddEdge source target payload) w with-edge
@@ -217,11 +213,7 @@ module _ {w : Words} {source target : ℕ} (pre : EdgeAddable w source target) w
         shape = edge-shape;
         checked = record {
           nodes = pre .checked .nodes;
-          edges = record { bound-within = rw (edge-lengths .edges) (omega (arith, pre .room)); base-within = omega (arith, pre .checked .edges .base-within) };
-          live-nodes-long = pre .checked .live-nodes-long;
-          live-edges-long = rw (edge-lengths .edges, live-long) (pre .checked .live-edges-long);
-          nodes-live = pre .checked .nodes-live;
-          edges-live = pushed-right (pre .checked .edges-live) pushed;
+          edges = rw (same-edges edge-lengths) (pushed-checked (pre .checked .edges) pushed live-long (pre .room));
           axis = directions;
           walks = acted-walks (pre .checked) (AddEdge source target payload) (edge-comes payload) refl with-edge fits edge-lengths edge-shape;
         };
@@ -229,10 +221,8 @@ module _ {w : Words} {source target : ℕ} (pre : EdgeAddable w source target) w
         kept = record {
           nodes-grow = omega arith;
           edges-grow = omega arith;
-          nodes = λ i h. refl;
-          edges = λ i h. getD-set-other (w .edges) (w .counts .edges .bound) i payload 0 (omega arith);
-          live-nodes = λ i h. refl;
-          live-edges = pushed-word pushed;
+          nodes = past-none (w .nodes) (w .live-nodes) (w .counts .nodes .bound);
+          edges = record { payloads = λ i h. getD-set-other (w .edges) (w .counts .edges .bound) i payload 0 (omega arith); live = pushed-word pushed };
           axis = kept;
         };
         writes = record {
@@ -249,15 +239,15 @@ module _ {w : Words} {source target : ℕ} (pre : EdgeAddable w source target) w
           written Incoming i off = appended-writes inc i off
 
           kept : (d : TraversalDirection)
-              → AxisKept (axis-words d w) (axis-words d with-edge) (length (w .edges)) (length (w .nodes)) (w .counts .nodes .bound) (w .counts .nodes .bound) (w .counts .edges .bound + 1)
-          kept Outgoing = appended-kept out (end-below source (pre .source-live)) (pre .checked .nodes .bound-within) (pre .room)
-          kept Incoming = appended-kept inc (end-below target (pre .target-live)) (pre .checked .nodes .bound-within) (pre .room)
+              → AxisKept (axis-words d w) (axis-words d with-edge) (edge-capacity w) (node-capacity w) (w .counts .nodes .bound) (w .counts .nodes .bound) (w .counts .edges .bound + 1)
+          kept Outgoing = appended-kept out (end-below source (pre .source-live)) (pre .checked .nodes .bounded .bound-within) (pre .room)
+          kept Incoming = appended-kept inc (end-below target (pre .target-live)) (pre .checked .nodes .bounded .bound-within) (pre .room)
 
           directions : (d : TraversalDirection)
-              → AxisChecked (axis-words d with-edge) (length (with-edge .edges)) (length (w .nodes)) (with-edge .counts) (node-live w) (edge-live with-edge)
+              → AxisChecked (axis-words d with-edge) (length (with-edge .edges)) (node-capacity w) (with-edge .counts) (node-live w) (edge-live with-edge)
           directions Outgoing =
-              rw (edge-lengths .edges, pushed .flags)
+              rw (same-edges edge-lengths, pushed .flags)
               (appended-checked (pre .checked) Outgoing outgoing out-long source out (pre .room) (end-below source (pre .source-live)))
           directions Incoming =
-              rw (edge-lengths .edges, pushed .flags)
+              rw (same-edges edge-lengths, pushed .flags)
               (appended-checked (pre .checked) Incoming incoming inc-long target inc (pre .room) (end-below target (pre .target-live)))

@@ -15,7 +15,7 @@ use Rattle.plain.specs.Laws.Booleans.{by-test, true-false, below-or-not}
 use Rattle.liveness.specs.FlagLaws.{length-flags}
 use Rattle.shape.specs.Columns.{Sized, mark-at}
 use Rattle.shape.specs.Chains.{In}
-use Rattle.shape.specs.Shape.{Words, Adjacency, Axis, node-live, edge-live, axis-words, base-of, run-list, run-of, ring-of, hiding, no-adjacency, axis-of}
+use Rattle.shape.specs.Shape.{Words, Adjacency, Axis, node-capacity, edge-capacity, node-live, edge-live, axis-words, base-of, run-list, run-of, ring-of, hiding, no-adjacency, axis-of}
 use Rattle.shape.specs.Checked.{AxisChecked, Checked}
 use Rattle.shape.specs.Steps.{opened, appended}
 use Rattle.shape.specs.Laws.Frames.{base-kept, index-kept, run-list-below, run-list-kept, run-kept, runs-kept}
@@ -57,10 +57,10 @@ module _ {w : Words} (checked : Checked w) (d : TraversalDirection) (vs : List �
   ws = axis-words d w
 
   abbrev ce : ℕ
-  ce = length (w .edges)
+  ce = edge-capacity w
 
   abbrev cn : ℕ
-  cn = length (w .nodes)
+  cn = node-capacity w
 
   abbrev counts : Counts
   counts = w .counts
@@ -74,13 +74,13 @@ module _ {w : Words} (checked : Checked w) (d : TraversalDirection) (vs : List �
 
   -- what the index holds is within the capacities, and so are the edges
   base-in : counts .nodes .base ≤ cn
-  base-in = omega (arith, checked .nodes .base-within, checked .nodes .bound-within)
+  base-in = omega (arith, checked .nodes .bounded .base-within, checked .nodes .bounded .bound-within)
 
   base-edges-in : counts .edges .base ≤ ce
-  base-edges-in = omega (arith, checked .edges .base-within, checked .edges .bound-within)
+  base-edges-in = omega (arith, checked .edges .bounded .base-within, checked .edges .bounded .bound-within)
 
   edges-in : counts .edges .bound ≤ ce
-  edges-in = checked .edges .bound-within
+  edges-in = checked .edges .bounded .bound-within
 
   -- a node is opened
   module _ (o : Opened ws vs ce cn (counts .nodes .bound)) (room : counts .nodes .bound < cn) where
@@ -107,7 +107,7 @@ module _ {w : Words} (checked : Checked w) (d : TraversalDirection) (vs : List �
     -- the new node has none
     opened-here : adjacency-read vs ce cn counts (counts .nodes .bound) ≡ no-adjacency
     opened-here =
-        adjacency-ext (base-past vs ce cn (counts .nodes .base) (counts .nodes .bound) (checked .nodes .base-within)) (o .run)
+        adjacency-ext (base-past vs ce cn (counts .nodes .base) (counts .nodes .bound) (checked .nodes .bounded .base-within)) (o .run)
         (o .ring (counts .edges .base) (counts .edges .bound))
 
     -- the direction's shape has a node more
@@ -148,7 +148,7 @@ module _ {w : Words} (checked : Checked w) (d : TraversalDirection) (vs : List �
     where
       -- the nodes are within the capacity
       nodes-in : counts .nodes .bound ≤ cn
-      nodes-in = checked .nodes .bound-within
+      nodes-in = checked .nodes .bounded .bound-within
 
       -- the words of ends, index and runs are as they were
       appended-end : (e : ℕ) → e < counts .edges .bound → getD vs e 0 ≡ getD ws e 0

@@ -22,20 +22,20 @@ use Rattle.plain.specs.Laws.Rank.{live-below}
 use Rattle.liveness.specs.Calls.{Cleared}
 use Rattle.liveness.specs.FlagLaws.{length-flags}
 use Rattle.shape.specs.Chains.{In}
-use Rattle.shape.specs.Shape.{Words, node-live, edge-live, axis-words, axis-of, shape-of, plain-of, lists, store}
+use Rattle.shape.specs.Shape.{Words, node-capacity, edge-capacity, capacities, node-live, edge-live, node-slot-at, axis-words, axis-of, shape-of, plain-of, lists, store}
 use Rattle.shape.specs.Checked.{AxisChecked, Checked}
-use Rattle.shape.specs.Kept.{AxisKept, axis-kept-none}
+use Rattle.shape.specs.Kept.{SameLengths, AxisKept, axis-kept-none}
 use Rattle.shape.specs.Steps.{acted, walk-in as walk-of-shape}
 use Rattle.shape.specs.Laws.Refining.{list-is-walk}
 use Rattle.shape.specs.Laws.Keeping.{in-either}
 use Rattle.shape.specs.Laws.Reading.{made-at, node-flags-are}
 use Rattle.adjacency.specs.Walk.{walk-in}
 use Rattle.adjacency.specs.Clear.{Retired, Clearable}
-use Rattle.adjacency.specs.StoreClears.{checked-clearable, retired-slots, retired-within, retired-right, node-retired, node-dead}
+use Rattle.adjacency.specs.StoreClears.{checked-clearable, retired-slots, retired-within, retired-checked, node-retired, node-dead}
 use Rattle.store.proofs.Keeping.{cleared-word, cleared-other, retired-word}
 use Rattle.store.proofs.Made.{slots-set}
-use Rattle.store.specs.Operations.{SameLengths, Acted, RemovedNode, fewer}
-use Rattle.store.specs.Acting.{shape-ext, acted-walks, live-within, some-live, cleared-right}
+use Rattle.store.specs.Operations.{Acted, RemovedNode, fewer}
+use Rattle.store.specs.Acting.{shape-ext, acted-walks, live-within, some-live, cleared-checked}
 
 -- a node slot by its payload and its flag
 abbrev node-slot : ℕ → Bool → NodeSlot
@@ -59,18 +59,19 @@ module _ {w : Words} (checked : Checked w) (node : ℕ) (live : getD (node-live 
       (gone : Retired (w .counts .edges .bound) incident (w .live-edges) edges-after n)
     where
       abbrev without-node : Words
-      without-node = record {
-        counts = record { nodes = fewer 1 (w .counts .nodes); edges = fewer n (w .counts .edges) };
-        nodes = w .nodes;
-        edges = w .edges;
-        live-nodes = nodes-after;
-        live-edges = edges-after;
-        outgoing = w .outgoing;
-        incoming = w .incoming;
-      }
+      without-node =
+          store (record { nodes = fewer 1 (w .counts .nodes); edges = fewer n (w .counts .edges) }) (w .nodes) (w .edges) nodes-after edges-after (w .outgoing) (w .incoming)
 
       clear-lengths : SameLengths w without-node
-      clear-lengths = record { nodes = refl; edges = refl; live-nodes = long; live-edges = gone .long; outgoing = refl; incoming = refl }
+      clear-lengths =
+          let edges-long = gone .long in
+          λ i. record {
+            capacities = capacities w;
+            live-nodes = long i;
+            live-edges = edges-long i;
+            outgoing = length (w .outgoing);
+            incoming = length (w .incoming);
+          }
 
       -- another node that is dead now was dead
       was-dead : (x : ℕ) → eqb x node ≡ false → getD (node-live without-node) x false ≡ false → getD (node-live w) x false ≡ false
@@ -79,7 +80,7 @@ module _ {w : Words} (checked : Checked w) (node : ℕ) (live : getD (node-live 
 
       -- a direction passes the check without it: a live edge of the node's run went with it
       clear-direction : (d : TraversalDirection)
-          → AxisChecked (axis-words d w) (length (w .edges)) (length (w .nodes)) (without-node .counts) (node-live without-node) (edge-live without-node)
+          → AxisChecked (axis-words d w) (edge-capacity w) (node-capacity w) (without-node .counts) (node-live without-node) (edge-live without-node)
       clear-direction d =
           let old = checked .axis d in
           record {
@@ -97,13 +98,13 @@ module _ {w : Words} (checked : Checked w) (node : ℕ) (live : getD (node-live 
       unfolding shape-of acted axis-of
       clear-shape =
           let slots = from 0 (w .counts .nodes .bound) in
-          let old : ℕ → NodeSlot = λ x. record { payload = getD (w .nodes) x 0; live = getD (node-live w) x false } in
+          let old = node-slot-at w in
           let payload = getD (w .nodes) node 0 in
           shape-ext
           (rw (cleared .flags)
           (ap (λ (ps : List ℕ). map (λ x. node-slot (getD ps x 0) (getD (set (node-live w) node false) x false)) slots) (sym (set-getD (w .nodes) node 0))
           ∙ slots-set node-slot (w .nodes) (node-live w) (w .counts .nodes .bound) (length-flags (w .live-nodes) (w .counts .nodes .bound))
-          (checked .nodes .bound-within) node payload false node-below
+          (checked .nodes .bounded .bound-within) node payload false node-below
           ∙ ap (λ (s : NodeSlot). set (map old slots) node (killed-node s)) (sym (made-at old (w .counts .nodes .bound) node no-node node-below))))
           (retired-slots w without-node refl refl gone) refl refl refl refl
 
@@ -113,12 +114,8 @@ module _ {w : Words} (checked : Checked w) (node : ℕ) (live : getD (node-live 
       cleared-acted = record {
         shape = clear-shape;
         checked = record {
-          nodes = record { bound-within = checked .nodes .bound-within; base-within = checked .nodes .base-within };
-          edges = record { bound-within = checked .edges .bound-within; base-within = checked .edges .base-within };
-          live-nodes-long = rw long (checked .live-nodes-long);
-          live-edges-long = rw (gone .long) (checked .live-edges-long);
-          nodes-live = cleared-right (checked .nodes-live) cleared live;
-          edges-live = retired-right (checked .edges-live) gone;
+          nodes = cleared-checked (checked .nodes) node live cleared long;
+          edges = retired-checked (checked .edges) gone;
           axis = directions;
           walks = acted-walks checked (RemoveNode node) (comes-to (remove-node (rw (node-flags-are w) live))) refl without-node tt clear-lengths clear-shape;
         };
@@ -126,10 +123,8 @@ module _ {w : Words} (checked : Checked w) (node : ℕ) (live : getD (node-live 
         kept = record {
           nodes-grow = omega arith;
           edges-grow = omega arith;
-          nodes = λ i h. refl;
-          edges = λ i h. refl;
-          live-nodes = cleared-word cleared node-below;
-          live-edges = retired-word gone;
+          nodes = record { payloads = λ i h. refl; live = cleared-word cleared node-below };
+          edges = record { payloads = λ i h. refl; live = retired-word gone };
           axis = kept;
         };
         writes = record {
@@ -153,12 +148,12 @@ module _ {w : Words} (checked : Checked w) (node : ℕ) (live : getD (node-live 
           written Incoming i off = refl
 
           kept : (d : TraversalDirection)
-              → AxisKept (axis-words d w) (axis-words d without-node) (length (w .edges)) (length (w .nodes)) (w .counts .nodes .bound) (w .counts .nodes .bound) (w .counts .edges .bound)
-          kept Outgoing = axis-kept-none (w .outgoing) (length (w .edges)) (length (w .nodes)) (w .counts .nodes .bound) (w .counts .edges .bound)
-          kept Incoming = axis-kept-none (w .incoming) (length (w .edges)) (length (w .nodes)) (w .counts .nodes .bound) (w .counts .edges .bound)
+              → AxisKept (axis-words d w) (axis-words d without-node) (edge-capacity w) (node-capacity w) (w .counts .nodes .bound) (w .counts .nodes .bound) (w .counts .edges .bound)
+          kept Outgoing = axis-kept-none (w .outgoing) (edge-capacity w) (node-capacity w) (w .counts .nodes .bound) (w .counts .edges .bound)
+          kept Incoming = axis-kept-none (w .incoming) (edge-capacity w) (node-capacity w) (w .counts .nodes .bound) (w .counts .edges .bound)
 
           directions : (d : TraversalDirection)
-              → AxisChecked (axis-words d without-node) (length (w .edges)) (length (w .nodes)) (without-node .counts) (node-live without-node) (edge-live without-node)
+              → AxisChecked (axis-words d without-node) (edge-capacity w) (node-capacity w) (without-node .counts) (node-live without-node) (edge-live without-node)
           directions Outgoing = clear-direction Outgoing
           directions Incoming = clear-direction Incoming
 
@@ -186,30 +181,30 @@ module _
 
       -- so a live node can be counted off
       pub node-counted : 0 < w .counts .nodes .live
-      node-counted = some-live node (checked .nodes-live) was-live
+      node-counted = some-live (checked .nodes) node was-live
 
       -- and its walks can be cleared, the second after the first
       pub node-clearable : (d : TraversalDirection) {live-edges : List ℕ} → length live-edges ≡ length (w .live-edges)
-          → Clearable (axis-words d w) (length (w .edges)) (length (w .nodes)) (w .counts) live-edges node
+          → Clearable (axis-words d w) (edge-capacity w) (node-capacity w) (w .counts) live-edges node
       node-clearable d long = checked-clearable checked d node (node-below checked node was-live) long
 
       module _
           {mid edges-after : List ℕ}
           {n m : ℕ}
-          (first : Retired (w .counts .edges .bound) (walk-in (w .outgoing) (length (w .edges)) (length (w .nodes)) (w .counts) (w .live-edges) node true) (w .live-edges) mid n)
-          (second : Retired (w .counts .edges .bound) (walk-in (w .incoming) (length (w .edges)) (length (w .nodes)) (w .counts) mid node true) mid edges-after m)
+          (first : Retired (w .counts .edges .bound) (walk-in (w .outgoing) (edge-capacity w) (node-capacity w) (w .counts) (w .live-edges) node true) (w .live-edges) mid n)
+          (second : Retired (w .counts .edges .bound) (walk-in (w .incoming) (edge-capacity w) (node-capacity w) (w .counts) mid node true) mid edges-after m)
         where
           pub both-gone : Retired (w .counts .edges .bound) (incident checked node was-live) (w .live-edges) edges-after (n + m)
           both-gone = node-retired w node (node-below checked node was-live) {mid = mid} {after = edges-after} {n = n} {m = m} (rw was-live first) (rw was-live second)
 
           -- as many live edges are counted
           pub edges-counted : n + m ≤ w .counts .edges .live
-          edges-counted = retired-within (checked .edges-live) both-gone
+          edges-counted = retired-within (checked .edges) both-gone
 
           -- which is a small number
           pub edges-few : n + m ≤ LIMIT
           edges-few =
-              omega (arith, edges-counted, live-within (checked .edges-live), checked .edges .bound-within, checked .axis Outgoing .sized .edges-within)
+              omega (arith, edges-counted, live-within (checked .edges), checked .edges .bounded .bound-within, checked .axis Outgoing .sized .edges-within)
 
           pub clearing-live : (long : length nodes-after ≡ length (w .live-nodes))
               → RemovedNode node w true (without-node checked node was-live cleared long both-gone)

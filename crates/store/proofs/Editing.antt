@@ -19,15 +19,15 @@ use Rattle.plain.specs.Laws.Deleting.{getD-set}
 use Rattle.plain.specs.Laws.Rank.{live-below}
 use Rattle.liveness.specs.Calls.{Cleared}
 use Rattle.liveness.specs.FlagLaws.{length-flags}
-use Rattle.shape.specs.Shape.{Words, capacities, node-live, edge-live, axis-words, axis-of, shape-of, plain-of, store, lists}
+use Rattle.shape.specs.Shape.{Words, node-capacity, edge-capacity, capacities, node-live, edge-live, edge-slot-at, axis-words, axis-of, shape-of, plain-of, store, lists}
 use Rattle.shape.specs.Checked.{AxisChecked, Checked}
-use Rattle.shape.specs.Kept.{AxisKept, axis-kept-none}
+use Rattle.shape.specs.Kept.{SameLengths, AxisKept, same-edges, past-none, axis-kept-none}
 use Rattle.shape.specs.Steps.{retired, acted}
 use Rattle.shape.specs.Laws.Reading.{made-at, edge-bound-is, edge-flags-are}
 use Rattle.store.proofs.Keeping.{cleared-word, cleared-other}
 use Rattle.store.proofs.Made.{slots-set}
-use Rattle.store.specs.Operations.{SameLengths, Acted, RemovedEdge, fewer, with-edges, PayloadSettable}
-use Rattle.store.specs.Acting.{shape-ext, acted-walks, some-live, cleared-right}
+use Rattle.store.specs.Operations.{Acted, RemovedEdge, fewer, with-edges, PayloadSettable}
+use Rattle.store.specs.Acting.{shape-ext, acted-walks, some-live, cleared-checked}
 
 -- an edge slot by its payload and its flag
 abbrev edge-slot : ℕ → Bool → EdgeSlot
@@ -59,7 +59,7 @@ module _ {w : Words} (checked : Checked w) (edge : ℕ) (live : getD (edge-live 
   removed-below = rw (← length-flags (w .live-edges) (w .counts .edges .bound)) (live-below (edge-live w) edge live)
 
   -- a direction passes the check without it
-  remove-direction : (d : TraversalDirection) → AxisChecked (axis-words d w) (length (w .edges)) (length (w .nodes))
+  remove-direction : (d : TraversalDirection) → AxisChecked (axis-words d w) (edge-capacity w) (node-capacity w)
       (with-edges (fewer 1 (w .counts .edges)) (w .counts)) (node-live w) (set (edge-live w) edge false)
   remove-direction d =
       let old = checked .axis d in
@@ -85,20 +85,26 @@ module _ {w : Words} (checked : Checked w) (edge : ℕ) (live : getD (edge-live 
 
       -- no slice grows or shrinks
       remove-lengths : SameLengths w without-edge
-      remove-lengths = record { nodes = refl; edges = refl; live-nodes = refl; live-edges = long; outgoing = refl; incoming = refl }
+      remove-lengths = λ i. record {
+        capacities = capacities w;
+        live-nodes = length (w .live-nodes);
+        live-edges = long i;
+        outgoing = length (w .outgoing);
+        incoming = length (w .incoming);
+      }
 
       -- its shape is what the operation makes of the shape
       remove-shape : shape-of without-edge ≡ acted (RemoveEdge edge) (shape-of w)
       unfolding shape-of acted retired axis-of
       remove-shape =
           let slots = from 0 (w .counts .edges .bound) in
-          let old : ℕ → EdgeSlot = λ e. record { payload = getD (w .edges) e 0; live = getD (edge-live w) e false } in
+          let old = edge-slot-at w in
           let payload = getD (w .edges) edge 0 in
           rw (cleared .flags)
           (shape-ext refl
           (ap (λ (ps : List ℕ). map (λ e. edge-slot (getD ps e 0) (getD (set (edge-live w) edge false) e false)) slots) (sym (set-getD (w .edges) edge 0))
           ∙ slots-set edge-slot (w .edges) (edge-live w) (w .counts .edges .bound) (length-flags (w .live-edges) (w .counts .edges .bound))
-          (checked .edges .bound-within) edge payload false removed-below
+          (checked .edges .bounded .bound-within) edge payload false removed-below
           ∙ ap (λ (s : EdgeSlot). set (map old slots) edge (killed-edge s)) (sym (made-at old (w .counts .edges .bound) edge no-edge removed-below)))
           refl refl refl refl)
 
@@ -108,11 +114,7 @@ module _ {w : Words} (checked : Checked w) (edge : ℕ) (live : getD (edge-live 
         shape = remove-shape;
         checked = record {
           nodes = checked .nodes;
-          edges = record { bound-within = checked .edges .bound-within; base-within = checked .edges .base-within };
-          live-nodes-long = checked .live-nodes-long;
-          live-edges-long = rw long (checked .live-edges-long);
-          nodes-live = checked .nodes-live;
-          edges-live = cleared-right (checked .edges-live) cleared live;
+          edges = cleared-checked (checked .edges) edge live cleared long;
           axis = directions;
           walks = acted-walks checked (RemoveEdge edge) (rw live at (remove-comes w edge)) refl without-edge tt remove-lengths remove-shape;
         };
@@ -120,26 +122,24 @@ module _ {w : Words} (checked : Checked w) (edge : ℕ) (live : getD (edge-live 
         kept = record {
           nodes-grow = omega arith;
           edges-grow = omega arith;
-          nodes = λ i h. refl;
-          edges = λ i h. refl;
-          live-nodes = λ i h. refl;
-          live-edges = cleared-word cleared removed-below;
+          nodes = past-none (w .nodes) (w .live-nodes) (w .counts .nodes .bound);
+          edges = record { payloads = λ i h. refl; live = cleared-word cleared removed-below };
           axis = kept;
         };
         writes = record { nodes = λ x off. refl; edges = λ e off. refl; live-nodes = λ i off. refl; live-edges = cleared-other cleared; axis = written };
       }
         where
           kept : (d : TraversalDirection)
-              → AxisKept (axis-words d w) (axis-words d without-edge) (length (w .edges)) (length (w .nodes)) (w .counts .nodes .bound) (w .counts .nodes .bound) (w .counts .edges .bound)
-          kept Outgoing = axis-kept-none (w .outgoing) (length (w .edges)) (length (w .nodes)) (w .counts .nodes .bound) (w .counts .edges .bound)
-          kept Incoming = axis-kept-none (w .incoming) (length (w .edges)) (length (w .nodes)) (w .counts .nodes .bound) (w .counts .edges .bound)
+              → AxisKept (axis-words d w) (axis-words d without-edge) (edge-capacity w) (node-capacity w) (w .counts .nodes .bound) (w .counts .nodes .bound) (w .counts .edges .bound)
+          kept Outgoing = axis-kept-none (w .outgoing) (edge-capacity w) (node-capacity w) (w .counts .nodes .bound) (w .counts .edges .bound)
+          kept Incoming = axis-kept-none (w .incoming) (edge-capacity w) (node-capacity w) (w .counts .nodes .bound) (w .counts .edges .bound)
 
           written : (d : TraversalDirection) (i : ℕ) → (⊥ → ⊥) → getD (axis-words d without-edge) i 0 ≡ getD (axis-words d w) i 0
           written Outgoing i off = refl
           written Incoming i off = refl
 
           directions : (d : TraversalDirection)
-              → AxisChecked (axis-words d without-edge) (length (w .edges)) (length (w .nodes)) (without-edge .counts) (node-live w) (edge-live without-edge)
+              → AxisChecked (axis-words d without-edge) (edge-capacity w) (node-capacity w) (without-edge .counts) (node-live w) (edge-live without-edge)
           directions Outgoing = rw (cleared .flags) (remove-direction Outgoing)
           directions Incoming = rw (cleared .flags) (remove-direction Incoming)
 
@@ -154,7 +154,7 @@ module _
   where
     -- something live was there, so a live edge can be counted off
     pub edge-counted : answer ≡ true → 0 < w .counts .edges .live
-    edge-counted found = some-live edge (checked .edges-live) (sym (cleared .answers) ∙ found)
+    edge-counted found = some-live (checked .edges) edge (sym (cleared .answers) ∙ found)
 
     -- and it is removed
     pub removing-live : (found : answer ≡ true) (long : length after ≡ length (w .live-edges))
@@ -189,26 +189,27 @@ module _ {w : Words} {edge : ℕ} (pre : PayloadSettable w edge) (payload : ℕ)
 
   -- no slice grows or shrinks
   payload-lengths : SameLengths w with-payload
-  payload-lengths = record {
-    nodes = refl;
-    edges = length-set (w .edges) edge payload;
-    live-nodes = refl;
-    live-edges = refl;
-    outgoing = refl;
-    incoming = refl;
-  }
+  payload-lengths =
+      let edges-long = length-set (w .edges) edge payload in
+      λ i. record {
+        capacities = record { nodes = node-capacity w; edges = edges-long i };
+        live-nodes = length (w .live-nodes);
+        live-edges = length (w .live-edges);
+        outgoing = length (w .outgoing);
+        incoming = length (w .incoming);
+      }
 
   -- its shape is what the operation makes of the shape
   payload-shape : shape-of with-payload ≡ acted (SetPayload edge payload) (shape-of w)
   unfolding shape-of acted
   payload-shape =
       let slots = from 0 (w .counts .edges .bound) in
-      let old : ℕ → EdgeSlot = λ e. record { payload = getD (w .edges) e 0; live = getD (edge-live w) e false } in
+      let old = edge-slot-at w in
       rw (length-set (w .edges) edge payload)
       (shape-ext refl
       (ap (λ (fs : List Bool). map (λ e. edge-slot (getD (set (w .edges) edge payload) e 0) (getD fs e false)) slots) (sym (set-getD (edge-live w) edge false))
       ∙ slots-set edge-slot (w .edges) (edge-live w) (w .counts .edges .bound) (length-flags (w .live-edges) (w .counts .edges .bound))
-      (pre .checked .edges .bound-within) edge payload (getD (edge-live w) edge false) (pre .below)
+      (pre .checked .edges .bounded .bound-within) edge payload (getD (edge-live w) edge false) (pre .below)
       ∙ ap (λ (s : EdgeSlot). set (map old slots) edge (edge-slot payload (s .live))) (sym (made-at old (w .counts .edges .bound) edge no-edge (pre .below))))
       refl refl refl refl)
 
@@ -218,11 +219,7 @@ module _ {w : Words} {edge : ℕ} (pre : PayloadSettable w edge) (payload : ℕ)
     shape = payload-shape;
     checked = record {
       nodes = pre .checked .nodes;
-      edges = rw (payload-lengths .edges) (pre .checked .edges);
-      live-nodes-long = pre .checked .live-nodes-long;
-      live-edges-long = rw (payload-lengths .edges) (pre .checked .live-edges-long);
-      nodes-live = pre .checked .nodes-live;
-      edges-live = pre .checked .edges-live;
+      edges = rw (same-edges payload-lengths) (pre .checked .edges);
       axis = directions;
       walks = acted-walks (pre .checked) (SetPayload edge payload) payload-comes refl with-payload fits payload-lengths payload-shape;
     };
@@ -230,10 +227,8 @@ module _ {w : Words} {edge : ℕ} (pre : PayloadSettable w edge) (payload : ℕ)
     kept = record {
       nodes-grow = omega arith;
       edges-grow = omega arith;
-      nodes = λ i h. refl;
-      edges = λ i h. let low = pre .below in getD-set-other (w .edges) edge i payload 0 (omega arith);
-      live-nodes = λ i h. refl;
-      live-edges = λ i h. refl;
+      nodes = past-none (w .nodes) (w .live-nodes) (w .counts .nodes .bound);
+      edges = record { payloads = λ i h. let low = pre .below in getD-set-other (w .edges) edge i payload 0 (omega arith); live = λ i h. refl };
       axis = kept;
     };
     writes = record {
@@ -250,11 +245,11 @@ module _ {w : Words} {edge : ℕ} (pre : PayloadSettable w edge) (payload : ℕ)
       written Incoming i off = refl
 
       kept : (d : TraversalDirection)
-          → AxisKept (axis-words d w) (axis-words d with-payload) (length (w .edges)) (length (w .nodes)) (w .counts .nodes .bound) (w .counts .nodes .bound) (w .counts .edges .bound)
-      kept Outgoing = axis-kept-none (w .outgoing) (length (w .edges)) (length (w .nodes)) (w .counts .nodes .bound) (w .counts .edges .bound)
-      kept Incoming = axis-kept-none (w .incoming) (length (w .edges)) (length (w .nodes)) (w .counts .nodes .bound) (w .counts .edges .bound)
+          → AxisKept (axis-words d w) (axis-words d with-payload) (edge-capacity w) (node-capacity w) (w .counts .nodes .bound) (w .counts .nodes .bound) (w .counts .edges .bound)
+      kept Outgoing = axis-kept-none (w .outgoing) (edge-capacity w) (node-capacity w) (w .counts .nodes .bound) (w .counts .edges .bound)
+      kept Incoming = axis-kept-none (w .incoming) (edge-capacity w) (node-capacity w) (w .counts .nodes .bound) (w .counts .edges .bound)
 
       directions : (d : TraversalDirection)
-          → AxisChecked (axis-words d with-payload) (length (with-payload .edges)) (length (w .nodes)) (w .counts) (node-live w) (edge-live w)
-      directions Outgoing = rw (payload-lengths .edges) (pre .checked .axis Outgoing)
-      directions Incoming = rw (payload-lengths .edges) (pre .checked .axis Incoming)
+          → AxisChecked (axis-words d with-payload) (length (with-payload .edges)) (node-capacity w) (w .counts) (node-live w) (edge-live w)
+      directions Outgoing = rw (same-edges payload-lengths) (pre .checked .axis Outgoing)
+      directions Incoming = rw (same-edges payload-lengths) (pre .checked .axis Incoming)

@@ -22,10 +22,10 @@ use Rattle.plain.specs.Laws.Stepping.{Fitting}
 use Rattle.liveness.specs.FlagLaws.{length-flags}
 use Rattle.shape.specs.Columns.{end-at}
 use Rattle.shape.specs.Chains.{In}
-use Rattle.shape.specs.Shape.{Words, Axis, capacities, node-live, edge-live, axis-words, axis-of, axis-in, edge-flags-of, live-in, raw, walk-of, adjacency-in, shape-of, plain-of, lists}
+use Rattle.shape.specs.Shape.{Words, Axis, store, node-capacity, edge-capacity, capacities, node-live, edge-live, axis-words, axis-of, axis-in, edge-flags-of, live-in, raw, walk-of, adjacency-in, shape-of, plain-of, lists}
 use Rattle.shape.specs.Checked.{AxisChecked, Checked}
-use Rattle.shape.specs.Kept.{AxisKept, Kept, axis-kept-none}
-use Rattle.shape.specs.Writes.{WritesAxis, Writes}
+use Rattle.shape.specs.Kept.{SameLengths, AxisKept, Kept, past-none, axis-kept-none}
+use Rattle.shape.specs.Writes.{Only, WritesAxis, Writes}
 use Rattle.shape.specs.Steps.{live-entries, acted, acts, with-axis, redirected-axis, moved-axis}
 use Rattle.shape.specs.Laws.Reading.{node-bound-is, node-flags-are, edge-flags-are, plain-end}
 use Rattle.shape.specs.Laws.Taking.{live-taken}
@@ -35,7 +35,7 @@ use Rattle.relocate.specs.Redirects.{Redirectable, Redirected}
 use Rattle.relocate.specs.Redirects.Laws.{alive-below}
 use Rattle.relocate.specs.Moves.{Movable, Moved}
 use Rattle.relocate.specs.Stores.{checked-redirectable, checked-movable, checked-end, checked-all-live}
-use Rattle.store.specs.Operations.{SameLengths, Acted, RedirectedEdge, MovedEdges, EdgeRedirectable, EdgesMovable}
+use Rattle.store.specs.Operations.{Acted, RedirectedEdge, MovedEdges, EdgeRedirectable, EdgesMovable}
 use Rattle.store.specs.Acting.{shape-ext, acted-walks}
 
 -- ---- what crate `relocate` asks
@@ -47,12 +47,12 @@ all-live {w} k d none =
     (λ q. checked-all-live k d (eqb-true (w .counts .edges .live) (w .counts .edges .bound) q)) (λ q. true-false (ap not q) none)
 
 pub redirectable : {w : Words} {edge new : ℕ} → EdgeRedirectable w edge new → (d : TraversalDirection)
-    → Redirectable (axis-words d w) (length (w .edges)) (length (w .nodes)) (w .counts) (w .live-edges) (tombstoned-in (w .counts)) edge new
+    → Redirectable (axis-words d w) (edge-capacity w) (node-capacity w) (w .counts) (w .live-edges) (tombstoned-in (w .counts)) edge new
 redirectable {w} {edge} {new} pre d =
     checked-redirectable (pre .checked) d (tombstoned-in (w .counts)) (all-live (pre .checked) d) edge new (pre .alive) (pre .new-live)
 
 pub movable : {d : TraversalDirection} {w : Words} {old new : ℕ} → EdgesMovable d w old new
-    → Movable (axis-words d w) (length (w .edges)) (length (w .nodes)) (w .counts) (w .live-edges) (tombstoned-in (w .counts)) old new
+    → Movable (axis-words d w) (edge-capacity w) (node-capacity w) (w .counts) (w .live-edges) (tombstoned-in (w .counts)) old new
 movable {d} {w} {old} {new} pre =
     checked-movable (pre .checked) d (tombstoned-in (w .counts)) (all-live (pre .checked) d) old new (pre .apart) (pre .old-live) (pre .new-live)
 
@@ -62,149 +62,85 @@ told-movable {w = w} {old = old} {new = new} is pre = subst (λ (d : TraversalDi
 
 -- ---- the store afterwards
 
--- a store with other words of one axis
+-- a store with other words of one axis, and what holds of both of its axes
+abbrev axis-with : TraversalDirection → List ℕ → Words → TraversalDirection → List ℕ
+axis-with Outgoing vs w Outgoing = vs
+axis-with Outgoing vs w Incoming = w .incoming
+axis-with Incoming vs w Outgoing = w .outgoing
+axis-with Incoming vs w Incoming = vs
+
 abbrev pub with-axis-words : TraversalDirection → List ℕ → Words → Words
-with-axis-words Outgoing vs w = record {
-  counts = w .counts;
-  nodes = w .nodes;
-  edges = w .edges;
-  live-nodes = w .live-nodes;
-  live-edges = w .live-edges;
-  outgoing = vs;
-  incoming = w .incoming;
-}
-with-axis-words Incoming vs w = record {
-  counts = w .counts;
-  nodes = w .nodes;
-  edges = w .edges;
-  live-nodes = w .live-nodes;
-  live-edges = w .live-edges;
-  outgoing = w .outgoing;
-  incoming = vs;
-}
+with-axis-words d vs w =
+    store (w .counts) (w .nodes) (w .edges) (w .live-nodes) (w .live-edges) (axis-with d vs w Outgoing) (axis-with d vs w Incoming)
+
+both : (w : Words) (vs : List ℕ) (P : TraversalDirection → List ℕ → Type 0) (d : TraversalDirection) → P d vs → ((e : TraversalDirection) → P e (axis-words e w))
+    → (e : TraversalDirection) → P e (axis-words e (with-axis-words d vs w))
+both w vs P Outgoing one rest Outgoing = one
+both w vs P Outgoing one rest Incoming = rest Incoming
+both w vs P Incoming one rest Outgoing = rest Outgoing
+both w vs P Incoming one rest Incoming = one
 
 axis-lengths : (w : Words) (d : TraversalDirection) (vs : List ℕ) → length vs ≡ length (axis-words d w) → SameLengths w (with-axis-words d vs w)
-axis-lengths w Outgoing vs long = record { nodes = refl; edges = refl; live-nodes = refl; live-edges = refl; outgoing = long; incoming = refl }
-axis-lengths w Incoming vs long = record { nodes = refl; edges = refl; live-nodes = refl; live-edges = refl; outgoing = refl; incoming = long }
+axis-lengths w d vs long =
+    let axes = both w vs (λ e us. length us ≡ length (axis-words e w)) d long (λ e. refl) in
+    let out = axes Outgoing in
+    let inc = axes Incoming in
+    λ i. record { capacities = capacities w; live-nodes = length (w .live-nodes); live-edges = length (w .live-edges); outgoing = out i; incoming = inc i }
 
 -- the words that an operation leaves
 axis-kept : (w : Words) (d : TraversalDirection) (vs : List ℕ)
-    → AxisKept (axis-words d w) vs (length (w .edges)) (length (w .nodes)) (w .counts .nodes .bound) (w .counts .nodes .bound) (w .counts .edges .bound) → Kept w (with-axis-words d vs w)
-axis-kept w Outgoing vs frame = record {
+    → AxisKept (axis-words d w) vs (edge-capacity w) (node-capacity w) (w .counts .nodes .bound) (w .counts .nodes .bound) (w .counts .edges .bound) → Kept w (with-axis-words d vs w)
+axis-kept w d vs frame = record {
   nodes-grow = omega arith;
   edges-grow = omega arith;
-  nodes = λ i h. refl;
-  edges = λ i h. refl;
-  live-nodes = λ i h. refl;
-  live-edges = λ i h. refl;
-  axis = directions;
+  nodes = past-none (w .nodes) (w .live-nodes) (w .counts .nodes .bound);
+  edges = past-none (w .edges) (w .live-edges) (w .counts .edges .bound);
+  axis = both w vs
+      (λ e us. AxisKept (axis-words e w) us (edge-capacity w) (node-capacity w) (w .counts .nodes .bound) (w .counts .nodes .bound) (w .counts .edges .bound)) d frame
+      (λ e. axis-kept-none (axis-words e w) (edge-capacity w) (node-capacity w) (w .counts .nodes .bound) (w .counts .edges .bound));
 }
-  where
-    directions : (d : TraversalDirection) → AxisKept (axis-words d w) (axis-words d (with-axis-words Outgoing vs w)) (length (w .edges)) (length (w .nodes))
-        (w .counts .nodes .bound) (w .counts .nodes .bound) (w .counts .edges .bound)
-    directions Outgoing = frame
-    directions Incoming = axis-kept-none (w .incoming) (length (w .edges)) (length (w .nodes)) (w .counts .nodes .bound) (w .counts .edges .bound)
-axis-kept w Incoming vs frame = record {
-  nodes-grow = omega arith;
-  edges-grow = omega arith;
-  nodes = λ i h. refl;
-  edges = λ i h. refl;
-  live-nodes = λ i h. refl;
-  live-edges = λ i h. refl;
-  axis = directions;
-}
-  where
-    directions : (d : TraversalDirection) → AxisKept (axis-words d w) (axis-words d (with-axis-words Incoming vs w)) (length (w .edges)) (length (w .nodes))
-        (w .counts .nodes .bound) (w .counts .nodes .bound) (w .counts .edges .bound)
-    directions Outgoing = axis-kept-none (w .outgoing) (length (w .edges)) (length (w .nodes)) (w .counts .nodes .bound) (w .counts .edges .bound)
-    directions Incoming = frame
 
-axis-writes : (w : Words) (d : TraversalDirection) (vs : List ℕ) (operation : Operation)
-    → ((i : ℕ) → (WritesAxis operation w d i → ⊥) → getD vs i 0 ≡ getD (axis-words d w) i 0) → Writes operation w (with-axis-words d vs w)
-axis-writes w Outgoing vs operation words = record {
+axis-writes : (w : Words) (d : TraversalDirection) (vs : List ℕ) (operation : Operation) → Only (WritesAxis operation w d) (axis-words d w) vs
+    → Writes operation w (with-axis-words d vs w)
+axis-writes w d vs operation words = record {
   nodes = λ x off. refl;
   edges = λ e off. refl;
   live-nodes = λ i off. refl;
   live-edges = λ i off. refl;
-  axis = directions;
+  axis = both w vs (λ e us. Only (WritesAxis operation w e) (axis-words e w) us) d words (λ e i off. refl);
 }
-  where
-    directions : (d : TraversalDirection) (i : ℕ) → (WritesAxis operation w d i → ⊥) → getD (axis-words d (with-axis-words Outgoing vs w)) i 0 ≡ getD (axis-words d w) i 0
-    directions Outgoing i off = words i off
-    directions Incoming i off = refl
-axis-writes w Incoming vs operation words = record {
-  nodes = λ x off. refl;
-  edges = λ e off. refl;
-  live-nodes = λ i off. refl;
-  live-edges = λ i off. refl;
-  axis = directions;
-}
-  where
-    directions : (d : TraversalDirection) (i : ℕ) → (WritesAxis operation w d i → ⊥) → getD (axis-words d (with-axis-words Incoming vs w)) i 0 ≡ getD (axis-words d w) i 0
-    directions Outgoing i off = refl
-    directions Incoming i off = words i off
 
 -- where the axis is what an edit makes of it, the shape is the one with the edited axis
-axis-shape : (w : Words) (d : TraversalDirection) (vs : List ℕ) (edit : List Bool → Axis → Axis) → axis-of vs (length (w .edges)) (length (w .nodes)) (w .counts)
-    ≡ edit (edge-live w) (axis-of (axis-words d w) (length (w .edges)) (length (w .nodes)) (w .counts))
+axis-shape : (w : Words) (d : TraversalDirection) (vs : List ℕ) (edit : List Bool → Axis → Axis) → axis-of vs (edge-capacity w) (node-capacity w) (w .counts)
+    ≡ edit (edge-live w) (axis-of (axis-words d w) (edge-capacity w) (node-capacity w) (w .counts))
     → shape-of (with-axis-words d vs w) ≡ with-axis d (edit (edge-flags-of (shape-of w)) (axis-in d (shape-of w))) (shape-of w)
 unfolding shape-of
 axis-shape w Outgoing vs edit is =
-    let old = axis-of (w .outgoing) (length (w .edges)) (length (w .nodes)) (w .counts) in
+    let old = axis-of (w .outgoing) (edge-capacity w) (node-capacity w) (w .counts) in
     shape-ext refl refl refl refl (is ∙ ap (λ (f : List Bool). edit f old) (sym (edge-flags-are w))) refl
 axis-shape w Incoming vs edit is =
-    let old = axis-of (w .incoming) (length (w .edges)) (length (w .nodes)) (w .counts) in
+    let old = axis-of (w .incoming) (edge-capacity w) (node-capacity w) (w .counts) in
     shape-ext refl refl refl refl refl (is ∙ ap (λ (f : List Bool). edit f old) (sym (edge-flags-are w)))
 
 -- an operation that edits one axis was done
 relocated-acted : {w : Words} → Checked w → (d : TraversalDirection) (vs : List ℕ) (operation : Operation) {o : Outcome}
     → step (capacities w) (lists w) operation ≡ o → acts operation o ≡ true → Fitting operation → length vs ≡ length (axis-words d w)
     → shape-of (with-axis-words d vs w) ≡ acted operation (shape-of w)
-    → AxisChecked vs (length (w .edges)) (length (w .nodes)) (w .counts) (node-live w) (edge-live w)
-    → AxisKept (axis-words d w) vs (length (w .edges)) (length (w .nodes)) (w .counts .nodes .bound) (w .counts .nodes .bound) (w .counts .edges .bound)
-    → ((i : ℕ) → (WritesAxis operation w d i → ⊥) → getD vs i 0 ≡ getD (axis-words d w) i 0) → Acted operation w (with-axis-words d vs w)
-relocated-acted {w} k Outgoing vs operation comes acting fits long shape axis frame words = record {
+    → AxisChecked vs (edge-capacity w) (node-capacity w) (w .counts) (node-live w) (edge-live w)
+    → AxisKept (axis-words d w) vs (edge-capacity w) (node-capacity w) (w .counts .nodes .bound) (w .counts .nodes .bound) (w .counts .edges .bound)
+    → Only (WritesAxis operation w d) (axis-words d w) vs → Acted operation w (with-axis-words d vs w)
+relocated-acted {w} k d vs operation comes acting fits long shape axis frame words = record {
   shape = shape;
   checked = record {
     nodes = k .nodes;
     edges = k .edges;
-    live-nodes-long = k .live-nodes-long;
-    live-edges-long = k .live-edges-long;
-    nodes-live = k .nodes-live;
-    edges-live = k .edges-live;
-    axis = directions;
-    walks = acted-walks k operation comes acting (with-axis-words Outgoing vs w) fits (axis-lengths w Outgoing vs long) shape;
+    axis = both w vs (λ e us. AxisChecked us (edge-capacity w) (node-capacity w) (w .counts) (node-live w) (edge-live w)) d axis (k .axis);
+    walks = acted-walks k operation comes acting (with-axis-words d vs w) fits (axis-lengths w d vs long) shape;
   };
-  lengths = axis-lengths w Outgoing vs long;
-  kept = axis-kept w Outgoing vs frame;
-  writes = axis-writes w Outgoing vs operation words;
+  lengths = axis-lengths w d vs long;
+  kept = axis-kept w d vs frame;
+  writes = axis-writes w d vs operation words;
 }
-  where
-    directions : (d : TraversalDirection)
-        → AxisChecked (axis-words d (with-axis-words Outgoing vs w)) (length (w .edges)) (length (w .nodes)) (w .counts) (node-live w) (edge-live w)
-    directions Outgoing = axis
-    directions Incoming = k .axis Incoming
-relocated-acted {w} k Incoming vs operation comes acting fits long shape axis frame words = record {
-  shape = shape;
-  checked = record {
-    nodes = k .nodes;
-    edges = k .edges;
-    live-nodes-long = k .live-nodes-long;
-    live-edges-long = k .live-edges-long;
-    nodes-live = k .nodes-live;
-    edges-live = k .edges-live;
-    axis = directions;
-    walks = acted-walks k operation comes acting (with-axis-words Incoming vs w) fits (axis-lengths w Incoming vs long) shape;
-  };
-  lengths = axis-lengths w Incoming vs long;
-  kept = axis-kept w Incoming vs frame;
-  writes = axis-writes w Incoming vs operation words;
-}
-  where
-    directions : (d : TraversalDirection)
-        → AxisChecked (axis-words d (with-axis-words Incoming vs w)) (length (w .edges)) (length (w .nodes)) (w .counts) (node-live w) (edge-live w)
-    directions Outgoing = k .axis Outgoing
-    directions Incoming = axis
 
 same-words : (w : Words) (d : TraversalDirection) (vs : List ℕ) → vs ≡ axis-words d w → with-axis-words d vs w ≡ w
 same-words w Outgoing vs same = ap (λ (l : List ℕ). with-axis-words Outgoing l w) same
@@ -212,7 +148,7 @@ same-words w Incoming vs same = ap (λ (l : List ℕ). with-axis-words Incoming 
 
 -- the edge was redirected
 pub redirecting : {w : Words} {edge new : ℕ} (pre : EdgeRedirectable w edge new) (d : TraversalDirection) (vs : List ℕ) {answer : ℕ}
-    → Redirected (axis-words d w) vs (length (w .edges)) (length (w .nodes)) (w .counts) (w .live-edges) edge new answer → length vs ≡ length (axis-words d w)
+    → Redirected (axis-words d w) vs (edge-capacity w) (node-capacity w) (w .counts) (w .live-edges) edge new answer → length vs ≡ length (axis-words d w)
     → RedirectedEdge d edge new w answer (with-axis-words d vs w)
 unfolding acted plain-of
 redirecting {w} {edge} {new} pre d vs done long =
@@ -231,12 +167,12 @@ redirecting {w} {edge} {new} pre d vs done long =
 
 -- the edges were moved
 pub moving : {w : Words} {old new : ℕ} (d : TraversalDirection) (pre : EdgesMovable d w old new) (vs : List ℕ) {answer : ℕ}
-    → Moved (axis-words d w) vs (length (w .edges)) (length (w .nodes)) (w .counts) (w .live-edges) old new answer → length vs ≡ length (axis-words d w)
+    → Moved (axis-words d w) vs (edge-capacity w) (node-capacity w) (w .counts) (w .live-edges) old new answer → length vs ≡ length (axis-words d w)
     → MovedEdges d old new w answer (with-axis-words d vs w)
 unfolding acted plain-of
 moving {w} {old} {new} d pre vs done long =
     let k = pre .checked in
-    let adjacency = adjacency-in (axis-words d w) (length (w .edges)) (length (w .nodes)) (w .counts) old in
+    let adjacency = adjacency-in (axis-words d w) (edge-capacity w) (node-capacity w) (w .counts) old in
     let below : old < w .counts .nodes .bound = rw (← length-flags (w .live-nodes) (w .counts .nodes .bound)) (live-below (node-live w) old (pre .old-live)) in
     let walked : list-of d (lists w) old ≡ live-entries (edge-live w) (raw adjacency) =
     list-is-walk w d old below ∙ ap (λ (b : Bool). walk-of (edge-live w) b adjacency) (pre .old-live) in

@@ -2,7 +2,7 @@
 -- shape's own step makes of it, the store is checked again, and every slice is as long as it was. That the plain lists are then those of document 01 is
 -- `step-refines` of crate `shape`.
 use Prim.Native.Nat.{ℕ, _+_, _-_, _≤_, _<_}
-use mathlib.Core.Path.{_≡_, refl}
+use mathlib.Core.Path.{_≡_}
 use mathlib.Core.Bool.{Bool, true, false}
 use mathlib.Core.List.{[]}
 use mathlib.Core.Logic.{_≢_}
@@ -15,33 +15,11 @@ use Rattle.plain.specs.declared.Counts.{Counts}
 use Rattle.plain.specs.Plain.{list-of}
 use Rattle.plain.specs.Numbers.{LIMIT}
 use Rattle.shape.specs.Columns.{end-at}
-use Rattle.shape.specs.Shape.{Words, lengths-of, node-live, edge-live, axis-words, shape-of, lists}
+use Rattle.shape.specs.Shape.{Words, node-capacity, edge-capacity, node-live, edge-live, axis-words, shape-of, lists}
 use Rattle.shape.specs.Checked.{Checked}
-use Rattle.shape.specs.Kept.{Kept}
+use Rattle.shape.specs.Kept.{SameLengths, Kept}
 use Rattle.shape.specs.Writes.{Writes}
 use Rattle.shape.specs.Steps.{acted}
-
--- Every slice is as long as it was.
-pub record SameLengths (w v : Words) : Type 0 where
-  pub nodes : length (v .nodes) ≡ length (w .nodes)
-  pub edges : length (v .edges) ≡ length (w .edges)
-  pub live-nodes : length (v .live-nodes) ≡ length (w .live-nodes)
-  pub live-edges : length (v .live-edges) ≡ length (w .live-edges)
-  pub outgoing : length (v .outgoing) ≡ length (w .outgoing)
-  pub incoming : length (v .incoming) ≡ length (w .incoming)
-
-pub same-lengths : (w : Words) → SameLengths w w
-same-lengths w = record { nodes = refl; edges = refl; live-nodes = refl; live-edges = refl; outgoing = refl; incoming = refl }
-
-pub lengths-same : {w v : Words} → SameLengths w v → lengths-of v ≡ lengths-of w
-lengths-same same =
-    let n = same .nodes in
-    let e = same .edges in
-    let ln = same .live-nodes in
-    let le = same .live-edges in
-    let out = same .outgoing in
-    let inc = same .incoming in
-    λ i. record { capacities = record { nodes = n i; edges = e i }; live-nodes = ln i; live-edges = le i; outgoing = out i; incoming = inc i }
 
 -- The operation was done.
 pub record Acted (operation : Operation) (w v : Words) : Type 0 where
@@ -104,14 +82,14 @@ with-edges s counts = record { nodes = counts .nodes; edges = s }
 -- What it takes to add a node: a slot below the capacity.
 pub record NodeAddable (w : Words) : Type 0 where
   pub checked : Checked w
-  pub room : w .counts .nodes .bound < length (w .nodes)
+  pub room : w .counts .nodes .bound < node-capacity w
 
 -- What it takes to add an edge: both ends are live, and a slot below the capacity.
 pub record EdgeAddable (w : Words) (source target : ℕ) : Type 0 where
   pub checked : Checked w
   pub source-live : getD (node-live w) source false ≡ true
   pub target-live : getD (node-live w) target false ≡ true
-  pub room : w .counts .edges .bound < length (w .edges)
+  pub room : w .counts .edges .bound < edge-capacity w
 
 -- What it takes to set an edge's payload: the slot is below the bound; the edge may be removed.
 pub record PayloadSettable (w : Words) (edge : ℕ) : Type 0 where

@@ -9,41 +9,27 @@ use Rattle.plain.specs.declared.TraversalDirection.{TraversalDirection}
 use Rattle.plain.specs.declared.TraversalDirection.the-variants.{Outgoing, Incoming}
 use Rattle.plain.specs.declared.Record.{Record}
 use Rattle.plain.specs.Numbers.{NONE}
-use Rattle.plain.specs.Plain.{NodeSlot, EdgeSlot, no-node, no-edge, end-of, list-of}
+use Rattle.plain.specs.Plain.{end-of, list-of}
 use Rattle.plain.specs.Reads.{answered, yes-or-no, no-record, node-payload, edge-record, live-edge-record, contains-node, contains-edge}
 use Rattle.plain.specs.Laws.CallCases.{node-payload-absent, node-payload-there, edge-record-absent, edge-record-there, live-edge-record-absent, live-edge-record-removed, live-edge-record-there, contains-node-is, contains-edge-is}
 use Rattle.liveness.specs.FlagLaws.{length-flags}
-use Rattle.shape.specs.Shape.{Words, Axis, node-live, edge-live, axis-words, shape-of, plain-of, lists}
-use Rattle.shape.specs.Laws.Reading.{made-at, node-bound-is, edge-bound-is, node-flags-are, edge-flags-are, axis-is, axis-end}
+use Rattle.shape.specs.Shape.{Words, Axis, node-capacity, edge-capacity, node-live, edge-live, axis-words, shape-of, plain-of, lists}
+use Rattle.shape.specs.Laws.Reading.{node-bound-is, edge-bound-is, node-at, edge-at, node-flags-are, edge-flags-are, axis-is, axis-end}
 use Rattle.shape.specs.Checked.{Checked}
 use Rattle.adjacency.specs.Walk.{walk-in}
 use Rattle.adjacency.specs.StoreWalks.{list-is-walk}
 
 module _ (w : Words) where
-  -- the payload of a node slot
-  pub node-at : (x : ℕ) → x < w .counts .nodes .bound → getD (shape-of w .nodes) x no-node .payload ≡ getD (w .nodes) x 0
-  unfolding shape-of
-  node-at x l =
-      ap (λ (s : NodeSlot). s .payload)
-      (made-at (λ x. record { payload = getD (w .nodes) x 0; live = getD (node-live w) x false }) (w .counts .nodes .bound) x no-node l)
-
-  -- the payload of an edge slot
-  pub edge-at : (e : ℕ) → e < w .counts .edges .bound → getD (shape-of w .edges) e no-edge .payload ≡ getD (w .edges) e 0
-  unfolding shape-of
-  edge-at e l =
-      ap (λ (s : EdgeSlot). s .payload)
-      (made-at (λ e. record { payload = getD (w .edges) e 0; live = getD (edge-live w) e false }) (w .counts .edges .bound) e no-edge l)
-
   -- an end of an edge slot
   end-read : (d : TraversalDirection) (e : ℕ) → e < w .counts .edges .bound → end-of d (lists w) e ≡ getD (axis-words d w) e 0
   unfolding plain-of
-  end-read Outgoing e l = ap (λ (a : Axis). getD (a .ends) e 0) (axis-is w Outgoing) ∙ axis-end (w .outgoing) (length (w .edges)) (length (w .nodes)) (w .counts) e l
-  end-read Incoming e l = ap (λ (a : Axis). getD (a .ends) e 0) (axis-is w Incoming) ∙ axis-end (w .incoming) (length (w .edges)) (length (w .nodes)) (w .counts) e l
+  end-read Outgoing e l = ap (λ (a : Axis). getD (a .ends) e 0) (axis-is w Outgoing) ∙ axis-end (w .outgoing) (edge-capacity w) (node-capacity w) (w .counts) e l
+  end-read Incoming e l = ap (λ (a : Axis). getD (a .ends) e 0) (axis-is w Incoming) ∙ axis-end (w .incoming) (edge-capacity w) (node-capacity w) (w .counts) e l
 
 module _ {w : Words} (checked : Checked w) where
   -- an edge's end is a word of each direction
   pub end-in : (d : TraversalDirection) (e : ℕ) → e < w .counts .edges .bound → e < length (axis-words d w)
-  end-in d e l = omega (arith, checked .edges .bound-within, checked .axis d .sized .room)
+  end-in d e l = omega (arith, checked .edges .bounded .bound-within, checked .axis d .sized .room)
 
   -- a node's payload is refused past the bound
   pub payload-past : (x : ℕ) → w .counts .nodes .bound ≤ x → node-payload (lists w) x ≡ record { number = 5; value = NONE }
@@ -98,8 +84,8 @@ module _ {w : Words} (checked : Checked w) where
 
   -- the degree of a node, by the walk of its words
   pub degree-read : (d : TraversalDirection) (x : ℕ) → x < w .counts .nodes .bound → {live : Bool} → live ≡ getD (node-live w) x false → {answer : ℕ}
-      → answer ≡ length (walk-in (axis-words d w) (length (w .edges)) (length (w .nodes)) (w .counts) (w .live-edges) x live)
+      → answer ≡ length (walk-in (axis-words d w) (edge-capacity w) (node-capacity w) (w .counts) (w .live-edges) x live)
       → answer ≡ length (list-of d (lists w) x)
   degree-read d x below is walked =
-      walked ∙ ap (λ (b : Bool). length (walk-in (axis-words d w) (length (w .edges)) (length (w .nodes)) (w .counts) (w .live-edges) x b)) is
+      walked ∙ ap (λ (b : Bool). length (walk-in (axis-words d w) (edge-capacity w) (node-capacity w) (w .counts) (w .live-edges) x b)) is
       ∙ sym (ap length (list-is-walk w d x below))

@@ -2,13 +2,13 @@
 use Prim.Native.Nat.{ℕ, _≤_, _<_}
 use mathlib.Core.Path.{_≡_, refl, sym, subst, _∙_}
 use mathlib.Core.Bool.{Bool, true, false}
-use lib.ListN.{length, getD}
+use lib.ListN.{getD}
 use Rattle.plain.specs.declared.Operation.the-variants.{AddNode, AddEdge, RemoveEdge, RemoveNode, SetPayload}
 use Rattle.plain.specs.Numbers.{NONE}
 use Rattle.plain.specs.Laws.Cases.{add-node-full, add-node, add-edge-source-absent, add-edge-source-removed, add-edge-target-absent, add-edge-target-removed, add-edge-full, add-edge, remove-edge-absent, remove-edge-removed, remove-edge, remove-node-absent, remove-node-removed, remove-node, set-payload-absent, set-payload}
 use Rattle.plain.specs.Laws.Booleans.{below-or-not}
 use mathlib.Core.Logic.{⊎-elim}
-use Rattle.shape.specs.Shape.{Words, node-live}
+use Rattle.shape.specs.Shape.{Words, node-capacity, edge-capacity, node-live}
 use Rattle.shape.specs.Checked.{Checked}
 use Rattle.store.specs.Operations.{Acted, RemovedEdge, RemovedNode}
 use Rattle.strip.specs.Faults.{fault-of, by-fault}
@@ -17,10 +17,10 @@ use Rattle.strip.specs.Step.{StepOf, absent-node, live-node, removed-nod
 module _ {w : Words} (c : Checked w) where
   -- ---- add node
 
-  pub node-full : (v : ℕ) → length (w .nodes) ≤ w .counts .nodes .bound → StepOf (AddNode v) w w 10 NONE
+  pub node-full : (v : ℕ) → node-capacity w ≤ w .counts .nodes .bound → StepOf (AddNode v) w w 10 NONE
   node-full v h = stays c (add-node-full (rw (node-bound-of w) h)) refl
 
-  pub node-added : {v : Words} (payload : ℕ) → w .counts .nodes .bound < length (w .nodes) → Acted (AddNode payload) w v
+  pub node-added : {v : Words} (payload : ℕ) → w .counts .nodes .bound < node-capacity w → Acted (AddNode payload) w v
       → StepOf (AddNode payload) w v 0 (w .counts .nodes .bound)
   node-added {v} payload room a =
       subst (λ (n : ℕ). StepOf (AddNode payload) w v 0 n) (node-bound-of w) (done (add-node (rw (node-bound-of w) room)) refl refl a)
@@ -49,11 +49,11 @@ module _ {w : Words} (c : Checked w) where
     target-fault s =
         by-fault (node-live w) (w .counts .nodes .bound) target 5 6 (λ n. StepOf (AddEdge source target payload) w w n NONE) (target-absent s) (target-removed s)
 
-    pub edge-full : getD (node-live w) source false ≡ true → getD (node-live w) target false ≡ true → length (w .edges) ≤ w .counts .edges .bound
+    pub edge-full : getD (node-live w) source false ≡ true → getD (node-live w) target false ≡ true → edge-capacity w ≤ w .counts .edges .bound
         → StepOf (AddEdge source target payload) w w 10 NONE
     edge-full s t h = stays c (add-edge-full (live-node w source s) (live-node w target t) (rw (edge-bound-of w) h)) refl
 
-    pub edge-added : {v : Words} → getD (node-live w) source false ≡ true → getD (node-live w) target false ≡ true → w .counts .edges .bound < length (w .edges)
+    pub edge-added : {v : Words} → getD (node-live w) source false ≡ true → getD (node-live w) target false ≡ true → w .counts .edges .bound < edge-capacity w
         → Acted (AddEdge source target payload) w v → StepOf (AddEdge source target payload) w v 0 (w .counts .edges .bound)
     edge-added {v} s t room a =
         subst (λ (n : ℕ). StepOf (AddEdge source target payload) w v 0 n) (edge-bound-of w)

@@ -16,7 +16,7 @@ use Rattle.plain.specs.Laws.Cases.{redirect-edge-absent, redirect-edge-removed,
 use Rattle.plain.specs.Laws.ListLaws.{no-entries}
 use Rattle.plain.specs.Laws.Rank.{live-below}
 use Rattle.liveness.specs.FlagLaws.{length-flags}
-use Rattle.shape.specs.Shape.{Words, node-live, edge-live, axis-words, lists}
+use Rattle.shape.specs.Shape.{Words, node-capacity, edge-capacity, node-live, edge-live, axis-words, lists}
 use Rattle.shape.specs.Checked.{Checked}
 use Rattle.shape.specs.Laws.Reading.{plain-end}
 use Rattle.adjacency.specs.Walk.{walk-in}
@@ -84,7 +84,7 @@ module _ {w : Words} (c : Checked w) (d : TraversalDirection) (old new : ℕ) wh
         old-live =
             by-test (getD (node-live w) old false) (λ t. t)
             (λ t. absurd (some (list-is-walk w d old below
-            ∙ ap (λ (b : Bool). walk-in (axis-words d w) (length (w .edges)) (length (w .nodes)) (w .counts) (w .live-edges) old b) t)))
+            ∙ ap (λ (b : Bool). walk-in (axis-words d w) (edge-capacity w) (node-capacity w) (w .counts) (w .live-edges) old b) t)))
 
         pub edges-moved : {v : Words} {answer : ℕ} → getD (node-live w) new false ≡ true → MovedEdges d old new w answer v → StepOf (Move d old new) w v 0 answer
         edges-moved {v} on r =

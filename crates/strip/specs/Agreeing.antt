@@ -8,7 +8,6 @@ use Rattle.plain.specs.Laws.Booleans.{by-test}
 use Rattle.shape.specs.Shape.{Words}
 use Rattle.shape.specs.Fields.{SameFields}
 use Rattle.shape.specs.Laws.Agreeing.{Narrow, kept-fields, kept-both}
-use Rattle.store.specs.Operations.{lengths-same}
 use Rattle.strip.specs.Strip.{StripOf}
 
 -- A refused strip leaves every word; of one that is done the shape is fixed, and each mark, by what it was and whether the node has a run. That live words are
@@ -19,7 +18,7 @@ strip-outcomes-agree {number = number} a b v-narrow u-narrow =
     by-test (eqb number 0)
     (λ t. let done = eqb-true number 0 t in
     let too = b .numbered ∙ sym (a .numbered) ∙ done in
-    kept-fields (a .checked done) (b .checked too) (b .shape too ∙ sym (a .shape done)) (lengths-same (a .lengths)) (lengths-same (b .lengths)) (a .kept) (b .kept)
+    kept-fields (a .checked done) (b .checked too) (b .shape too ∙ sym (a .shape done)) (a .lengths) (b .lengths) (a .kept) (b .kept)
     v-narrow u-narrow)
     (λ t. let refused = eqb-false number 0 t in
     kept-both (a .refused-keeps refused) (b .refused-keeps (λ q. refused (a .numbered ∙ sym (b .numbered) ∙ q))))

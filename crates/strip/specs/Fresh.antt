@@ -1,5 +1,5 @@
 -- What making a store comes to. "A fresh store is empty with bounds 0." "Fresh: 13, nodes before edges, then 2."
-use Prim.Native.Nat.{ℕ, _+_, _*_, _≤_, _<_}
+use Prim.Native.Nat.{ℕ, _≤_}
 use mathlib.Core.Path.{_≡_, refl, sym, ap, subst, _∙_}
 use mathlib.Core.List.{List}
 use mathlib.Core.Logic.{inl}
@@ -14,14 +14,14 @@ use Rattle.plain.specs.Numbers.{above-limit}
 use Rattle.plain.specs.Lists.{all, from, count}
 use Rattle.plain.specs.Plain.{Plain}
 use Rattle.plain.specs.Step.{State}
-use Rattle.plain.specs.Memory.{axis-words as axis-room}
+use Rattle.plain.specs.Memory.{live-words, axis-words as axis-room}
 use Rattle.plain.specs.Calls.{fresh-state, limits, fresh-within, fresh}
+use Rattle.plain.specs.WellFormed.{WellFormed}
 use Rattle.plain.specs.Laws.Operating.{empty-well-formed}
-use Rattle.plain.specs.Laws.WellFormed.{WellFormed}
 use Rattle.memory.specs.Laws.{Roomy, roomy-for, fresh-reads}
 use Rattle.liveness.specs.Flags.{packed, live-flags}
 use Rattle.shape.specs.Shape.{Words, store, capacities, lengths-of, node-live, edge-live, axis-words, axis-of, shape-of, plain-of, is-compact}
-use Rattle.shape.specs.Checked.{LiveRight, AxisChecked, Checked}
+use Rattle.shape.specs.Checked.{AxisChecked, Checked, SlotsChecked}
 use Rattle.shape.specs.Steps.{state-of}
 
 -- the counts of a store with no slot
@@ -62,19 +62,19 @@ module _ (nodes edges live-nodes live-edges outgoing incoming : List ℕ) where
   both roomy Outgoing = bare roomy Outgoing (roomy .outgoing-room)
   both roomy Incoming = bare roomy Incoming (roomy .incoming-room)
 
-  no-slot : (words : List ℕ) → LiveRight words (live-flags words 0) empty-slots
+  no-slot : {c : ℕ} {words : List ℕ} → live-words c ≤ length words → SlotsChecked c words empty-slots
   unfolding packed live-flags from count
-  no-slot words = record { unused-clear = refl; live-right = refl }
+  no-slot long = record {
+    bounded = record { bound-within = omega arith; base-within = omega arith };
+    live-long = long;
+    live = record { unused-clear = refl; live-right = refl };
+  }
 
   -- memory that is long enough is a store
   a-store : Roomy limits (lengths-of memory) → Checked memory
   a-store roomy = record {
-    nodes = record { bound-within = omega arith; base-within = omega arith };
-    edges = record { bound-within = omega arith; base-within = omega arith };
-    live-nodes-long = roomy .live-nodes-room;
-    live-edges-long = roomy .live-edges-room;
-    nodes-live = no-slot live-nodes;
-    edges-live = no-slot live-edges;
+    nodes = no-slot (roomy .live-nodes-room);
+    edges = no-slot (roomy .live-edges-room);
     axis = both roomy;
     walks = subst (λ (p : Plain). WellFormed (capacities memory) p) (sym (ap (λ (s : State). s .lists) nothing)) (empty-well-formed (capacities memory));
   }

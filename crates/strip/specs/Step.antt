@@ -15,13 +15,13 @@ use Rattle.plain.specs.Laws.Cases.{Absent, Removed, Live, Case, comes-to, unkno
 use Rattle.liveness.specs.FlagLaws.{length-flags}
 use Rattle.shape.specs.Shape.{Words, capacities, node-live, edge-live, shape-of, plain-of, lists}
 use Rattle.shape.specs.Checked.{Checked}
-use Rattle.shape.specs.Kept.{Kept, kept-none}
+use Rattle.shape.specs.Kept.{Kept, kept-none, SameLengths}
 use Rattle.shape.specs.Writes.{Writes, nothing-written}
 use Rattle.shape.specs.Steps.{acted, acts, shape-step, state-of}
 use Rattle.shape.specs.Laws.CheckedShape.{checked-proper, checked-based}
 use Rattle.shape.specs.Laws.Running.{step-state}
 use Rattle.shape.specs.Laws.Reading.{node-flags-are, edge-flags-are, node-bound-is, edge-bound-is}
-use Rattle.store.specs.Operations.{Acted, SameLengths, same-lengths}
+use Rattle.store.specs.Operations.{Acted}
 
 -- what document 01 says of an operation on a store
 abbrev pub outcome : Words → Operation → Outcome
@@ -103,7 +103,7 @@ stays {operation} {w} c case idle =
       valued = ap (λ (o : Outcome). o .value) (sym same);
       shaped = sym (ap (λ (b : Bool). cond b (acted operation (shape-of w)) (shape-of w)) (ap (acts operation) same ∙ idle));
       checked = c;
-      lengths = same-lengths w;
+      lengths = refl;
       refused-keeps = λ h. refl;
       idle-keeps = λ h. refl;
       kept = kept-none w;

@@ -18,14 +18,13 @@ use Rattle.plain.specs.Laws.Strips.{run-snoc, answers-snoc, length-answers, len
 use Rattle.shape.specs.Shape.{Words, Shape, capacities, shape-of}
 use Rattle.shape.specs.Checked.{Checked}
 use Rattle.shape.specs.Rules.{broken}
-use Rattle.shape.specs.Kept.{Kept, Spared, kept-none, kept-through, kept-spared, nothing-spared}
+use Rattle.shape.specs.Kept.{Kept, Spared, kept-none, kept-through, kept-spared, nothing-spared, SameLengths, same-capacities, same-nodes, same-edges}
 use Rattle.shape.specs.Fields.{StripLeaves}
 use Rattle.shape.specs.Steps.{shape-step, shape-run, state-of}
 use Rattle.shape.specs.Laws.Running.{shape-run-snoc}
 use Rattle.shape.specs.Laws.NoFields.{kept-leaves}
 use Rattle.adjacency.specs.Reading.{write-one}
 use Rattle.validate.specs.Judging.{Judged}
-use Rattle.store.specs.Operations.{SameLengths, same-lengths}
 use Rattle.strip.specs.Step.{StepOf, outcome, step-lists}
 
 -- What it takes to run a strip: a checked store, and two words of answer for every operation.
@@ -97,23 +96,10 @@ two-more xs entry at n v is room =
 
 -- ---- the loop
 
-same-through : {w v u : Words} → SameLengths w v → SameLengths v u → SameLengths w u
-same-through a b = record {
-  nodes = b .nodes ∙ a .nodes;
-  edges = b .edges ∙ a .edges;
-  live-nodes = b .live-nodes ∙ a .live-nodes;
-  live-edges = b .live-edges ∙ a .live-edges;
-  outgoing = b .outgoing ∙ a .outgoing;
-  incoming = b .incoming ∙ a .incoming;
-}
-
-pub same-capacities : {w v : Words} → SameLengths w v → capacities v ≡ capacities w
-same-capacities same = ap₂ {C = Capacities} (λ (n e : ℕ). record { nodes = n; edges = e }) (same .nodes) (same .edges)
-
 -- before the first operation
 ran-none : {w : Words} {entry : List ℕ} → Checked w → Ran w [] entry w entry
 unfolding shape-run run answers
-ran-none {w} c = record { shape = refl; state = refl; checked = c; lengths = same-lengths w; kept = kept-none w; steps = no-step; answered = refl }
+ran-none {w} c = record { shape = refl; state = refl; checked = c; lengths = refl; kept = kept-none w; steps = no-step; answered = refl }
 
 steps-more : {w v u : Words} {ops : List Operation} {x : Operation} {number value : ℕ} → Steps w ops v → StepOf x v u number value → Steps w (ops ++ (x ∷ [])) u
 steps-more no-step does = one-step does no-step
@@ -134,8 +120,8 @@ module _ {w v u : Words} {ops : List Operation} {entry exit : List ℕ} {x : Ope
         ∙ ap₂ {C = State} (λ (caps : Capacities) (s : State). stepped caps s x) (same-capacities (ran .lengths)) (ran .state)
         ∙ sym (run-snoc (capacities w) (state-of (shape-of w)) ops x);
     checked = does .checked;
-    lengths = same-through (ran .lengths) (does .lengths);
-    kept = kept-through (ran .lengths .nodes) (ran .lengths .edges) (ran .kept) (does .kept);
+    lengths = does .lengths ∙ ran .lengths;
+    kept = kept-through (ran .lengths) (ran .kept) (does .kept);
     steps = steps-more (ran .steps) does;
     answered = ap (λ (l : List ℕ). set (set l at number) (at + 1) value) (ran .answered)
         ∙ two-more before entry at number value (is ∙ sym (length-answers (capacities w) (state-of (shape-of w)) ops)) room
@@ -211,7 +197,7 @@ module _ (w : Words) (words entry : List ℕ) where
         state = sym (ap (λ (s : Stripped). s .after) is ∙ same);
         shape = λ h. absurd (refused h);
         checked = λ h. absurd (refused h);
-        lengths = same-lengths w;
+        lengths = refl;
         steps = λ h. absurd (refused h);
         refused-keeps = λ h. refl;
         kept = kept-none w;
@@ -275,6 +261,6 @@ module _ (w : Words) (words entry : List ℕ) where
               refused-keeps = λ h. absurd (h refl);
               kept = ran .kept;
               spared = let c = ran .checked in
-                  kept-spared (omega (arith, c .nodes .bound-within, ran .lengths .nodes)) (omega (arith, c .edges .bound-within, ran .lengths .edges)) (ran .kept);
-              leaves = kept-leaves w v (ran .lengths .nodes) (ran .lengths .edges) (ran .kept);
+                  kept-spared (omega (arith, c .nodes .bounded .bound-within, same-nodes (ran .lengths))) (omega (arith, c .edges .bounded .bound-within, same-edges (ran .lengths))) (ran .kept);
+              leaves = kept-leaves w v (ran .lengths) (ran .kept);
             }

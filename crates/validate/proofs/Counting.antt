@@ -14,7 +14,7 @@ use Rattle.shape.specs.Rules.{live-agrees}
 
 module _ (words : List ℕ) (s : Slots) where
   -- the unused bits are 0, and this many are live
-  pub live-counted : (n : ℕ) → counted words (s .bound) ≡ Live n → eqb (s .live) n ≡ live-agrees words (live-flags words (s .bound)) s
+  pub live-counted : (n : ℕ) → counted words (s .bound) ≡ Live n → eqb (s .live) n ≡ live-agrees words s
   unfolding counted
   live-counted n h =
       by-test (packed words (s .bound))
@@ -22,7 +22,7 @@ module _ (words : List ℕ) (s : Slots) where
       (λ p. let k = rw p at h in let z : _≡_ {A = ℕ} 0 1 = cc in absurd (omega arith))
 
   -- an unused bit is set
-  pub live-unpacked : counted words (s .bound) ≡ Unpacked → false ≡ live-agrees words (live-flags words (s .bound)) s
+  pub live-unpacked : counted words (s .bound) ≡ Unpacked → false ≡ live-agrees words s
   unfolding counted
   live-unpacked h =
       by-test (packed words (s .bound))

@@ -4,7 +4,7 @@ use mathlib.Core.Path.{_≡_, refl, sym, ap, ap₂, _∙_}
 use mathlib.Core.Bool.{Bool, true, false, _&&_, _||_, not}
 use mathlib.Core.List.{List}
 use native.Mathlib.Omega.{arith}
-use lib.ListN.{length, getD}
+use lib.ListN.{getD}
 use lib.Dec.{eqb}
 use Rattle.plain.specs.declared.Answer.{Answer}
 use Rattle.plain.specs.declared.TraversalDirection.{TraversalDirection}
@@ -12,7 +12,7 @@ use Rattle.plain.specs.Calls.{check}
 use Rattle.plain.specs.Lists.{member, distinct, all, from}
 use Rattle.plain.specs.Plain.{Plain, node-bound, edge-bound, node-flags, edge-flags, list-of, end-of}
 use Rattle.shape.specs.Columns.{end-at}
-use Rattle.shape.specs.Shape.{Words, node-live, edge-live, axis-words, shape-of, plain-of}
+use Rattle.shape.specs.Shape.{Words, node-capacity, edge-capacity, node-live, edge-live, axis-words, shape-of, plain-of}
 use Rattle.shape.specs.Rules.{walks-right, rule-1}
 use Rattle.shape.specs.Laws.Judging.{Structured, sizes-sound, edges-live-sound, axis-sound}
 use Rattle.shape.specs.Laws.Reading.{plain-node-bound, plain-edge-bound, plain-node-flags, plain-edge-flags, plain-end}
@@ -57,10 +57,10 @@ module _ (w : Words) (d : TraversalDirection) where
   ws = axis-words d w
 
   abbrev ce : ℕ
-  ce = length (w .edges)
+  ce = edge-capacity w
 
   abbrev cn : ℕ
-  cn = length (w .nodes)
+  cn = node-capacity w
 
   -- rule 6 can be tested after rule 1
   pub runs-readable : rule-1 w ≡ true → RunsReadable ws ce cn (w .counts) (w .live-nodes) (w .live-edges)

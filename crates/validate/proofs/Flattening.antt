@@ -310,7 +310,7 @@ all-set (false ∷ bs) h i l = absurd (omega (arith, count-length (λ f. f) bs))
 
 module _ {ws : List ℕ} {ce cn : ℕ} {counts : Counts} {live-nodes live-edges : List ℕ} (r : WalksReadable ws ce cn counts live-nodes live-edges)
     (some : 0 < counts .nodes .bound) (living : counts .nodes .live ≡ counts .nodes .bound)
-    (live : LiveRight live-nodes (live-flags live-nodes (counts .nodes .bound)) (counts .nodes))
+    (live : LiveRight live-nodes (counts .nodes))
     (runs : all (λ i. ltb (cell ws (4 * ce + 4 * cn) i) 1) (from 0 (counts .nodes .bound)) ≡ true)
     (b : BaseFlat ws ce cn (counts .nodes .base) (counts .edges .base)) (d : DeltaFlat ws ce (counts .edges .base) (counts .edges .bound)) where
   abbrev nb : ℕ

@@ -10,7 +10,7 @@ use Rattle.plain.specs.declared.Slots.{Slots}
 use Rattle.plain.specs.declared.Counts.{Counts}
 use Rattle.plain.specs.declared.TraversalDirection.{TraversalDirection}
 use Rattle.shape.specs.Columns.{Sized}
-use Rattle.shape.specs.Shape.{Words, axis-words}
+use Rattle.shape.specs.Shape.{Words, node-capacity, edge-capacity, axis-words}
 use Rattle.shape.specs.Checked.{Bounded}
 use Rattle.shape.specs.Rules.{slots-right, rule-1}
 use Rattle.shape.specs.Laws.Judging.{SlotsRight, sizes-sound}
@@ -26,7 +26,7 @@ sizes-test counts nodes edges live-nodes live-edges outgoing incoming =
     && (slots-right edges live-edges (counts .edges) && (axis-long nodes edges outgoing && axis-long nodes edges incoming))
 
 pub sizes-rule : (w : Words)
-    → sizes-test (w .counts) (length (w .nodes)) (length (w .edges)) (length (w .live-nodes)) (length (w .live-edges)) (length (w .outgoing)) (length (w .incoming))
+    → sizes-test (w .counts) (node-capacity w) (edge-capacity w) (length (w .live-nodes)) (length (w .live-edges)) (length (w .outgoing)) (length (w .incoming))
     ≡ rule-1 w
 unfolding sizes-test rule-1
 sizes-rule w = refl
@@ -41,5 +41,5 @@ pub record AxisSized (ws : List ℕ) (ce cn : ℕ) (counts : Counts) : Type 0 wh
 pub live-there : {capacity words : ℕ} {s : Slots} → SlotsRight capacity words s → s .bound ≤ 64 * words
 live-there {capacity} {words} {s} h = let l = h .long in let b = h .bounded .bound-within in omega arith
 
-pub axis-sized : (w : Words) → rule-1 w ≡ true → (d : TraversalDirection) → AxisSized (axis-words d w) (length (w .edges)) (length (w .nodes)) (w .counts)
+pub axis-sized : (w : Words) → rule-1 w ≡ true → (d : TraversalDirection) → AxisSized (axis-words d w) (edge-capacity w) (node-capacity w) (w .counts)
 axis-sized w h d = let s = sizes-sound w h in record { sized = s .sized d; nodes = s .nodes .bounded; edges = s .edges .bounded }

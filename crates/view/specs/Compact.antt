@@ -17,7 +17,7 @@ use Rattle.plain.specs.Laws.Booleans.{by-test, eqb-same, refuted}
 use Rattle.plain.specs.Laws.ListLaws.{count-length}
 use Rattle.liveness.specs.FlagLaws.{length-flags}
 use Rattle.shape.specs.Columns.{cell, mark-at}
-use Rattle.shape.specs.Shape.{Words, axis-words, adjacency-in, axis-of, run-of, has-run, shape-of, is-compact}
+use Rattle.shape.specs.Shape.{Words, node-capacity, edge-capacity, axis-words, adjacency-in, axis-of, run-of, has-run, shape-of, is-compact}
 use Rattle.shape.specs.Checked.{Checked}
 use Rattle.shape.specs.Laws.Reading.{node-bound-is, edge-bound-is, node-flags-are, edge-flags-are, axis-is}
 use Rattle.validate.specs.Passing.{slots-agree}
@@ -79,16 +79,16 @@ base-edges-are w = refl
 
 module _ {w : Words} (k : Checked w) where
   -- an axis has a mark of each node
-  pub marks-there : (d : TraversalDirection) → MarksThere (axis-words d w) (length (w .edges)) (length (w .nodes)) (w .counts .nodes .bound)
+  pub marks-there : (d : TraversalDirection) → MarksThere (axis-words d w) (edge-capacity w) (node-capacity w) (w .counts .nodes .bound)
   marks-there d =
       let sized = k .axis d .sized in
-      record { edges-within = sized .edges-within; nodes-within = sized .nodes-within; room = omega (arith, sized .room, k .nodes .bound-within) }
+      record { edges-within = sized .edges-within; nodes-within = sized .nodes-within; room = omega (arith, sized .room, k .nodes .bounded .bound-within) }
 
   pub compact-parts : is-compact (shape-of w)
       ≡ (eqb (w .counts .nodes .base) (w .counts .nodes .bound) && (eqb (w .counts .edges .base) (w .counts .edges .bound)
       && (eqb (w .counts .nodes .live) (w .counts .nodes .bound) && (eqb (w .counts .edges .live) (w .counts .edges .bound)
-      && (unmarked (w .outgoing) (length (w .edges)) (length (w .nodes)) (w .counts .nodes .bound)
-      && unmarked (w .incoming) (length (w .edges)) (length (w .nodes)) (w .counts .nodes .bound))))))
+      && (unmarked (w .outgoing) (edge-capacity w) (node-capacity w) (w .counts .nodes .bound)
+      && unmarked (w .incoming) (edge-capacity w) (node-capacity w) (w .counts .nodes .bound))))))
   unfolding is-compact
   compact-parts =
       rw (
@@ -102,8 +102,8 @@ module _ {w : Words} (k : Checked w) where
         all-live,
         length-flags,
         length-flags,
-        ← k .nodes-live .live-right,
-        ← k .edges-live .live-right,
+        ← k .nodes .live .live-right,
+        ← k .edges .live .live-right,
         axis-is w Outgoing,
         axis-is w Incoming,
         no-runs,

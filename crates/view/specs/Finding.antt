@@ -3,7 +3,7 @@ use Prim.Native.Nat.{ℕ, _≤_, _<_}
 use mathlib.Core.Path.{_≡_, sym, ap, _∙_}
 use mathlib.Core.Bool.{Bool, false}
 use mathlib.Core.List.{List}
-use lib.ListN.{length, getD}
+use lib.ListN.{getD}
 use lib.Dec.{eqb}
 use Rattle.plain.specs.declared.TraversalDirection.the-variants.{Outgoing, Incoming}
 use Rattle.plain.specs.declared.Answer.{Answer}
@@ -12,7 +12,7 @@ use Rattle.plain.specs.Lists.{keep}
 use Rattle.plain.specs.Plain.{list-of, end-of}
 use Rattle.plain.specs.Reads.{answered, first-or-none, found, find}
 use Rattle.plain.specs.Laws.CallCases.{find-first-absent, find-second-absent, find-there}
-use Rattle.shape.specs.Shape.{Words, node-live, plain-of, lists}
+use Rattle.shape.specs.Shape.{Words, node-capacity, edge-capacity, node-live, plain-of, lists}
 use Rattle.shape.specs.Laws.Reading.{node-bound-is, plain-end}
 use Rattle.shape.specs.Laws.Taking.{keep-agree}
 use Rattle.adjacency.specs.Walk.{walk-in}
@@ -39,11 +39,11 @@ module _ {w : Words} {rule : ℕ} (j : Judged w rule) (zero : rule ≡ 0) (a b :
 
     module _ (second : b < w .counts .nodes .bound) {live : Bool} (is : live ≡ getD (node-live w) a false) where
       -- the first wanted entry of the words is that of the lists
-      first-is-found : first-of (ends-at (w .incoming) b) (walk-in (w .outgoing) (length (w .edges)) (length (w .nodes)) (w .counts) (w .live-edges) a live)
+      first-is-found : first-of (ends-at (w .incoming) b) (walk-in (w .outgoing) (edge-capacity w) (node-capacity w) (w .counts) (w .live-edges) a live)
           ≡ found (lists w) a b
       unfolding first-of
       first-is-found =
-          let walk = walk-in (w .outgoing) (length (w .edges)) (length (w .nodes)) (w .counts) (w .live-edges) a live in
+          let walk = walk-in (w .outgoing) (edge-capacity w) (node-capacity w) (w .counts) (w .live-edges) a live in
           let k = j .checked zero in
           let list : list-of Outgoing (lists w) a ≡ walk = rw is (list-is-walk w Outgoing a below) in
           let same = keep-agree (ends-at (w .incoming) b) (λ e. eqb (end-of Incoming (lists w) e) b) walk
@@ -51,7 +51,7 @@ module _ {w : Words} {rule : ℕ} (j : Judged w rule) (zero : rule ≡ 0) (a b :
           ap first-or-none (same ∙ ap (keep (λ e. eqb (end-of Incoming (lists w) e) b)) (sym list))
 
       -- both are below it
-      pub find-done : {e : ℕ} → e ≡ first-of (ends-at (w .incoming) b) (walk-in (w .outgoing) (length (w .edges)) (length (w .nodes)) (w .counts) (w .live-edges) a live)
+      pub find-done : {e : ℕ} → e ≡ first-of (ends-at (w .incoming) b) (walk-in (w .outgoing) (edge-capacity w) (node-capacity w) (w .counts) (w .live-edges) a live)
           → Answered w (λ w. find (lists w) a b) (record { number = 0; value = e })
       unfolding plain-of
       find-done is-first =

@@ -13,14 +13,13 @@ use Rattle.plain.specs.declared.Slots.{Slots}
 use Rattle.plain.specs.Numbers.{LIMIT}
 use Rattle.plain.specs.Lists.{written}
 use Rattle.plain.specs.Plain.{node-flags, edge-flags}
-use Rattle.plain.specs.Memory.{live-words}
 use Rattle.plain.specs.Reads.{Reply, listing, live-count, live-from, live-slots, node-slots, edge-slots}
 use Rattle.plain.specs.Laws.Booleans.{below-or-not}
 use Rattle.plain.specs.Laws.ListLaws.{count-length}
 use Rattle.plain.specs.Laws.Rank.{length-live-slots}
 use Rattle.liveness.specs.Flags.{live-flags, next-live}
 use Rattle.liveness.specs.Next.{listed-next, listed-end}
-use Rattle.shape.specs.Checked.{Bounded, LiveRight}
+use Rattle.shape.specs.Checked.{SlotsChecked}
 use Rattle.shape.specs.Shape.{Words, node-live, edge-live, plain-of, lists}
 use Rattle.shape.specs.Laws.Reading.{node-flags-are, edge-flags-are}
 use Rattle.adjacency.specs.Reading.{write-one}
@@ -109,53 +108,52 @@ module _ {flags : List Bool} {out₀ out : List ℕ} {n slot : ℕ} (i : Listing
 -- ---- the answers, of one kind of slot
 
 -- as many are listed as are live
-size : {words : List ℕ} {s : Slots} {flags : List Bool} → LiveRight words (live-flags words (s .bound)) s → flags ≡ live-flags words (s .bound)
+size : {capacity : ℕ} {words : List ℕ} {s : Slots} {flags : List Bool} → SlotsChecked capacity words s → flags ≡ live-flags words (s .bound)
     → s .live ≡ length (live-slots flags)
-size {flags = flags} right same = right .live-right ∙ ap live-count (sym same) ∙ sym (length-live-slots flags)
+size {flags = flags} k same = k .live .live-right ∙ ap live-count (sym same) ∙ sym (length-live-slots flags)
 
-module _ {words : List ℕ} {s : Slots} (right : LiveRight words (live-flags words (s .bound)) s) {entry : List ℕ} where
+module _ {capacity : ℕ} {words : List ℕ} {s : Slots} (k : SlotsChecked capacity words s) {entry : List ℕ} where
   -- there is room for as many as are live
-  ids-fit : {capacity : ℕ} → Bounded capacity s → capacity ≤ LIMIT → live-words capacity ≤ length words → s .live ≤ length entry
-      → LiveFits words (s .bound) entry
-  ids-fit bounded few long room = record {
-    long = omega (arith, bounded .bound-within);
-    few = omega (arith, bounded .bound-within);
-    fits = omega (arith, right .live-right);
+  ids-fit : capacity ≤ LIMIT → s .live ≤ length entry → LiveFits words (s .bound) entry
+  ids-fit few room = record {
+    long = omega (arith, k .bounded .bound-within, k .live-long);
+    few = omega (arith, k .bounded .bound-within);
+    fits = omega (arith, k .live .live-right);
   }
 
   module _ {w : Words} {rule : ℕ} (j : Judged w rule) (zero : rule ≡ 0) {read : Words → ℕ → Reply} (flags : List Bool)
       (is : read w (length entry) ≡ listing (length entry) (live-slots flags)) (same : flags ≡ live-flags words (s .bound)) where
     ids-short : length entry < s .live → Replied w read entry (record { number = 2; value = s .live }) entry
-    ids-short = list-short j zero (live-slots flags) is (size right same)
+    ids-short = list-short j zero (live-slots flags) is (size k same)
 
     ids-done : {exit : List ℕ} → s .live ≤ length entry → exit ≡ written (live-slots (live-flags words (s .bound))) entry
         → Replied w read entry (record { number = 0; value = s .live }) exit
     ids-done fits wrote =
-        list-done j zero (live-slots flags) is (size right same) fits (wrote ∙ ap (λ (flags : List Bool). written (live-slots flags) entry) (sym same))
+        list-done j zero (live-slots flags) is (size k same) fits (wrote ∙ ap (λ (flags : List Bool). written (live-slots flags) entry) (sym same))
 
 module _ {w : Words} {rule : ℕ} (j : Judged w rule) (zero : rule ≡ 0) {entry : List ℕ} where
   pub node-ids-fit : w .counts .nodes .live ≤ length entry → LiveFits (w .live-nodes) (w .counts .nodes .bound) entry
-  node-ids-fit = let k = j .checked zero in ids-fit (k .nodes-live) (k .nodes) (k .axis Outgoing .sized .nodes-within) (k .live-nodes-long)
+  node-ids-fit = let k = j .checked zero in ids-fit (k .nodes) (k .axis Outgoing .sized .nodes-within)
 
   pub node-ids-short : length entry < w .counts .nodes .live
       → Replied w (λ w room. node-slots (lists w) room) entry (record { number = 2; value = w .counts .nodes .live }) entry
   unfolding node-slots plain-of
-  node-ids-short = ids-short (j .checked zero .nodes-live) j zero (node-flags (lists w)) refl (node-flags-are w)
+  node-ids-short = ids-short (j .checked zero .nodes) j zero (node-flags (lists w)) refl (node-flags-are w)
 
   pub node-ids-done : {exit : List ℕ} → w .counts .nodes .live ≤ length entry → exit ≡ written (live-slots (node-live w)) entry
       → Replied w (λ w room. node-slots (lists w) room) entry (record { number = 0; value = w .counts .nodes .live }) exit
   unfolding node-slots plain-of
-  node-ids-done = ids-done (j .checked zero .nodes-live) j zero (node-flags (lists w)) refl (node-flags-are w)
+  node-ids-done = ids-done (j .checked zero .nodes) j zero (node-flags (lists w)) refl (node-flags-are w)
 
   pub edge-ids-fit : w .counts .edges .live ≤ length entry → LiveFits (w .live-edges) (w .counts .edges .bound) entry
-  edge-ids-fit = let k = j .checked zero in ids-fit (k .edges-live) (k .edges) (k .axis Outgoing .sized .edges-within) (k .live-edges-long)
+  edge-ids-fit = let k = j .checked zero in ids-fit (k .edges) (k .axis Outgoing .sized .edges-within)
 
   pub edge-ids-short : length entry < w .counts .edges .live
       → Replied w (λ w room. edge-slots (lists w) room) entry (record { number = 2; value = w .counts .edges .live }) entry
   unfolding edge-slots plain-of
-  edge-ids-short = ids-short (j .checked zero .edges-live) j zero (edge-flags (lists w)) refl (edge-flags-are w)
+  edge-ids-short = ids-short (j .checked zero .edges) j zero (edge-flags (lists w)) refl (edge-flags-are w)
 
   pub edge-ids-done : {exit : List ℕ} → w .counts .edges .live ≤ length entry → exit ≡ written (live-slots (edge-live w)) entry
       → Replied w (λ w room. edge-slots (lists w) room) entry (record { number = 0; value = w .counts .edges .live }) exit
   unfolding edge-slots plain-of
-  edge-ids-done = ids-done (j .checked zero .edges-live) j zero (edge-flags (lists w)) refl (edge-flags-are w)
+  edge-ids-done = ids-done (j .checked zero .edges) j zero (edge-flags (lists w)) refl (edge-flags-are w)

@@ -15,7 +15,7 @@ use Rattle.plain.specs.Laws.Cases.{Absent}
 use Rattle.plain.specs.Laws.CallCases.{walk-absent, walk-there, neighbors-absent, neighbors-there, degree-absent, degree-there}
 use Rattle.liveness.specs.FlagLaws.{length-flags}
 use Rattle.shape.specs.Columns.{end-at}
-use Rattle.shape.specs.Shape.{Words, node-live, axis-words, plain-of, lists}
+use Rattle.shape.specs.Shape.{Words, node-capacity, edge-capacity, node-live, axis-words, plain-of, lists}
 use Rattle.shape.specs.Checked.{Checked}
 use Rattle.shape.specs.Laws.Reading.{node-bound-is, node-flags-are}
 use Rattle.adjacency.specs.Walk.{walk-in, WalkFits}
@@ -157,27 +157,27 @@ module _ {w : Words} {d : TraversalDirection} {x : ℕ} {entry : List ℕ} {r : 
 
 module _ {w : Words} {d : TraversalDirection} {x : ℕ} {slots : List ℕ} (f : ListFits w d x slots) {live : Bool} (is : live ≡ getD (node-live w) x false) where
   -- the walk of the words, as the node's flag is read
-  walked : list-in d w x ≡ walk-in (axis-words d w) (length (w .edges)) (length (w .nodes)) (w .counts) (w .live-edges) x live
+  walked : list-in d w x ≡ walk-in (axis-words d w) (edge-capacity w) (node-capacity w) (w .counts) (w .live-edges) x live
   walked = rw is (list-is-walk w d x (f .below))
 
-  pub walk-fits : WalkFits (axis-words d w) (length (w .edges)) (length (w .nodes)) (w .counts) (w .live-edges) x live slots
+  pub walk-fits : WalkFits (axis-words d w) (edge-capacity w) (node-capacity w) (w .counts) (w .live-edges) x live slots
   walk-fits = record { walkable = checked-walkable (f .checked) d x (f .below); fits = rw (← walked) (f .fits) }
 
   -- an axis has a word of each edge
-  pub far-room : length (w .edges) ≤ length (axis-words (opposite d) w)
+  pub far-room : edge-capacity w ≤ length (axis-words (opposite d) w)
   far-room = omega (arith, f .checked .axis (opposite d) .sized .room)
 
   pub list-written : {exit : List ℕ}
-      → exit ≡ written (walk-in (axis-words d w) (length (w .edges)) (length (w .nodes)) (w .counts) (w .live-edges) x live) slots
+      → exit ≡ written (walk-in (axis-words d w) (edge-capacity w) (node-capacity w) (w .counts) (w .live-edges) x live) slots
       → exit ≡ written (list-in d w x) slots
   list-written wrote = wrote ∙ ap (λ (l : List ℕ). written l slots) (sym walked)
 
   pub far-ends-written : {exit : List ℕ}
-      → exit ≡ written (map (end-at (axis-words (opposite d) w)) (walk-in (axis-words d w) (length (w .edges)) (length (w .nodes)) (w .counts) (w .live-edges) x live)) slots
+      → exit ≡ written (map (end-at (axis-words (opposite d) w)) (walk-in (axis-words d w) (edge-capacity w) (node-capacity w) (w .counts) (w .live-edges) x live)) slots
       → exit ≡ written (far-ends-in d w x) slots
   far-ends-written wrote =
       let ends : far-ends-in d w x
-      ≡ map (end-at (axis-words (opposite d) w)) (walk-in (axis-words d w) (length (w .edges)) (length (w .nodes)) (w .counts) (w .live-edges) x live)
+      ≡ map (end-at (axis-words (opposite d) w)) (walk-in (axis-words d w) (edge-capacity w) (node-capacity w) (w .counts) (w .live-edges) x live)
       = rw is (far-ends (f .checked) d x (f .below)) in
       wrote ∙ ap (λ (l : List ℕ). written l slots) (sym ends)
 

@@ -20,11 +20,11 @@ module _ {w : Words} (k : Checked w) where
   -- the live slots are as many as the counts say
   live-nodes-are : w .counts .nodes .live ≡ live-nodes (lists w)
   unfolding plain-of
-  live-nodes-are = k .nodes-live .live-right ∙ ap live-count (sym (node-flags-are w))
+  live-nodes-are = k .nodes .live .live-right ∙ ap live-count (sym (node-flags-are w))
 
   live-edges-are : w .counts .edges .live ≡ live-edges (lists w)
   unfolding plain-of
-  live-edges-are = k .edges-live .live-right ∙ ap live-count (sym (edge-flags-are w))
+  live-edges-are = k .edges .live .live-right ∙ ap live-count (sym (edge-flags-are w))
 
   pub node-count-read : answered (w .counts .nodes .live) ≡ node-count (lists w)
   unfolding node-count

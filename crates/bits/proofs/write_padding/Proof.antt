@@ -2,7 +2,7 @@
 use native.Mathlib.Omega.{arith}
 use lib.Pow.{pow-pos}
 use borrow.Author.Needs.{needs}
-use Rattle.plain.specs.Laws.Packing.{padding}
+use Rattle.plain.specs.Bits.{padding}
 use Rattle.bits.proofs.write_padding.Statement.{statement}
 use Rattle.bits.proofs.write_padding.Tie as tie
 

@@ -16,7 +16,8 @@ use Rattle.plain.specs.Laws.Rank.{rank-end, live-slot-rank}
 use Rattle.plain.specs.Laws.Renumberings.{length-renumbering, lookup-renumbering}
 use Rattle.liveness.specs.Flags.{live-flags}
 use Rattle.liveness.specs.FlagLaws.{length-flags}
-use Rattle.shape.specs.Laws.Indexing.{Rewritten, rewritten-set, rewritten-all}
+use Rattle.shape.specs.Index.{Rewritten}
+use Rattle.shape.specs.Laws.Indexing.{rewritten-set, rewritten-all}
 use Rattle.compact.specs.Slots.{kept-word, rewritten-written}
 
 -- one word more at the front

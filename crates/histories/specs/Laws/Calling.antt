@@ -46,7 +46,7 @@ roomy-read l long bytes =
 -- the memory of a checked store is long enough
 pub checked-long : {w : Words} → Checked w → LongEnough (other-slices (lengths-of w))
 checked-long k =
-    slice-fits (k .live-nodes-long) (slice-fits (k .live-edges-long) (slice-fits (k .axis Outgoing .sized .room) (slice-fits (k .axis Incoming .sized .room) no-slice)))
+    slice-fits (k .nodes .live-long) (slice-fits (k .edges .live-long) (slice-fits (k .axis Outgoing .sized .room) (slice-fits (k .axis Incoming .sized .room) no-slice)))
 
 -- ---- the numbers that calls can answer
 

@@ -16,9 +16,10 @@ use Rattle.plain.specs.History.{Call, Strip, Compaction, Reading, call, called-
 use Rattle.plain.specs.Laws.Histories.{Within, call-refused}
 use Rattle.shape.specs.Shape.{Words, capacities, lengths-of, shape-of}
 use Rattle.shape.specs.Checked.{Checked}
+use Rattle.shape.specs.Kept.{same-capacities}
 use Rattle.shape.specs.Steps.{state-of}
 use Rattle.shape.specs.Laws.Judging.{checked-sound}
-use Rattle.strip.specs.Strip.{StripOf, stripped, same-capacities}
+use Rattle.strip.specs.Strip.{StripOf, stripped}
 use Rattle.compact.specs.Calls.{compacting-of, CompactOf}
 use Rattle.image.specs.Calls.{ReadOf}
 use Rattle.histories.specs.Runs.{Request, StripInto, CompactionInto, ReadingOf, call-of, Heard, Turn, Turned, stripped as by-strip, compacted as by-compaction, read as by-reading, Turns, no-turn, turn, Origin, first-state, Made, made-fresh, made-by-reading, Ran}

@@ -16,9 +16,9 @@ use Rattle.plain.specs.Plain.{Plain, NodeSlot, EdgeSlot, incidence, no-n
 use Rattle.plain.specs.Step.{Capacities}
 use Rattle.plain.specs.Compaction.{survivors, of-survivors, compacted, rank}
 use Rattle.plain.specs.Image.{image, parsed}
+use Rattle.plain.specs.WellFormed.{WellFormed}
 use Rattle.plain.specs.Laws.Booleans.{and-left}
 use Rattle.plain.specs.Laws.ListLaws.{map-unchanged}
-use Rattle.plain.specs.Laws.WellFormed.{WellFormed}
 use Rattle.plain.specs.Laws.Rank.{rank-all-live, live-all-live, live-count-all-live}
 use Rattle.plain.specs.Laws.Operating.{incident, edge-below, length-edge-flags}
 use Rattle.plain.specs.Laws.Compacting.{survivors-sound, compacted-well-formed, compacted-nodes-live, compacted-edges-live, compacted-node-bound, compacted-edge-bound, compacted-list, compacted-end, compacted-node-payload, compacted-edge-payload}

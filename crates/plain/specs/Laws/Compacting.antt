@@ -15,7 +15,7 @@ use Rattle.plain.specs.Plain.{Plain, Incidence, NodeSlot, EdgeSlot, no-n
 use Rattle.plain.specs.Step.{Capacities}
 use Rattle.plain.specs.Reads.{live-count, live-slots, live-nodes, live-edges}
 use Rattle.plain.specs.Compaction.{rank, EdgeRecord, Survivors, surviving-edge, surviving-list, survivors, kept-node, kept-edge, source-of, target-of, of-survivors, compacted}
-use Rattle.plain.specs.Laws.WellFormed.{Incident, WellFormed, Fitted, Sound}
+use Rattle.plain.specs.WellFormed.{Incident, WellFormed, Fitted, Sound}
 use Rattle.plain.specs.Laws.Booleans.{same-truth, and-left, and-right, both-true}
 use Rattle.plain.specs.Laws.ListLaws.{getD-map-each, member-mapped, member-source, member-getD-map, distinct-map, map-same, map-unchanged, map-getD, map-replicate, count-length, member-below}
 use Rattle.plain.specs.Laws.Operating.{incident}

@@ -10,7 +10,7 @@ use lib.Dec.{eqb}
 use borrow.Author.Tests.{eq-eqb, eqb-true, eqb-false}
 use Rattle.plain.specs.Lists.{member, without, distinct, append-at, delete-at}
 use Rattle.plain.specs.Plain.{Incidence, widened, attached, detached, redirected, moved}
-use Rattle.plain.specs.Laws.WellFormed.{Incident}
+use Rattle.plain.specs.WellFormed.{Incident}
 use Rattle.plain.specs.Laws.Booleans.{by-test, true-false, and-left, and-right, and-false, or-true, or-false, eqb-comm}
 use Rattle.plain.specs.Laws.ListLaws.{member-append, distinct-without}
 use Rattle.plain.specs.Laws.Rank.{live-below}

@@ -13,10 +13,10 @@ use Rattle.plain.specs.Lists.{member, keep}
 use Rattle.plain.specs.Plain.{Plain, edge-flags, list-of, end-of}
 use Rattle.plain.specs.Step.{Capacities}
 use Rattle.plain.specs.Reads.{live-slots, found}
+use Rattle.plain.specs.WellFormed.{WellFormed}
 use Rattle.plain.specs.Laws.Booleans.{true-false}
 use Rattle.plain.specs.Laws.ListLaws.{member-first, member-keep}
 use Rattle.plain.specs.Laws.Rank.{member-live-slots}
-use Rattle.plain.specs.Laws.WellFormed.{WellFormed}
 
 -- the live edges from node a to node b, in slot order
 unfoldable pub edges-between : Plain → ℕ → ℕ → List ℕ

@@ -11,7 +11,7 @@ use borrow.Author.Tests.{eqb-true, eq-eqb, ltb-true, lt-ltb}
 use Rattle.plain.specs.Lists.{member, distinct, from, keep, all, count, joined}
 use Rattle.plain.specs.Plain.{Incidence}
 use Rattle.plain.specs.Image.{list-lengths, at-their-nodes, lists-right}
-use Rattle.plain.specs.Laws.WellFormed.{Incident, Fitted}
+use Rattle.plain.specs.WellFormed.{Incident, Fitted}
 use Rattle.plain.specs.Laws.Booleans.{true-false, same-truth, and-left, and-right, both-true, eqb-comm}
 use Rattle.plain.specs.Laws.ListLaws.{getD-map, map-same, map-getD, all-of, all-member, member-keep, distinct-keep, length-keep, count-indices, length-from, getD-from, member-below, distinct-from, distinct-length, distinct-full, member-joined, joined-member, distinct-at, distinct-joined}
 use Rattle.plain.specs.Laws.Rank.{live-all-live}

@@ -18,7 +18,7 @@ use Rattle.plain.specs.Image.{image, broken-image, nodes-in, edges-in, p
 use Rattle.plain.specs.Memory.{first-short, exact}
 use Rattle.plain.specs.Calls.{strip, fresh-state, limits, compacting, compaction, compaction-slices, reading-slices, read-image, read-state}
 use Rattle.plain.specs.History.{Call, Strip, Compaction, Reading, call, history-from, history, closing-image}
-use Rattle.plain.specs.Laws.WellFormed.{WellFormed}
+use Rattle.plain.specs.WellFormed.{WellFormed}
 use Rattle.plain.specs.Laws.Booleans.{by-test, below-or-not}
 use Rattle.plain.specs.Laws.Operating.{empty-well-formed}
 use Rattle.plain.specs.Laws.Stepping.{run-well-formed, Words, operations-fitting}

@@ -10,12 +10,12 @@ use lib.Dec.{ltb, lit<}
 use lib.Pow.{pow-pos}
 use Rattle.plain.specs.Lists.{joined, all, distinct}
 use Rattle.plain.specs.Compaction.{Survivors, source-of, target-of}
-use Rattle.plain.specs.Bits.{bits-of, bits, field-at, fields-at, bytes-for, least-width}
+use Rattle.plain.specs.Bits.{bits-of, bits, field-at, fields-at, bytes-for, padding, least-width}
 use Rattle.plain.specs.Image.{image-bits, image, nodes-in, edges-in, edges-start, outs-start, ins-start, image-size, records-at, cut, list-lengths, parsed, at-their-nodes, lists-right, broken-image}
-use Rattle.plain.specs.Laws.WellFormed.{Fitted, Sound}
+use Rattle.plain.specs.WellFormed.{Fitted, Sound}
 use Rattle.plain.specs.Laws.Below.{Below, below-mono, below-at, below-within, below-of, below-all}
 use Rattle.plain.specs.Laws.Bits.{length-bits-of, length-fields-at, below-fields-at}
-use Rattle.plain.specs.Laws.Packing.{Stands, padding, stands-front, stands-rest, stands-append, stands-field, field-stands, stands-row, fields-stand, stands-whole, length-pack, below-pack, pack-stands, packed}
+use Rattle.plain.specs.Laws.Packing.{Stands, stands-front, stands-rest, stands-append, stands-field, field-stands, stands-row, fields-stand, stands-whole, length-pack, below-pack, pack-stands, packed}
 use Rattle.plain.specs.Laws.Width.{width-holds}
 use Rattle.plain.specs.Laws.Cutting.{sum, length-joined, cut-joined, joined-cut, lengths-cut, sum-list-lengths}
 use Rattle.plain.specs.Laws.ImageBits.{payload-of, Parts, parts, whole, length-image-bits, below-image-bits, length-records-at, below-payloads-at, stands-records, records-stand}

@@ -13,7 +13,7 @@ use Rattle.plain.specs.declared.TraversalDirection.the-variants.{Outgoin
 use Rattle.plain.specs.Lists.{member, without, distinct}
 use Rattle.plain.specs.Plain.{Plain, NodeSlot, EdgeSlot, Incidence, incidence, with-incidence, no-node, no-edge, killed-node, killed-edge, node-bound, edge-bound, node-flags, edge-flags, list-of, end-of, attached, detached, redirected, moved, empty, node-added, edge-added, edge-removed, edges-removed, node-removed, payload-set}
 use Rattle.plain.specs.Step.{Capacities}
-use Rattle.plain.specs.Laws.WellFormed.{Incident, WellFormed}
+use Rattle.plain.specs.WellFormed.{Incident, WellFormed}
 use Rattle.plain.specs.Laws.Booleans.{by-test, true-false, and-left, and-right, and-false, and-true, or-true, or-other, refuted}
 use Rattle.plain.specs.Laws.Deleting.{getD-set, getD-snoc, map-set, without-all}
 use Rattle.plain.specs.Laws.ListLaws.{map-snoc, member-append, without-absent}

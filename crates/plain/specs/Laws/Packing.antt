@@ -6,7 +6,7 @@ use native.Mathlib.Omega.{arith}
 use native.Mathlib.Nat.{zero-add, suc-add, mod-eq-of-lt, zero-div}
 use lib.ListN.{length, take, drop, replicate, length-append, length-take, length-drop, length-replicate}
 use lib.Seq.{take-at, take-add, take-take, take-all, take-length, take-nil, drop-drop, take-append-seam, take-append-add, drop-append-seam}
-use Rattle.plain.specs.Bits.{bits-of, value-of, bits, field-at, fields-at, row, bytes-for, bytes-of, pack}
+use Rattle.plain.specs.Bits.{bits-of, value-of, bits, field-at, fields-at, row, bytes-for, padding, bytes-of, pack}
 use Rattle.plain.specs.Laws.Below.{Below, none, more, below-append, below-take, below-drop}
 use Rattle.plain.specs.Laws.Bits.{length-bits-of, bits-of-split, below-bits-of, value-of-bits-of, value-of-lt, bits-of-value-of, length-bits, below-bits, bits-injective}
 
@@ -116,10 +116,6 @@ bits-bytes-of (suc n) {bs} s h =
 pub length-pack : (bs : List ℕ) → length (pack bs) ≡ bytes-for (length bs)
 unfolding pack
 length-pack bs = length-bytes-of (bytes-for (length bs)) (bs ++ replicate 7 0)
-
--- the bits of n bits' last byte that are left over
-abbrev pub padding : ℕ → ℕ
-padding n = 8 * bytes-for n - n
 
 zeros : (p : ℕ) → p ≤ 7 → take p (replicate 7 0) ≡ bits-of p 0
 unfolding bits-of

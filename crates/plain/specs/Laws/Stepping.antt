@@ -12,7 +12,7 @@ use Rattle.plain.specs.declared.Operation.the-variants.{AddNode, AddEdge
 use Rattle.plain.specs.Plain.{Plain, list-of, node-slot, edge-slot, end-of, node-bound, edge-bound}
 use Rattle.plain.specs.Operations.{unused, decoded, operations}
 use Rattle.plain.specs.Step.{Capacities, Outcome, State, refused, unless, removing, moving, live-node, live-edge, node-fault, node-missing, edge-fault, edge-missing, room-fault, self-fault, step, stepped, run}
-use Rattle.plain.specs.Laws.WellFormed.{WellFormed}
+use Rattle.plain.specs.WellFormed.{WellFormed}
 use Rattle.plain.specs.Laws.Cases.{Case, case-of, add-node-full, add-node, add-edge-source-absent, add-edge-source-removed, add-edge-target-absent, add-edge-target-removed, add-edge-full, add-edge, remove-edge-absent, remove-edge-removed, remove-edge, remove-node-absent, remove-node-removed, remove-node, redirect-edge-absent, redirect-edge-removed, redirect-node-absent, redirect-node-removed, redirect-same, redirect, move-onto-itself, move-old-absent, move-nothing, move-new-absent, move-new-removed, move, set-payload-absent, set-payload, unknown}
 use Rattle.plain.specs.Laws.Operating.{node-added-well-formed, edge-added-well-formed, edge-removed-well-formed, node-removed-well-formed, redirected-well-formed, moved-well-formed, payload-set-well-formed, edge-below}
 

@@ -15,22 +15,21 @@ use Rattle.plain.specs.declared.TraversalDirection.{TraversalDirection}
 use Rattle.plain.specs.declared.Slots.{Slots}
 use Rattle.plain.specs.declared.Counts.{Counts}
 use Rattle.plain.specs.Lists.{member, from}
-use Rattle.plain.specs.Plain.{NodeSlot, EdgeSlot}
+use Rattle.plain.specs.Plain.{no-node, no-edge}
 use Rattle.plain.specs.Reads.{live-count}
-use Rattle.plain.specs.Memory.{Lengths}
 use Rattle.plain.specs.Laws.Booleans.{by-test, below-or-not}
 use Rattle.plain.specs.Laws.ListLaws.{length-from, getD-from, getD-map}
 use Rattle.liveness.specs.Flags.{live-flags, packed}
 use Rattle.liveness.specs.FlagLaws.{words-same}
 use Rattle.shape.specs.Columns.{cell, adjacency-at, last-at, first-at, tail-at, count-at, mark-at, offset-at}
 use Rattle.shape.specs.Chains.{In, Seg, Line, Run, Ring}
-use Rattle.shape.specs.Shape.{Words, lengths-of, axis-words, node-live, edge-live, base-of, run-list, run-of, ring-of, Adjacency, Axis, Shape, adjacency-in, axis-in, axis-of, shape-of, no-adjacency, node-flags-of, edge-flags-of}
-use Rattle.shape.specs.Checked.{Indexed, Index, AxisChecked, Checked}
-use Rattle.shape.specs.Kept.{Mark, NewMark, AxisKept, Kept}
+use Rattle.shape.specs.Shape.{Words, node-capacity, edge-capacity, axis-words, node-live, edge-live, base-of, run-list, run-of, ring-of, Adjacency, Axis, Shape, adjacency-in, axis-in, axis-of, shape-of, no-adjacency, node-flags-of, edge-flags-of}
+use Rattle.shape.specs.Checked.{SlotsChecked, Indexed, Index, AxisChecked, Checked}
+use Rattle.shape.specs.Kept.{SameLengths, Mark, NewMark, AxisKept, Kept, same-nodes, same-edges}
 use Rattle.shape.specs.Fields.{Column, ends, adjacency, next, links, last, first, tail, count, marks, offsets, begins, AxisField, Place, node-payload, edge-payload, node-bits, edge-bits, axis-word, word-at, Field, SameFields}
 use Rattle.shape.specs.Laws.Chains.{in-none, in-snoc, line-last, run-line, run-empty}
 use Rattle.shape.specs.Laws.Frames.{run-list-unmarked, run-of-unmarked}
-use Rattle.shape.specs.Laws.Reading.{made-at, node-bound-is, edge-bound-is, node-flags-are, edge-flags-are, axis-is, axis-end, axis-adjacency}
+use Rattle.shape.specs.Laws.Reading.{node-bound-is, edge-bound-is, node-at, edge-at, node-flags-are, edge-flags-are, axis-is, axis-end, axis-adjacency}
 
 -- ---- lists that are linked
 
@@ -260,18 +259,20 @@ pub record Narrow (w : Words) : Type 0 where
   pub nodes : (i : ℕ) → 64 * i < w .counts .nodes .bound → getD (w .live-nodes) i 0 < 2 ^ 64
   pub edges : (i : ℕ) → 64 * i < w .counts .edges .bound → getD (w .live-edges) i 0 < 2 ^ 64
 
--- payloads, as the shape has them
-node-word : (w : Words) (x : ℕ) → x < w .counts .nodes .bound → getD (shape-of w .nodes) x (record { payload = 0; live = false }) .payload ≡ getD (w .nodes) x 0
-unfolding shape-of
-node-word w x h =
-    ap (λ (s : NodeSlot). s .payload)
-    (made-at (λ x. record { payload = getD (w .nodes) x 0; live = getD (node-live w) x false }) (w .counts .nodes .bound) x (record { payload = 0; live = false }) h)
+-- one kind of slot: counts with one bound and one base and equal flags are equal
+slots-same : {c c' : ℕ} {words words' : List ℕ} {s s' : Slots} → SlotsChecked c words s → SlotsChecked c' words' s' → s' .bound ≡ s .bound → s' .base ≡ s .base
+    → live-flags words' (s' .bound) ≡ live-flags words (s .bound) → s' ≡ s
+slots-same a b bound base flags =
+    let live = b .live .live-right ∙ ap live-count flags ∙ sym (a .live .live-right) in
+    λ i. record { bound = bound i; base = base i; live = live i }
 
-edge-word : (w : Words) (e : ℕ) → e < w .counts .edges .bound → getD (shape-of w .edges) e (record { payload = 0; live = false }) .payload ≡ getD (w .edges) e 0
-unfolding shape-of
-edge-word w e h =
-    ap (λ (s : EdgeSlot). s .payload)
-    (made-at (λ e. record { payload = getD (w .edges) e 0; live = getD (edge-live w) e false }) (w .counts .edges .bound) e (record { payload = 0; live = false }) h)
+-- and so are its live words, where they hold a bit of a slot
+bits-same : {c c' : ℕ} {words words' : List ℕ} {s s' : Slots} → SlotsChecked c words s → SlotsChecked c' words' s' → s' ≡ s
+    → live-flags words' (s' .bound) ≡ live-flags words (s .bound) → (i : ℕ) → 64 * i < s .bound → getD words' i 0 < 2 ^ 64 → getD words i 0 < 2 ^ 64
+    → getD words' i 0 ≡ getD words i 0
+bits-same {words = words} {words' = words'} {s = s} a b same flags i h narrow' narrow =
+    words-same words' words (s .bound) (ap (λ (t : Slots). live-flags words' (t .bound)) (sym same) ∙ flags)
+    (ap (λ (t : Slots). packed words' (t .bound)) (sym same) ∙ b .live .unused-clear) (a .live .unused-clear) i h narrow' narrow
 
 module _ {w v : Words} (a : Checked w) (b : Checked v) (same : shape-of v ≡ shape-of w) where
   -- flags
@@ -284,80 +285,64 @@ module _ {w v : Words} (a : Checked w) (b : Checked v) (same : shape-of v ≡ sh
   nodes-same : v .counts .nodes ≡ w .counts .nodes
   unfolding shape-of
   nodes-same =
-      let bound = sym (node-bound-is v) ∙ ap (λ (s : Shape). length (s .nodes)) same ∙ node-bound-is w in
-      let base = ap (λ (s : Shape). s .base-nodes) same in
-      let live = b .nodes-live .live-right ∙ ap live-count node-flags-same ∙ sym (a .nodes-live .live-right) in
-      λ i. record { bound = bound i; base = base i; live = live i }
+      slots-same (a .nodes) (b .nodes) (sym (node-bound-is v) ∙ ap (λ (s : Shape). length (s .nodes)) same ∙ node-bound-is w) (ap (λ (s : Shape). s .base-nodes) same)
+      node-flags-same
 
   edges-same : v .counts .edges ≡ w .counts .edges
   unfolding shape-of
   edges-same =
-      let bound = sym (edge-bound-is v) ∙ ap (λ (s : Shape). length (s .edges)) same ∙ edge-bound-is w in
-      let base = ap (λ (s : Shape). s .base-edges) same in
-      let live = b .edges-live .live-right ∙ ap live-count edge-flags-same ∙ sym (a .edges-live .live-right) in
-      λ i. record { bound = bound i; base = base i; live = live i }
+      slots-same (a .edges) (b .edges) (sym (edge-bound-is v) ∙ ap (λ (s : Shape). length (s .edges)) same ∙ edge-bound-is w) (ap (λ (s : Shape). s .base-edges) same)
+      edge-flags-same
 
   -- checked stores of one shape have the same counts
   pub counts-same : v .counts ≡ w .counts
   counts-same = let n = nodes-same in let e = edges-same in λ i. record { nodes = n i; edges = e i }
 
-  module _ (long : lengths-of v ≡ lengths-of w) where
-    nodes-long : length (v .nodes) ≡ length (w .nodes)
-    nodes-long = ap (λ (l : Lengths). l .capacities .nodes) long
+  module _ (long : SameLengths w v) where
+    nodes-long : node-capacity v ≡ node-capacity w
+    nodes-long = same-nodes long
 
-    edges-long : length (v .edges) ≡ length (w .edges)
-    edges-long = ap (λ (l : Lengths). l .capacities .edges) long
+    edges-long : edge-capacity v ≡ edge-capacity w
+    edges-long = same-edges long
 
     -- both axes, by the lengths and counts of w
     axis-same : (d : TraversalDirection)
-        → axis-of (axis-words d v) (length (w .edges)) (length (w .nodes)) (w .counts) ≡ axis-of (axis-words d w) (length (w .edges)) (length (w .nodes)) (w .counts)
+        → axis-of (axis-words d v) (edge-capacity w) (node-capacity w) (w .counts) ≡ axis-of (axis-words d w) (edge-capacity w) (node-capacity w) (w .counts)
     axis-same d =
-        ap (λ (c : Counts). axis-of (axis-words d v) (length (w .edges)) (length (w .nodes)) c) (sym counts-same)
+        ap (λ (c : Counts). axis-of (axis-words d v) (edge-capacity w) (node-capacity w) c) (sym counts-same)
         ∙ ap₂ (λ (ce cn : ℕ). axis-of (axis-words d v) ce cn (v .counts)) (sym edges-long) (sym nodes-long)
         ∙ sym (axis-is v d) ∙ ap (axis-in d) same ∙ axis-is w d
 
-    axis-checked : (d : TraversalDirection) → AxisChecked (axis-words d v) (length (w .edges)) (length (w .nodes)) (w .counts) (node-live v) (edge-live v)
+    axis-checked : (d : TraversalDirection) → AxisChecked (axis-words d v) (edge-capacity w) (node-capacity w) (w .counts) (node-live v) (edge-live v)
     axis-checked d =
-        subst (λ (c : Counts). AxisChecked (axis-words d v) (length (w .edges)) (length (w .nodes)) c (node-live v) (edge-live v)) counts-same
+        subst (λ (c : Counts). AxisChecked (axis-words d v) (edge-capacity w) (node-capacity w) c (node-live v) (edge-live v)) counts-same
         (subst₂ (λ (ce cn : ℕ). AxisChecked (axis-words d v) ce cn (v .counts) (node-live v) (edge-live v)) edges-long nodes-long (b .axis d))
 
     -- a node has a run in both or in neither
     pub runs-same : (d : TraversalDirection) (x : ℕ) → x < w .counts .nodes .bound
-        → run-of (axis-words d v) (length (w .edges)) (length (w .nodes)) x ≡ run-of (axis-words d w) (length (w .edges)) (length (w .nodes)) x
-    runs-same d = same-run (a .nodes .base-within) (a .axis d) (axis-checked d) (axis-same d)
+        → run-of (axis-words d v) (edge-capacity w) (node-capacity w) x ≡ run-of (axis-words d w) (edge-capacity w) (node-capacity w) x
+    runs-same d = same-run (a .nodes .bounded .base-within) (a .axis d) (axis-checked d) (axis-same d)
 
     -- with equal marks they have the same fields
     pub shape-fields : Narrow w → Narrow v
         → ((d : TraversalDirection) (x : ℕ) → x < w .counts .nodes .bound
-        → mark-at (axis-words d v) (length (w .edges)) (length (w .nodes)) x ≡ mark-at (axis-words d w) (length (w .edges)) (length (w .nodes)) x)
+        → mark-at (axis-words d v) (edge-capacity w) (node-capacity w) x ≡ mark-at (axis-words d w) (edge-capacity w) (node-capacity w) x)
         → SameFields w v
     shape-fields w-narrow v-narrow marked-same = record { counts = counts-same; lengths = long; words = each }
       where
-        bound-same : v .counts .nodes .bound ≡ w .counts .nodes .bound
-        bound-same = ap (λ (s : Slots). s .bound) nodes-same
-
-        edge-bound-same : v .counts .edges .bound ≡ w .counts .edges .bound
-        edge-bound-same = ap (λ (s : Slots). s .bound) edges-same
-
         each : (p : Place) → Field w p → word-at v p ≡ word-at w p
         each (node-payload x) h =
-            sym (node-word v x (rw bound-same h)) ∙ ap (λ (s : Shape). getD (s .nodes) x (record { payload = 0; live = false }) .payload) same ∙ node-word w x h
+            sym (node-at v x (rw nodes-same h)) ∙ ap (λ (s : Shape). getD (s .nodes) x no-node .payload) same ∙ node-at w x h
         each (edge-payload e) h =
-            sym (edge-word v e (rw edge-bound-same h)) ∙ ap (λ (s : Shape). getD (s .edges) e (record { payload = 0; live = false }) .payload) same ∙ edge-word w e h
+            sym (edge-at v e (rw edges-same h)) ∙ ap (λ (s : Shape). getD (s .edges) e no-edge .payload) same ∙ edge-at w e h
         each (node-bits i) h =
-            words-same (v .live-nodes) (w .live-nodes) (w .counts .nodes .bound)
-            (ap (λ (n : ℕ). live-flags (v .live-nodes) n) (sym bound-same) ∙ node-flags-same)
-            (ap (λ (n : ℕ). packed (v .live-nodes) n) (sym bound-same) ∙ b .nodes-live .unused-clear) (a .nodes-live .unused-clear) i h
-            (v-narrow .nodes i (rw bound-same h)) (w-narrow .nodes i h)
+            bits-same (a .nodes) (b .nodes) nodes-same node-flags-same i h (v-narrow .nodes i (rw nodes-same h)) (w-narrow .nodes i h)
         each (edge-bits i) h =
-            words-same (v .live-edges) (w .live-edges) (w .counts .edges .bound)
-            (ap (λ (n : ℕ). live-flags (v .live-edges) n) (sym edge-bound-same) ∙ edge-flags-same)
-            (ap (λ (n : ℕ). packed (v .live-edges) n) (sym edge-bound-same) ∙ b .edges-live .unused-clear) (a .edges-live .unused-clear) i h
-            (v-narrow .edges i (rw edge-bound-same h)) (w-narrow .edges i h)
+            bits-same (a .edges) (b .edges) edges-same edge-flags-same i h (v-narrow .edges i (rw edges-same h)) (w-narrow .edges i h)
         each (axis-word d c x) f =
-            subst₂ (λ (ce cn : ℕ). cell (axis-words d v) (begins ce cn c) x ≡ cell (axis-words d w) (begins (length (w .edges)) (length (w .nodes)) c) x)
+            subst₂ (λ (ce cn : ℕ). cell (axis-words d v) (begins ce cn c) x ≡ cell (axis-words d w) (begins (edge-capacity w) (node-capacity w) c) x)
             (sym edges-long) (sym nodes-long)
-            (fields-agree (a .nodes .base-within) (a .axis d) (axis-checked d) (axis-same d) (marked-same d) c x f)
+            (fields-agree (a .nodes .bounded .base-within) (a .axis d) (axis-checked d) (axis-same d) (marked-same d) c x f)
 
 -- outcomes that are both the words at entry have the same fields
 pub kept-both : {w v u : Words} → v ≡ w → u ≡ w → SameFields v u
@@ -378,39 +363,39 @@ new-marks-agree (inr p) (inl q) there back = let none = back q in absurd (omega 
 new-marks-agree (inr p) (inr q) there back = q ∙ sym p
 
 -- checked stores of one shape that both keep what a strip keeps of a store have the same fields
-module _ {w v u : Words} (a : Checked v) (b : Checked u) (same : shape-of u ≡ shape-of v) (v-long : lengths-of v ≡ lengths-of w) (u-long : lengths-of u ≡ lengths-of w)
+module _ {w v u : Words} (a : Checked v) (b : Checked u) (same : shape-of u ≡ shape-of v) (v-long : SameLengths w v) (u-long : SameLengths w u)
     (v-kept : Kept w v) (u-kept : Kept w u) where
   kept-marks : (d : TraversalDirection) (x : ℕ) → x < v .counts .nodes .bound
-      → mark-at (axis-words d u) (length (v .edges)) (length (v .nodes)) x ≡ mark-at (axis-words d v) (length (v .edges)) (length (v .nodes)) x
+      → mark-at (axis-words d u) (edge-capacity v) (node-capacity v) x ≡ mark-at (axis-words d v) (edge-capacity v) (node-capacity v) x
   kept-marks d x h =
       ⊎-elim (λ old. marks-agree (v-axis .marks at (omega arith) (omega arith)) (u-axis .marks at (omega arith) (omega arith)) there back)
       (λ new. new-marks-agree (v-axis .new-marks at (omega arith) (omega arith)) (u-axis .new-marks at (omega arith) (omega (arith, bounds))) there back)
       (below-or-not x (w .counts .nodes .bound))
     where
       at : ℕ
-      at = 4 * length (v .edges) + 4 * length (v .nodes) + x
+      at = 4 * edge-capacity v + 4 * node-capacity v + x
 
       bounds : u .counts .nodes .bound ≡ v .counts .nodes .bound
       bounds = ap (λ (c : Counts). c .nodes .bound) (counts-same a b same)
 
-      v-axis : AxisKept (axis-words d w) (axis-words d v) (length (v .edges)) (length (v .nodes)) (w .counts .nodes .bound) (v .counts .nodes .bound) (v .counts .edges .bound)
+      v-axis : AxisKept (axis-words d w) (axis-words d v) (edge-capacity v) (node-capacity v) (w .counts .nodes .bound) (v .counts .nodes .bound) (v .counts .edges .bound)
       v-axis =
           subst₂ (λ (e n : ℕ). AxisKept (axis-words d w) (axis-words d v) e n (w .counts .nodes .bound) (v .counts .nodes .bound) (v .counts .edges .bound))
-          (ap (λ (l : Lengths). l .capacities .edges) (sym v-long)) (ap (λ (l : Lengths). l .capacities .nodes) (sym v-long)) (v-kept .axis d)
+          (same-edges (sym v-long)) (same-nodes (sym v-long)) (v-kept .axis d)
 
-      u-axis : AxisKept (axis-words d w) (axis-words d u) (length (v .edges)) (length (v .nodes)) (w .counts .nodes .bound) (u .counts .nodes .bound) (u .counts .edges .bound)
+      u-axis : AxisKept (axis-words d w) (axis-words d u) (edge-capacity v) (node-capacity v) (w .counts .nodes .bound) (u .counts .nodes .bound) (u .counts .edges .bound)
       u-axis =
           subst₂ (λ (e n : ℕ). AxisKept (axis-words d w) (axis-words d u) e n (w .counts .nodes .bound) (u .counts .nodes .bound) (u .counts .edges .bound))
-          (ap (λ (l : Lengths). l .capacities .edges) (sym v-long)) (ap (λ (l : Lengths). l .capacities .nodes) (sym v-long)) (u-kept .axis d)
+          (same-edges (sym v-long)) (same-nodes (sym v-long)) (u-kept .axis d)
 
-      runs : run-of (axis-words d u) (length (v .edges)) (length (v .nodes)) x ≡ run-of (axis-words d v) (length (v .edges)) (length (v .nodes)) x
+      runs : run-of (axis-words d u) (edge-capacity v) (node-capacity v) x ≡ run-of (axis-words d v) (edge-capacity v) (node-capacity v) x
       runs = runs-same a b same (u-long ∙ sym v-long) d x h
 
-      there : mark-at (axis-words d v) (length (v .edges)) (length (v .nodes)) x ≡ 0 → mark-at (axis-words d u) (length (v .edges)) (length (v .nodes)) x ≡ 0
-      there = unmarked-too (axis-words d v) (axis-words d u) (length (v .edges)) (length (v .nodes)) x runs
+      there : mark-at (axis-words d v) (edge-capacity v) (node-capacity v) x ≡ 0 → mark-at (axis-words d u) (edge-capacity v) (node-capacity v) x ≡ 0
+      there = unmarked-too (axis-words d v) (axis-words d u) (edge-capacity v) (node-capacity v) x runs
 
-      back : mark-at (axis-words d u) (length (v .edges)) (length (v .nodes)) x ≡ 0 → mark-at (axis-words d v) (length (v .edges)) (length (v .nodes)) x ≡ 0
-      back = unmarked-too (axis-words d u) (axis-words d v) (length (v .edges)) (length (v .nodes)) x (sym runs)
+      back : mark-at (axis-words d u) (edge-capacity v) (node-capacity v) x ≡ 0 → mark-at (axis-words d v) (edge-capacity v) (node-capacity v) x ≡ 0
+      back = unmarked-too (axis-words d u) (axis-words d v) (edge-capacity v) (node-capacity v) x (sym runs)
 
   pub kept-fields : Narrow v → Narrow u → SameFields v u
   kept-fields v-narrow u-narrow = shape-fields a b same (u-long ∙ sym v-long) v-narrow u-narrow kept-marks

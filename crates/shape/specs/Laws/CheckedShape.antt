@@ -14,7 +14,7 @@ use Rattle.plain.specs.Laws.Booleans.{by-test, below-or-not, and-right}
 use Rattle.plain.specs.Laws.ListLaws.{member-source, member-from}
 use Rattle.shape.specs.Columns.{cell, mark-at}
 use Rattle.shape.specs.Chains.{In}
-use Rattle.shape.specs.Shape.{axis-in, adjacency-in, part, Words, Adjacency, capacities, axis-words, base-of, run-of, ring-of, raw, no-adjacency, adjacency-of, shape-of}
+use Rattle.shape.specs.Shape.{node-capacity, edge-capacity, axis-in, adjacency-in, part, Words, Adjacency, capacities, axis-words, base-of, run-of, ring-of, raw, no-adjacency, adjacency-of, shape-of}
 use Rattle.shape.specs.Checked.{Runs, Rings, Index, Checked}
 use Rattle.shape.specs.Laws.Chains.{in-none, ring-below}
 use Rattle.shape.specs.Laws.Frames.{run-list-below}
@@ -58,13 +58,13 @@ module _ (w : Words) (c : Checked w) where
   entries-low : (d : TraversalDirection) (x e : ℕ) → In e (raw (adjacency-of d (shape-of w) x)) → e < length (shape-of w .edges)
   unfolding member
   entries-low d x e m =
-      let ce = length (w .edges) in
-      let cn = length (w .nodes) in
+      let ce = edge-capacity w in
+      let cn = node-capacity w in
       let ws = axis-words d w in
       let axis = c .axis d in
       rw (edge-bound-is w)
       (⊎-elim
-      (λ l. raw-below ws ce cn (w .counts) (c .edges .base-within) (axis .index) (axis .runs) x l (axis .rings) e
+      (λ l. raw-below ws ce cn (w .counts) (c .edges .bounded .base-within) (axis .index) (axis .runs) x l (axis .rings) e
       (ap (λ (a : Adjacency). member e (raw a)) (sym (shape-adjacency w d x l)) ∙ m))
       (λ l. let past = List·getD-eq-default (axis-in d (shape-of w) .nodes) no-adjacency (rw (axis-is w d, axis-nodes ws ce cn (w .counts)) l) in
       in-none e (ap (λ (a : Adjacency). member e (raw a)) (sym past) ∙ m))
@@ -78,6 +78,6 @@ module _ (w : Words) (c : Checked w) where
   pub checked-based : Based (shape-of w)
   unfolding shape-of
   checked-based = record {
-    nodes-within = rw (node-bound-is w) (c .nodes .base-within);
-    edges-within = rw (edge-bound-is w) (c .edges .base-within);
+    nodes-within = rw (node-bound-is w) (c .nodes .bounded .base-within);
+    edges-within = rw (edge-bound-is w) (c .edges .bounded .base-within);
   }

@@ -15,7 +15,7 @@ use Rattle.plain.specs.Numbers.{NONE}
 use Rattle.plain.specs.Lists.{member, distinct, all, from, joined}
 use Rattle.plain.specs.Plain.{Plain, incidence, node-bound, edge-bound, node-flags, edge-flags, list-of, end-of}
 use Rattle.plain.specs.Step.{Capacities}
-use Rattle.plain.specs.Laws.WellFormed.{Incident, WellFormed}
+use Rattle.plain.specs.WellFormed.{Incident, WellFormed}
 use Rattle.plain.specs.Laws.Operating.{incident, edge-below}
 use Rattle.plain.specs.Laws.Booleans.{by-test, below-or-not, same-truth, true-false, and-left, and-right, both-true, refuted, or-other, or-true}
 use Rattle.plain.specs.Laws.ListLaws.{getD-map, getD-from, length-from, all-of, all-member, member-below, member-joined, joined-member, distinct-apart, distinct-right, distinct-at}

@@ -12,20 +12,22 @@ use lib.Dec.{eqb}
 use borrow.Author.Tests.{ne-eqb, eqb-true, eqb-false, ltb-true}
 use Rattle.plain.specs.declared.TraversalDirection.{TraversalDirection}
 use Rattle.plain.specs.declared.TraversalDirection.the-variants.{Outgoing, Incoming}
+use Rattle.plain.specs.declared.Slots.{Slots}
 use Rattle.plain.specs.declared.Counts.{Counts}
 use Rattle.plain.specs.Lists.{member, distinct, from}
 use Rattle.plain.specs.Plain.{NodeSlot, EdgeSlot}
 use Rattle.plain.specs.Step.{Capacities}
-use Rattle.plain.specs.Memory.{Lengths}
-use Rattle.plain.specs.Laws.WellFormed.{WellFormed}
+use Rattle.plain.specs.Reads.{live-count}
+use Rattle.plain.specs.WellFormed.{WellFormed}
 use Rattle.plain.specs.Laws.Booleans.{by-test, true-false}
 use Rattle.plain.specs.Laws.ListLaws.{map-same, member-below, member-first, distinct-apart}
 use Rattle.liveness.specs.Flags.{live-bit, live-flags, packed}
 use Rattle.liveness.specs.FlagLaws.{flags-same}
 use Rattle.shape.specs.Columns.{cell, end-at, first-at, tail-at, count-at, mark-at}
 use Rattle.shape.specs.Chains.{In, Line, Run}
-use Rattle.shape.specs.Shape.{Words, axis-words, node-live, edge-live, base-of, run-list, run-of, ring-of, adjacency-in, axis-of, shape-of, plain-of}
-use Rattle.shape.specs.Checked.{Index, AxisChecked, Checked}
+use Rattle.shape.specs.Shape.{Words, node-capacity, edge-capacity, axis-words, node-live, edge-live, node-slot-at, edge-slot-at, base-of, run-list, run-of, ring-of, adjacency-in, axis-of, shape-of, plain-of}
+use Rattle.shape.specs.Checked.{SlotsChecked, Index, AxisChecked, Checked}
+use Rattle.shape.specs.Kept.{same-capacities, same-nodes, same-edges, same-live-nodes, same-live-edges, same-axis}
 use Rattle.shape.specs.Fields.{Column, ends, adjacency, next, links, last, first, tail, count, marks, offsets, begins, AxisField, node-payload, edge-payload, node-bits, edge-bits, axis-word, SameFields}
 use Rattle.shape.specs.Laws.Chains.{in-front, seg-agree, run-is, run-empty, run-line, ring-below}
 use Rattle.shape.specs.Laws.Frames.{SameRing, base-of-agree, offset-within, run-list-unmarked, run-of-unmarked, ring-agrees, rings-agree}
@@ -178,35 +180,56 @@ module _
         node : (x : ℕ) → x < counts .nodes .bound → adjacency-in vs ce cn counts x ≡ adjacency-in ws ce cn counts x
         node x h = let p = base-same x in let q = run-same x h in let r = ring-same x h in λ i. record { base = p i; run = q i; ring = r i }
 
+-- ---- one kind of slot
+
+-- words of the last slots
+packed-same : (words words' : List ℕ) (slots : ℕ) → ((i : ℕ) → 64 * i < slots → getD words' i 0 ≡ getD words i 0) → packed words' slots ≡ packed words slots
+unfolding packed
+packed-same words words' slots agree =
+    by-test (eqb (slots % 64) 0) (λ t. rw t) (λ t. let ne = eqb-false (slots % 64) 0 t in rw (t, agree (slots / 64) (omega arith)))
+
+-- and its flags
+flags-agree : (words words' : List ℕ) (slots : ℕ) → ((i : ℕ) → 64 * i < slots → getD words' i 0 ≡ getD words i 0) → live-flags words' slots ≡ live-flags words slots
+unfolding live-bit
+flags-agree words words' slots agree = flags-same words' words slots (λ i l. rw (agree (i / 64) (omega arith)))
+
+-- live words that agree on its slots serve as well
+slots-checked : {c : ℕ} {words words' : List ℕ} {s : Slots} → SlotsChecked c words s → length words' ≡ length words
+    → ((i : ℕ) → 64 * i < s .bound → getD words' i 0 ≡ getD words i 0) → SlotsChecked c words' s
+slots-checked {words = words} {words' = words'} {s = s} k long agree = record {
+  bounded = k .bounded;
+  live-long = rw long (k .live-long);
+  live = record {
+    unused-clear = packed-same words words' (s .bound) agree ∙ k .live .unused-clear;
+    live-right = k .live .live-right ∙ ap live-count (sym (flags-agree words words' (s .bound) agree));
+  };
+}
+
 -- ---- the store
 
 module _ {w v : Words} (k : Checked w) (same : SameFields w v) where
-  nodes-long : length (v .nodes) ≡ length (w .nodes)
-  nodes-long = ap (λ (l : Lengths). l .capacities .nodes) (same .lengths)
+  nodes-long : node-capacity v ≡ node-capacity w
+  nodes-long = same-nodes (same .lengths)
 
-  edges-long : length (v .edges) ≡ length (w .edges)
-  edges-long = ap (λ (l : Lengths). l .capacities .edges) (same .lengths)
+  edges-long : edge-capacity v ≡ edge-capacity w
+  edges-long = same-edges (same .lengths)
 
   -- live flags
   nodes-flagged : live-flags (v .live-nodes) (w .counts .nodes .bound) ≡ node-live w
-  unfolding live-bit
-  nodes-flagged =
-      flags-same (v .live-nodes) (w .live-nodes) (w .counts .nodes .bound) (λ i l. rw (same .words (node-bits (i / 64)) (omega arith)))
+  nodes-flagged = flags-agree (w .live-nodes) (v .live-nodes) (w .counts .nodes .bound) (λ i h. same .words (node-bits i) h)
 
   edges-flagged : live-flags (v .live-edges) (w .counts .edges .bound) ≡ edge-live w
-  unfolding live-bit
-  edges-flagged =
-      flags-same (v .live-edges) (w .live-edges) (w .counts .edges .bound) (λ i l. rw (same .words (edge-bits (i / 64)) (omega arith)))
+  edges-flagged = flags-agree (w .live-edges) (v .live-edges) (w .counts .edges .bound) (λ i h. same .words (edge-bits i) h)
 
-  column-same : (d : TraversalDirection) (c : Column) (x : ℕ) → AxisField (axis-words d w) (length (w .edges)) (length (w .nodes)) (w .counts) c x
-      → cell (axis-words d v) (begins (length (w .edges)) (length (w .nodes)) c) x ≡ cell (axis-words d w) (begins (length (w .edges)) (length (w .nodes)) c) x
+  column-same : (d : TraversalDirection) (c : Column) (x : ℕ) → AxisField (axis-words d w) (edge-capacity w) (node-capacity w) (w .counts) c x
+      → cell (axis-words d v) (begins (edge-capacity w) (node-capacity w) c) x ≡ cell (axis-words d w) (begins (edge-capacity w) (node-capacity w) c) x
   column-same d c x f =
-      subst₂ (λ (ce cn : ℕ). cell (axis-words d v) (begins ce cn c) x ≡ cell (axis-words d w) (begins (length (w .edges)) (length (w .nodes)) c) x)
+      subst₂ (λ (ce cn : ℕ). cell (axis-words d v) (begins ce cn c) x ≡ cell (axis-words d w) (begins (edge-capacity w) (node-capacity w) c) x)
       edges-long nodes-long (same .words (axis-word d c x) f)
 
   axis-same : (d : TraversalDirection)
-      → axis-of (axis-words d v) (length (w .edges)) (length (w .nodes)) (w .counts) ≡ axis-of (axis-words d w) (length (w .edges)) (length (w .nodes)) (w .counts)
-  axis-same d = fields-axis (axis-words d v) (k .axis d) (k .edges .bound-within) (column-same d)
+      → axis-of (axis-words d v) (edge-capacity w) (node-capacity w) (w .counts) ≡ axis-of (axis-words d w) (edge-capacity w) (node-capacity w) (w .counts)
+  axis-same d = fields-axis (axis-words d v) (k .axis d) (k .edges .bounded .bound-within) (column-same d)
 
   -- a store with the fields of a checked one has its shape
   pub fields-shape : shape-of v ≡ shape-of w
@@ -215,11 +238,9 @@ module _ {w v : Words} (k : Checked w) (same : SameFields w v) where
       rw (same .counts, nodes-long, edges-long, nodes-flagged, edges-flagged)
       (let out = axis-same Outgoing in
       let inc = axis-same Incoming in
-      let ns = made-same {A = NodeSlot} (λ x. record { payload = getD (w .nodes) x 0; live = getD (node-live w) x false })
-      (λ x. record { payload = getD (v .nodes) x 0; live = getD (node-live w) x false }) (w .counts .nodes .bound)
+      let ns = made-same {A = NodeSlot} (node-slot-at w) (λ x. record { payload = getD (v .nodes) x 0; live = getD (node-live w) x false }) (w .counts .nodes .bound)
       (λ x h. let p = same .words (node-payload x) h in λ i. record { payload = p i; live = getD (node-live w) x false }) in
-      let es = made-same {A = EdgeSlot} (λ e. record { payload = getD (w .edges) e 0; live = getD (edge-live w) e false })
-      (λ e. record { payload = getD (v .edges) e 0; live = getD (edge-live w) e false }) (w .counts .edges .bound)
+      let es = made-same {A = EdgeSlot} (edge-slot-at w) (λ e. record { payload = getD (v .edges) e 0; live = getD (edge-live w) e false }) (w .counts .edges .bound)
       (λ e h. let p = same .words (edge-payload e) h in λ i. record { payload = p i; live = getD (edge-live w) e false }) in
       λ i. record {
         nodes = ns i;
@@ -230,42 +251,24 @@ module _ {w v : Words} (k : Checked w) (same : SameFields w v) where
         incoming = inc i;
       })
 
-  -- words of the last slots
-  packed-same : (words words' : List ℕ) (slots : ℕ) → ((i : ℕ) → 64 * i < slots → getD words' i 0 ≡ getD words i 0) → packed words' slots ≡ packed words slots
-  unfolding packed
-  packed-same words words' slots agree =
-      by-test (eqb (slots % 64) 0) (λ t. rw t) (λ t. let ne = eqb-false (slots % 64) 0 t in rw (t, agree (slots / 64) (omega arith)))
-
   -- each axis
   axis-checked : (d : TraversalDirection)
-      → AxisChecked (axis-words d v) (length (w .edges)) (length (w .nodes)) (w .counts) (node-live w) (edge-live w)
-  axis-checked Outgoing =
-      fields-axis-checked (v .outgoing) (k .axis Outgoing) (k .edges .bound-within) (column-same Outgoing) (ap (λ (l : Lengths). l .outgoing) (same .lengths))
-  axis-checked Incoming =
-      fields-axis-checked (v .incoming) (k .axis Incoming) (k .edges .bound-within) (column-same Incoming) (ap (λ (l : Lengths). l .incoming) (same .lengths))
+      → AxisChecked (axis-words d v) (edge-capacity w) (node-capacity w) (w .counts) (node-live w) (edge-live w)
+  axis-checked d =
+      fields-axis-checked (axis-words d v) (k .axis d) (k .edges .bounded .bound-within) (column-same d) (same-axis w v (same .lengths) d)
 
   -- and passes the check
   pub fields-checked : Checked v
   fields-checked =
       record {
-        nodes = rw (same .counts, nodes-long) (k .nodes);
-        edges = rw (same .counts, edges-long) (k .edges);
-        live-nodes-long = rw (nodes-long, ap (λ (l : Lengths). l .live-nodes) (same .lengths)) (k .live-nodes-long);
-        live-edges-long = rw (edges-long, ap (λ (l : Lengths). l .live-edges) (same .lengths)) (k .live-edges-long);
-        nodes-live = rw (same .counts, nodes-flagged)
-            (record {
-              unused-clear = packed-same (w .live-nodes) (v .live-nodes) (w .counts .nodes .bound) (λ i h. same .words (node-bits i) h) ∙ k .nodes-live .unused-clear;
-              live-right = k .nodes-live .live-right;
-            });
-        edges-live = rw (same .counts, edges-flagged)
-            (record {
-              unused-clear = packed-same (w .live-edges) (v .live-edges) (w .counts .edges .bound) (λ i h. same .words (edge-bits i) h) ∙ k .edges-live .unused-clear;
-              live-right = k .edges-live .live-right;
-            });
+        nodes = rw (same .counts, nodes-long)
+            (slots-checked (k .nodes) (same-live-nodes (same .lengths)) (λ i h. same .words (node-bits i) h));
+        edges = rw (same .counts, edges-long)
+            (slots-checked (k .edges) (same-live-edges (same .lengths)) (λ i h. same .words (edge-bits i) h));
         axis = directions;
-        walks = rw fields-shape (subst (λ (c : Capacities). WellFormed c (plain-of (shape-of w))) (ap (λ (l : Lengths). l .capacities) (sym (same .lengths))) (k .walks));
+        walks = rw fields-shape (subst (λ (c : Capacities). WellFormed c (plain-of (shape-of w))) (same-capacities (sym (same .lengths))) (k .walks));
       }
     where
-      directions : (d : TraversalDirection) → AxisChecked (axis-words d v) (length (v .edges)) (length (v .nodes)) (v .counts) (node-live v) (edge-live v)
+      directions : (d : TraversalDirection) → AxisChecked (axis-words d v) (edge-capacity v) (node-capacity v) (v .counts) (node-live v) (edge-live v)
       directions Outgoing = rw (same .counts, nodes-long, edges-long, nodes-flagged, edges-flagged) (axis-checked Outgoing)
       directions Incoming = rw (same .counts, nodes-long, edges-long, nodes-flagged, edges-flagged) (axis-checked Incoming)

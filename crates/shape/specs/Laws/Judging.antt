@@ -17,11 +17,11 @@ use Rattle.plain.specs.Reads.{live-count}
 use Rattle.plain.specs.Memory.{live-words}
 use Rattle.plain.specs.Laws.Booleans.{and-left, and-right, both-true, true-false}
 use Rattle.plain.specs.Laws.ListLaws.{member-keep, getD-map-each}
-use Rattle.liveness.specs.Flags.{packed}
+use Rattle.liveness.specs.Flags.{live-flags, packed}
 use Rattle.shape.specs.Columns.{Sized, end-at}
 use Rattle.shape.specs.Chains.{In}
-use Rattle.shape.specs.Shape.{Words, Axis, node-live, edge-live, axis-words, raw, live-in, adjacency-of, node-flags-of, edge-flags-of, shape-of, plain-of}
-use Rattle.shape.specs.Checked.{Bounded, LiveRight, AxisChecked, Checked}
+use Rattle.shape.specs.Shape.{Words, Axis, node-capacity, edge-capacity, node-live, edge-live, node-slot-at, edge-slot-at, axis-words, raw, live-in, adjacency-of, node-flags-of, edge-flags-of, shape-of, plain-of}
+use Rattle.shape.specs.Checked.{Bounded, LiveRight, SlotsChecked, AxisChecked, Checked}
 use Rattle.shape.specs.Rules.{both-axes, slots-right, rule-1, live-agrees, rule-2, ends-right, rule-3, index-right, rule-4, ring-right, rule-5, runs-right, rule-6, walks-right, rule-7, broken}
 use Rattle.shape.specs.Laws.Refining.{lists-length, list-is-walk}
 use Rattle.shape.specs.Laws.Checking.{all-below, below-all, ring-sound, ring-own, ring-complete, index-sound, index-complete, runs-sound, dead-runs-sound, runs-complete, Framed, walks-live, walks-sound, walks-complete}
@@ -79,14 +79,13 @@ slots-sound capacity live-length s h =
       long = leb-true (live-words capacity) live-length (and-right c e last);
     }
 
-pub live-sound : (words : List ℕ) (flags : List Bool) (s : Slots) → live-agrees words flags s ≡ true → LiveRight words flags s
-live-sound words flags s h = record {
-  unused-clear = and-left (packed words (s .bound)) (eqb (s .live) (live-count flags)) h;
-  live-right = eqb-true (s .live) (live-count flags) (and-right (packed words (s .bound)) (eqb (s .live) (live-count flags)) h);
-}
-
-live-complete : (words : List ℕ) (flags : List Bool) (s : Slots) → LiveRight words flags s → live-agrees words flags s ≡ true
-live-complete words flags s h = both-true (h .unused-clear) (eq-eqb (s .live) (live-count flags) (h .live-right))
+pub live-sound : (words : List ℕ) (s : Slots) → live-agrees words s ≡ true → LiveRight words s
+live-sound words s h =
+    let live = live-count (live-flags words (s .bound)) in
+    record {
+      unused-clear = and-left (packed words (s .bound)) (eqb (s .live) live) h;
+      live-right = eqb-true (s .live) live (and-right (packed words (s .bound)) (eqb (s .live) live) h);
+    }
 
 -- ---- what the plain lists of any words have
 
@@ -101,25 +100,25 @@ module _ (w : Words) where
   unfolding plain-of
   plain-lists-length Outgoing =
       lists-length (edge-flags-of (shape-of w)) (node-flags-of (shape-of w)) (shape-of w .outgoing) ∙ ap (λ (a : Axis). length (a .nodes)) (axis-is w Outgoing)
-      ∙ axis-nodes (w .outgoing) (length (w .edges)) (length (w .nodes)) (w .counts) ∙ sym (node-bound-is w)
+      ∙ axis-nodes (w .outgoing) (edge-capacity w) (node-capacity w) (w .counts) ∙ sym (node-bound-is w)
   plain-lists-length Incoming =
       lists-length (edge-flags-of (shape-of w)) (node-flags-of (shape-of w)) (shape-of w .incoming) ∙ ap (λ (a : Axis). length (a .nodes)) (axis-is w Incoming)
-      ∙ axis-nodes (w .incoming) (length (w .edges)) (length (w .nodes)) (w .counts) ∙ sym (node-bound-is w)
+      ∙ axis-nodes (w .incoming) (edge-capacity w) (node-capacity w) (w .counts) ∙ sym (node-bound-is w)
 
 -- ---- from the tests to the store
 
 -- what rule 1 says of a store
 pub record SizesRight (w : Words) : Type 0 where
-  pub nodes : SlotsRight (length (w .nodes)) (length (w .live-nodes)) (w .counts .nodes)
-  pub edges : SlotsRight (length (w .edges)) (length (w .live-edges)) (w .counts .edges)
-  pub sized : (d : TraversalDirection) → Sized (axis-words d w) (length (w .edges)) (length (w .nodes))
+  pub nodes : SlotsRight (node-capacity w) (length (w .live-nodes)) (w .counts .nodes)
+  pub edges : SlotsRight (edge-capacity w) (length (w .live-edges)) (w .counts .edges)
+  pub sized : (d : TraversalDirection) → Sized (axis-words d w) (edge-capacity w) (node-capacity w)
 
 module _ (w : Words) where
   pub sizes-sound : rule-1 w ≡ true → SizesRight w
   unfolding rule-1
   sizes-sound h =
-      let ce = length (w .edges) in
-      let cn = length (w .nodes) in
+      let ce = edge-capacity w in
+      let cn = node-capacity w in
       let long : List ℕ → Bool = λ ws. leb (4 * ce + 6 * cn + 1) (length ws) in
       let a = slots-right cn (length (w .live-nodes)) (w .counts .nodes) in
       let b = slots-right ce (length (w .live-edges)) (w .counts .edges) in
@@ -137,17 +136,15 @@ module _ (w : Words) where
       }
 
   -- what rule 2 says of the nodes and of the edges
-  pub nodes-live-sound : rule-2 w ≡ true → LiveRight (w .live-nodes) (node-live w) (w .counts .nodes)
+  pub nodes-live-sound : rule-2 w ≡ true → LiveRight (w .live-nodes) (w .counts .nodes)
   unfolding rule-2
   nodes-live-sound h =
-      live-sound (w .live-nodes) (node-live w) (w .counts .nodes)
-      (and-left (live-agrees (w .live-nodes) (node-live w) (w .counts .nodes)) (live-agrees (w .live-edges) (edge-live w) (w .counts .edges)) h)
+      live-sound (w .live-nodes) (w .counts .nodes) (and-left (live-agrees (w .live-nodes) (w .counts .nodes)) (live-agrees (w .live-edges) (w .counts .edges)) h)
 
-  pub edges-live-sound : rule-2 w ≡ true → LiveRight (w .live-edges) (edge-live w) (w .counts .edges)
+  pub edges-live-sound : rule-2 w ≡ true → LiveRight (w .live-edges) (w .counts .edges)
   unfolding rule-2
   edges-live-sound h =
-      live-sound (w .live-edges) (edge-live w) (w .counts .edges)
-      (and-right (live-agrees (w .live-nodes) (node-live w) (w .counts .nodes)) (live-agrees (w .live-edges) (edge-live w) (w .counts .edges)) h)
+      live-sound (w .live-edges) (w .counts .edges) (and-right (live-agrees (w .live-nodes) (w .counts .nodes)) (live-agrees (w .live-edges) (w .counts .edges)) h)
 
 module _ (w : Words) (p : Structured w) where
   sizes : SizesRight w
@@ -160,18 +157,18 @@ module _ (w : Words) (p : Structured w) where
       (all-below (λ e. ltb (end-at (axis-words d w) e) (w .counts .nodes .bound)) (w .counts .edges .bound) (axis-passes (ends-right (w .counts)) w (p .r3) d) e l)
 
   rings-right : (d : TraversalDirection) (x : ℕ) → x < w .counts .nodes .bound
-      → ring-right (length (w .edges)) (w .counts .edges .base) (w .counts .edges .bound) (axis-words d w) x ≡ true
+      → ring-right (edge-capacity w) (w .counts .edges .base) (w .counts .edges .bound) (axis-words d w) x ≡ true
   unfolding rule-5
   rings-right d =
-      let test : List ℕ → ℕ → Bool = ring-right (length (w .edges)) (w .counts .edges .base) (w .counts .edges .bound) in
+      let test : List ℕ → ℕ → Bool = ring-right (edge-capacity w) (w .counts .edges .base) (w .counts .edges .bound) in
       all-below (test (axis-words d w)) (w .counts .nodes .bound) (axis-passes (λ ws. all (test ws) (from 0 (w .counts .nodes .bound))) w (p .r5) d)
 
   -- rules 3 to 6 of one direction
-  pub axis-sound : (d : TraversalDirection) → AxisChecked (axis-words d w) (length (w .edges)) (length (w .nodes)) (w .counts) (node-live w) (edge-live w)
+  pub axis-sound : (d : TraversalDirection) → AxisChecked (axis-words d w) (edge-capacity w) (node-capacity w) (w .counts) (node-live w) (edge-live w)
   unfolding rule-4 rule-6
   axis-sound d =
-      let ce = length (w .edges) in
-      let cn = length (w .nodes) in
+      let ce = edge-capacity w in
+      let cn = node-capacity w in
       let be = w .counts .edges .base in
       let eb = w .counts .edges .bound in
       let six = axis-passes (runs-right ce cn (w .counts) (node-live w) (edge-live w)) w (p .r6) d in
@@ -191,8 +188,8 @@ module _ (w : Words) (p : Structured w) where
   framed : (d : TraversalDirection) → Framed (plain-of (shape-of w)) d
   unfolding plain-of
   framed d =
-      let ce = length (w .edges) in
-      let cn = length (w .nodes) in
+      let ce = edge-capacity w in
+      let cn = node-capacity w in
       let flags = length-map (shape-of w .edges) (λ (e : EdgeSlot). e .live) in
       record {
         ends-length = ap length (plain-ends w d) ∙ axis-ends (axis-words d w) ce cn (w .counts) ∙ sym (flags ∙ edge-bound-is w);
@@ -215,12 +212,8 @@ module _ (w : Words) (p : Passes w) where
       let t = p .structured in
       let sizes = sizes-sound w (t .r1) in
       record {
-        nodes = sizes .nodes .bounded;
-        edges = sizes .edges .bounded;
-        live-nodes-long = sizes .nodes .long;
-        live-edges-long = sizes .edges .long;
-        nodes-live = nodes-live-sound w (t .r2);
-        edges-live = edges-live-sound w (t .r2);
+        nodes = record { bounded = sizes .nodes .bounded; live-long = sizes .nodes .long; live = nodes-live-sound w (t .r2) };
+        edges = record { bounded = sizes .edges .bounded; live-long = sizes .edges .long; live = edges-live-sound w (t .r2) };
         axis = axis-sound w t;
         walks = record {
           nodes-within = rw (node-bound-is w) (sizes .nodes .bounded .bound-within);
@@ -228,38 +221,40 @@ module _ (w : Words) (p : Passes w) where
           outgoing = walks-sound (plain-of (shape-of w)) Outgoing (walks-of Outgoing) (framed w t Outgoing);
           incoming = walks-sound (plain-of (shape-of w)) Incoming (walks-of Incoming) (framed w t Incoming);
           ends-live = λ d. walks-live (plain-of (shape-of w)) d (walks-of d);
-          node-payloads = getD-map-each (λ (n : NodeSlot). n .payload < 2 ^ 32) (λ x. record { payload = getD (w .nodes) x 0; live = getD (node-live w) x false })
-              (from 0 (w .counts .nodes .bound)) no-node (lit< tt) (pay .nodes);
-          edge-payloads = getD-map-each (λ (e : EdgeSlot). e .payload < 2 ^ 32) (λ e. record { payload = getD (w .edges) e 0; live = getD (edge-live w) e false })
-              (from 0 (w .counts .edges .bound)) no-edge (lit< tt) (pay .edges);
+          node-payloads = getD-map-each (λ (n : NodeSlot). n .payload < 2 ^ 32) (node-slot-at w) (from 0 (w .counts .nodes .bound)) no-node (lit< tt) (pay .nodes);
+          edge-payloads = getD-map-each (λ (e : EdgeSlot). e .payload < 2 ^ 32) (edge-slot-at w) (from 0 (w .counts .edges .bound)) no-edge (lit< tt) (pay .edges);
         };
       }
 
 -- ---- from the store to the tests
 
-slots-complete : (capacity live-length : ℕ) (s : Slots) → capacity ≤ LIMIT → Bounded capacity s → live-words capacity ≤ live-length
-    → slots-right capacity live-length s ≡ true
-slots-complete capacity live-length s few b long =
-    both-true (le-leb capacity LIMIT few)
-    (both-true (le-leb (s .bound) capacity (b .bound-within)) (both-true (le-leb (s .base) (s .bound) (b .base-within)) (le-leb (live-words capacity) live-length long)))
+module _ (capacity : ℕ) (words : List ℕ) (s : Slots) (c : SlotsChecked capacity words s) where
+  slots-complete : capacity ≤ LIMIT → slots-right capacity (length words) s ≡ true
+  slots-complete few =
+      let b = c .bounded in
+      both-true (le-leb capacity LIMIT few)
+      (both-true (le-leb (s .bound) capacity (b .bound-within))
+      (both-true (le-leb (s .base) (s .bound) (b .base-within)) (le-leb (live-words capacity) (length words) (c .live-long))))
+
+  live-complete : live-agrees words s ≡ true
+  live-complete = both-true (c .live .unused-clear) (eq-eqb (s .live) (live-count (live-flags words (s .bound))) (c .live .live-right))
 
 -- a checked store passes every rule
 pub checked-passes : (w : Words) → Checked w → Passes w
 unfolding rule-1 rule-2 rule-3 rule-4 rule-5 rule-6 rule-7
 checked-passes w c =
-    let ce = length (w .edges) in
-    let cn = length (w .nodes) in
+    let ce = edge-capacity w in
+    let cn = node-capacity w in
     let be = w .counts .edges .base in
     let eb = w .counts .edges .bound in
     let nb = w .counts .nodes .bound in
     let p = plain-of (shape-of w) in
     record {
       structured = record {
-        r1 = both-true (slots-complete cn (length (w .live-nodes)) (w .counts .nodes) (c .axis Outgoing .sized .nodes-within) (c .nodes) (c .live-nodes-long))
-            (both-true (slots-complete ce (length (w .live-edges)) (w .counts .edges) (c .axis Outgoing .sized .edges-within) (c .edges) (c .live-edges-long))
+        r1 = both-true (slots-complete cn (w .live-nodes) (w .counts .nodes) (c .nodes) (c .axis Outgoing .sized .nodes-within))
+            (both-true (slots-complete ce (w .live-edges) (w .counts .edges) (c .edges) (c .axis Outgoing .sized .edges-within))
             (axes-pass (λ ws. leb (4 * ce + 6 * cn + 1) (length ws)) w (λ d. le-leb (4 * ce + 6 * cn + 1) (length (axis-words d w)) (c .axis d .sized .room))));
-        r2 = both-true (live-complete (w .live-nodes) (node-live w) (w .counts .nodes) (c .nodes-live))
-            (live-complete (w .live-edges) (edge-live w) (w .counts .edges) (c .edges-live));
+        r2 = both-true (live-complete cn (w .live-nodes) (w .counts .nodes) (c .nodes)) (live-complete ce (w .live-edges) (w .counts .edges) (c .edges));
         r3 = axes-pass (ends-right (w .counts)) w
             (λ d. below-all (λ e. ltb (end-at (axis-words d w) e) nb) eb (λ e l. lt-ltb (end-at (axis-words d w) e) nb (c .axis d .ends-below e l)));
         r4 = axes-pass (index-right ce cn (w .counts .nodes .base) be) w (λ d. index-complete ce cn (w .counts .nodes .base) be (axis-words d w) (c .axis d .index));

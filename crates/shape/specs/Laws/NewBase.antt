@@ -15,18 +15,19 @@ use Rattle.plain.specs.declared.Counts.{Counts}
 use Rattle.plain.specs.Numbers.{NONE}
 use Rattle.plain.specs.Lists.{from, all, count, joined, member, distinct}
 use Rattle.plain.specs.Image.{lists-right, at-their-nodes}
+use Rattle.plain.specs.WellFormed.{Fitted}
 use Rattle.plain.specs.Laws.Booleans.{by-test, true-false, and-left}
 use Rattle.plain.specs.Laws.ListLaws.{getD-map, map-same, map-getD, length-from, getD-from, member-below}
 use Rattle.plain.specs.Laws.Below.{Below, below-of, below-all, below-within}
 use Rattle.plain.specs.Laws.Cutting.{sum, length-joined, sum-list-lengths}
-use Rattle.plain.specs.Laws.WellFormed.{Fitted}
 use Rattle.shape.specs.Columns.{Sized, cell, offset-at, last-at, mark-at}
 use Rattle.shape.specs.Shape.{between, base-of, run-of, run-list, ring-of, Adjacency, Axis, axis-of}
 use Rattle.shape.specs.Chains.{ring}
 use Rattle.shape.specs.Checked.{Index, AxisChecked}
 use Rattle.plain.specs.Laws.Fitting.{fitted-many, fitted-long}
+use Rattle.shape.specs.Index.{Rewritten, total, before, ends-of}
 use Rattle.shape.specs.Laws.Frames.{offset-within}
-use Rattle.shape.specs.Laws.Indexing.{Rewritten, total, before, before-suc, before-zero, before-total, before-all, before-few, ends-of, length-ends, end-of-edge, ends-same, part-of-joined, map-from-same, front-range}
+use Rattle.shape.specs.Laws.Indexing.{before-suc, before-zero, before-total, before-all, before-few, length-ends, end-of-edge, ends-same, part-of-joined, map-from-same, front-range}
 
 -- ---- bounds of a base part
 

@@ -9,8 +9,8 @@ use lib.ListN.{length, getD}
 use Rattle.plain.specs.declared.TraversalDirection.{TraversalDirection}
 use Rattle.plain.specs.Laws.Booleans.{below-or-not}
 use Rattle.shape.specs.Columns.{cell, offset-at}
-use Rattle.shape.specs.Shape.{Words, axis-words}
-use Rattle.shape.specs.Kept.{Kept, Renewed}
+use Rattle.shape.specs.Shape.{Words, node-capacity, edge-capacity, axis-words}
+use Rattle.shape.specs.Kept.{SameLengths, Kept, Renewed, same-nodes, same-edges}
 use Rattle.shape.specs.Fields.{Column, ends, adjacency, next, links, last, first, tail, count, marks, offsets, begins, InColumn, node-payload, edge-payload, node-bits, edge-bits, axis-word, word-at, NoField, StripLeaves, OffsetOfNone, RenewalLeaves}
 
 -- ---- every word of an axis has a place
@@ -39,40 +39,40 @@ axis-place ws ce cn i there =
 
 -- ---- what calls leave
 
-module _ (w v : Words) (nodes : length (v .nodes) ≡ length (w .nodes)) (edges : length (v .edges) ≡ length (w .edges)) where
+module _ (w v : Words) (same : SameLengths w v) where
   -- the index of a word of a column
   abbrev at : Column → ℕ → ℕ
-  at column x = begins (length (w .edges)) (length (w .nodes)) column + x
+  at column x = begins (edge-capacity w) (node-capacity w) column + x
 
   -- a word of a column, since both stores have the same capacities
   cell-left : (d : TraversalDirection) (column : Column) (x : ℕ)
-      → cell (axis-words d v) (begins (length (w .edges)) (length (w .nodes)) column) x ≡ cell (axis-words d w) (begins (length (w .edges)) (length (w .nodes)) column) x
+      → cell (axis-words d v) (begins (edge-capacity w) (node-capacity w) column) x ≡ cell (axis-words d w) (begins (edge-capacity w) (node-capacity w) column) x
       → word-at v (axis-word d column x) ≡ word-at w (axis-word d column x)
-  cell-left d column x same = ap (λ (n : ℕ). cell (axis-words d v) (begins (length (v .edges)) n column) x) nodes
-      ∙ ap (λ (m : ℕ). cell (axis-words d v) (begins m (length (w .nodes)) column) x) edges ∙ same
+  cell-left d column x is = ap (λ (n : ℕ). cell (axis-words d v) (begins (edge-capacity v) n column) x) (same-nodes same)
+      ∙ ap (λ (m : ℕ). cell (axis-words d v) (begins m (node-capacity w) column) x) (same-edges same) ∙ is
 
   pub kept-leaves : Kept w v → StripLeaves w v
-  kept-leaves k (node-payload x) out held = k .nodes x (omega (arith, out .1))
-  kept-leaves k (edge-payload e) out held = k .edges e (omega (arith, out .1))
-  kept-leaves k (node-bits i) out held = k .live-nodes i (omega (arith, out .1))
-  kept-leaves k (edge-bits i) out held = k .live-edges i (omega (arith, out .1))
-  kept-leaves k (axis-word d ends e) out held = cell-left d ends e (k .axis d .ends (at ends e) (omega (arith, out .1)) (omega (arith, out .0, nodes, edges)))
-  kept-leaves k (axis-word d adjacency i) out held = cell-left d adjacency i (k .axis d .adjacency (at adjacency i) (omega arith) (omega (arith, out .0, nodes, edges)))
-  kept-leaves k (axis-word d next e) out held = cell-left d next e (k .axis d .next (at next e) (omega (arith, held)) (omega (arith, out .0, nodes, edges)))
-  kept-leaves k (axis-word d links e) out held = cell-left d links e (k .axis d .links (at links e) (omega (arith, held)) (omega (arith, out .0, nodes, edges)))
-  kept-leaves k (axis-word d last x) out held = cell-left d last x (k .axis d .last (at last x) (omega (arith, out .1)) (omega (arith, out .0, nodes, edges)))
-  kept-leaves k (axis-word d first x) out held = cell-left d first x (k .axis d .first (at first x) (omega (arith, held)) (omega (arith, out .0, nodes, edges)))
-  kept-leaves k (axis-word d tail x) out held = cell-left d tail x (k .axis d .tail (at tail x) (omega (arith, held)) (omega (arith, out .0, nodes, edges)))
-  kept-leaves k (axis-word d count x) out held = cell-left d count x (k .axis d .count (at count x) (omega (arith, held)) (omega (arith, out .0, nodes, edges)))
-  kept-leaves k (axis-word d marks x) out held = cell-left d marks x (k .axis d .mark (at marks x) (omega (arith, out .1)) (omega (arith, out .0, nodes, edges)))
+  kept-leaves k (node-payload x) out held = k .nodes .payloads x (omega (arith, out .1))
+  kept-leaves k (edge-payload e) out held = k .edges .payloads e (omega (arith, out .1))
+  kept-leaves k (node-bits i) out held = k .nodes .live i (omega (arith, out .1))
+  kept-leaves k (edge-bits i) out held = k .edges .live i (omega (arith, out .1))
+  kept-leaves k (axis-word d ends e) out held = cell-left d ends e (k .axis d .ends (at ends e) (omega (arith, out .1)) (omega (arith, out .0, same-nodes same, same-edges same)))
+  kept-leaves k (axis-word d adjacency i) out held = cell-left d adjacency i (k .axis d .adjacency (at adjacency i) (omega arith) (omega (arith, out .0, same-nodes same, same-edges same)))
+  kept-leaves k (axis-word d next e) out held = cell-left d next e (k .axis d .next (at next e) (omega (arith, held)) (omega (arith, out .0, same-nodes same, same-edges same)))
+  kept-leaves k (axis-word d links e) out held = cell-left d links e (k .axis d .links (at links e) (omega (arith, held)) (omega (arith, out .0, same-nodes same, same-edges same)))
+  kept-leaves k (axis-word d last x) out held = cell-left d last x (k .axis d .last (at last x) (omega (arith, out .1)) (omega (arith, out .0, same-nodes same, same-edges same)))
+  kept-leaves k (axis-word d first x) out held = cell-left d first x (k .axis d .first (at first x) (omega (arith, held)) (omega (arith, out .0, same-nodes same, same-edges same)))
+  kept-leaves k (axis-word d tail x) out held = cell-left d tail x (k .axis d .tail (at tail x) (omega (arith, held)) (omega (arith, out .0, same-nodes same, same-edges same)))
+  kept-leaves k (axis-word d count x) out held = cell-left d count x (k .axis d .count (at count x) (omega (arith, held)) (omega (arith, out .0, same-nodes same, same-edges same)))
+  kept-leaves k (axis-word d marks x) out held = cell-left d marks x (k .axis d .mark (at marks x) (omega (arith, out .1)) (omega (arith, out .0, same-nodes same, same-edges same)))
   kept-leaves k (axis-word d offsets x) out held = cell-left d offsets x (k .axis d .offsets (at offsets x) (omega arith))
 
   -- where all is in the base, and the first offset is 0
   module _ (all : (v .counts .nodes .base ≡ v .counts .nodes .bound) × (v .counts .edges .base ≡ v .counts .edges .bound))
-      (starts : (d : TraversalDirection) → offset-at (axis-words d v) (length (v .edges)) (length (v .nodes)) 0 ≡ 0) (k : Renewed w v) where
+      (starts : (d : TraversalDirection) → offset-at (axis-words d v) (edge-capacity v) (node-capacity v) 0 ≡ 0) (k : Renewed w v) where
     in-column : (d : TraversalDirection) (column : Column) (x : ℕ) → getD (axis-words d v) (at column x) 0 ≡ getD (axis-words d w) (at column x) 0
         → (word-at v (axis-word d column x) ≡ word-at w (axis-word d column x)) ⊎ OffsetOfNone v (axis-word d column x)
-    in-column d column x same = inl (cell-left d column x same)
+    in-column d column x is = inl (cell-left d column x is)
 
     -- an offset below the bound is a field, unless there is no node
     offset-of-none : (d : TraversalDirection) (x : ℕ) → x ≤ v .counts .nodes .bound → NoField v (axis-word d offsets x) → OffsetOfNone v (axis-word d offsets x)
@@ -83,19 +83,19 @@ module _ (w v : Words) (nodes : length (v .nodes) ≡ length (w .nodes)) (edges 
         (empty, (d, ap (axis-word d offsets) first, ap (λ (z : ℕ). word-at v (axis-word d offsets z)) first ∙ starts d))
 
     pub renewed-leaves : RenewalLeaves w v
-    renewed-leaves (node-payload x) out = inl (k .nodes x (omega (arith, out .1)))
-    renewed-leaves (edge-payload e) out = inl (k .edges e (omega (arith, out .1)))
-    renewed-leaves (node-bits i) out = inl (k .live-nodes i (omega (arith, out .1)))
-    renewed-leaves (edge-bits i) out = inl (k .live-edges i (omega (arith, out .1)))
-    renewed-leaves (axis-word d ends e) out = in-column d ends e (k .axis d .ends (at ends e) (omega (arith, out .1)) (omega (arith, out .0, nodes, edges)))
-    renewed-leaves (axis-word d adjacency i) out = in-column d adjacency i (k .axis d .adjacency (at adjacency i) (omega (arith, out .1, all .1)) (omega (arith, out .0, nodes, edges)))
-    renewed-leaves (axis-word d next e) out = in-column d next e (k .axis d .links (at next e) (omega arith) (omega (arith, out .0, nodes, edges)))
-    renewed-leaves (axis-word d links e) out = in-column d links e (k .axis d .links (at links e) (omega arith) (omega (arith, out .0, nodes, edges)))
-    renewed-leaves (axis-word d last x) out = in-column d last x (k .axis d .last (at last x) (omega (arith, out .1)) (omega (arith, out .0, nodes, edges)))
-    renewed-leaves (axis-word d first x) out = in-column d first x (k .axis d .runs (at first x) (omega arith) (omega (arith, out .0, nodes, edges)))
-    renewed-leaves (axis-word d tail x) out = in-column d tail x (k .axis d .runs (at tail x) (omega arith) (omega (arith, out .0, nodes, edges)))
-    renewed-leaves (axis-word d count x) out = in-column d count x (k .axis d .runs (at count x) (omega arith) (omega (arith, out .0, nodes, edges)))
-    renewed-leaves (axis-word d marks x) out = in-column d marks x (k .axis d .mark (at marks x) (omega (arith, out .1)) (omega (arith, out .0, nodes, edges)))
+    renewed-leaves (node-payload x) out = inl (k .nodes .payloads x (omega (arith, out .1)))
+    renewed-leaves (edge-payload e) out = inl (k .edges .payloads e (omega (arith, out .1)))
+    renewed-leaves (node-bits i) out = inl (k .nodes .live i (omega (arith, out .1)))
+    renewed-leaves (edge-bits i) out = inl (k .edges .live i (omega (arith, out .1)))
+    renewed-leaves (axis-word d ends e) out = in-column d ends e (k .axis d .ends (at ends e) (omega (arith, out .1)) (omega (arith, out .0, same-nodes same, same-edges same)))
+    renewed-leaves (axis-word d adjacency i) out = in-column d adjacency i (k .axis d .adjacency (at adjacency i) (omega (arith, out .1, all .1)) (omega (arith, out .0, same-nodes same, same-edges same)))
+    renewed-leaves (axis-word d next e) out = in-column d next e (k .axis d .links (at next e) (omega arith) (omega (arith, out .0, same-nodes same, same-edges same)))
+    renewed-leaves (axis-word d links e) out = in-column d links e (k .axis d .links (at links e) (omega arith) (omega (arith, out .0, same-nodes same, same-edges same)))
+    renewed-leaves (axis-word d last x) out = in-column d last x (k .axis d .last (at last x) (omega (arith, out .1)) (omega (arith, out .0, same-nodes same, same-edges same)))
+    renewed-leaves (axis-word d first x) out = in-column d first x (k .axis d .runs (at first x) (omega arith) (omega (arith, out .0, same-nodes same, same-edges same)))
+    renewed-leaves (axis-word d tail x) out = in-column d tail x (k .axis d .runs (at tail x) (omega arith) (omega (arith, out .0, same-nodes same, same-edges same)))
+    renewed-leaves (axis-word d count x) out = in-column d count x (k .axis d .runs (at count x) (omega arith) (omega (arith, out .0, same-nodes same, same-edges same)))
+    renewed-leaves (axis-word d marks x) out = in-column d marks x (k .axis d .mark (at marks x) (omega (arith, out .1)) (omega (arith, out .0, same-nodes same, same-edges same)))
     renewed-leaves (axis-word d offsets x) out =
         ⊎-elim (λ within. inr (offset-of-none d x (omega arith) out)) (λ past. in-column d offsets x (k .axis d .offsets (at offsets x) (omega arith)))
         (below-or-not x (v .counts .nodes .bound + 1))

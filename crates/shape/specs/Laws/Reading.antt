@@ -1,7 +1,7 @@
 -- What the shape of a store's words holds: flags, bounds, ends and adjacencies, each by the words that it is read from.
 use Prim.Native.Nat.{ℕ, _<_}
 use mathlib.Core.Path.{_≡_, refl, sym, ap, _∙_}
-use mathlib.Core.Bool.{false}
+use mathlib.Core.Bool.{Bool, false}
 use mathlib.Core.List.{List, map, map-map}
 use native.Mathlib.Nat.{zero-add}
 use lib.ListN.{length, getD, length-map}
@@ -9,14 +9,15 @@ use Rattle.plain.specs.declared.TraversalDirection.{TraversalDirection}
 use Rattle.plain.specs.declared.TraversalDirection.the-variants.{Outgoing, Incoming}
 use Rattle.plain.specs.declared.Counts.{Counts}
 use Rattle.plain.specs.Lists.{from}
-use Rattle.plain.specs.Plain.{NodeSlot, EdgeSlot, incidence, end-of, node-bound, edge-bound, node-flags, edge-flags}
-use Rattle.plain.specs.Laws.ListLaws.{getD-map, getD-from, length-from, map-getD}
+use Rattle.plain.specs.Plain.{NodeSlot, EdgeSlot, incidence, end-of, node-bound, edge-bound, node-flags, edge-flags, no-node, no-edge}
+use Rattle.plain.specs.Laws.ListLaws.{getD-map, getD-from, length-from, map-getD, map-same}
+use Rattle.liveness.specs.Flags.{live-flags}
 use Rattle.liveness.specs.FlagLaws.{length-flags}
 use Rattle.shape.specs.Columns.{end-at}
 use Rattle.shape.specs.Laws.Refining.{ends-of}
-use Rattle.shape.specs.Shape.{Axis, plain-of, adjacency-of, Words, node-live, edge-live, axis-words, adjacency-in, axis-of, shape-of, axis-in, no-adjacency, node-flags-of, edge-flags-of}
+use Rattle.shape.specs.Shape.{Axis, node-capacity, edge-capacity, plain-of, adjacency-of, Words, node-live, edge-live, node-slot-at, edge-slot-at, axis-words, adjacency-in, axis-of, shape-of, axis-in, no-adjacency, node-flags-of, edge-flags-of}
 
--- a list made of the slots below n
+-- a list made of the slots below n: its length, an entry, and its flags where they are those of live words
 module _ {A : Type 0} (f : ℕ → A) (n : ℕ) where
   pub made-length : length (map f (from 0 n)) ≡ n
   made-length = length-map (from 0 n) f ∙ length-from 0 n
@@ -24,33 +25,40 @@ module _ {A : Type 0} (f : ℕ → A) (n : ℕ) where
   pub made-at : (x : ℕ) (d : A) → x < n → getD (map f (from 0 n)) x d ≡ f x
   made-at x d l = getD-map f (from 0 n) x 0 d (rw (length-from 0 n) l) ∙ ap f (getD-from 0 n x 0 l ∙ zero-add x)
 
+made-flags : {A : Type 0} (slot : ℕ → A) (live-of : A → Bool) (words : List ℕ) (n : ℕ) → ((x : ℕ) → live-of (slot x) ≡ getD (live-flags words n) x false)
+    → map live-of (map slot (from 0 n)) ≡ live-flags words n
+made-flags slot live-of words n are =
+    map-map live-of slot (from 0 n) ∙ map-same (λ x. live-of (slot x)) (λ x. getD (live-flags words n) x false) (from 0 n) (λ x m. are x)
+    ∙ ap (λ (k : ℕ). map (λ x. getD (live-flags words n) x false) (from 0 k)) (sym (length-flags words n)) ∙ map-getD (live-flags words n) false
+
 module _ (w : Words) where
   pub node-bound-is : length (shape-of w .nodes) ≡ w .counts .nodes .bound
   unfolding shape-of
-  node-bound-is = made-length (λ x. record { payload = getD (w .nodes) x 0; live = getD (node-live w) x false }) (w .counts .nodes .bound)
+  node-bound-is = made-length (node-slot-at w) (w .counts .nodes .bound)
 
   pub edge-bound-is : length (shape-of w .edges) ≡ w .counts .edges .bound
   unfolding shape-of
-  edge-bound-is = made-length (λ e. record { payload = getD (w .edges) e 0; live = getD (edge-live w) e false }) (w .counts .edges .bound)
+  edge-bound-is = made-length (edge-slot-at w) (w .counts .edges .bound)
+
+  -- payloads
+  pub node-at : (x : ℕ) → x < w .counts .nodes .bound → getD (shape-of w .nodes) x no-node .payload ≡ getD (w .nodes) x 0
+  unfolding shape-of
+  node-at x l = ap (λ (s : NodeSlot). s .payload) (made-at (node-slot-at w) (w .counts .nodes .bound) x no-node l)
+
+  pub edge-at : (e : ℕ) → e < w .counts .edges .bound → getD (shape-of w .edges) e no-edge .payload ≡ getD (w .edges) e 0
+  unfolding shape-of
+  edge-at e l = ap (λ (s : EdgeSlot). s .payload) (made-at (edge-slot-at w) (w .counts .edges .bound) e no-edge l)
 
   pub node-flags-are : node-flags-of (shape-of w) ≡ node-live w
   unfolding shape-of
-  node-flags-are =
-      let slot : ℕ → NodeSlot = λ x. record { payload = getD (w .nodes) x 0; live = getD (node-live w) x false } in
-      let n = w .counts .nodes .bound in
-      map-map (λ (s : NodeSlot). s .live) slot (from 0 n) ∙ ap (λ (k : ℕ). map (λ x. getD (node-live w) x false) (from 0 k)) (sym (length-flags (w .live-nodes) n))
-      ∙ map-getD (node-live w) false
+  node-flags-are = made-flags (node-slot-at w) (λ (s : NodeSlot). s .live) (w .live-nodes) (w .counts .nodes .bound) (λ x. refl)
 
   pub edge-flags-are : edge-flags-of (shape-of w) ≡ edge-live w
   unfolding shape-of
-  edge-flags-are =
-      let slot : ℕ → EdgeSlot = λ e. record { payload = getD (w .edges) e 0; live = getD (edge-live w) e false } in
-      let n = w .counts .edges .bound in
-      map-map (λ (s : EdgeSlot). s .live) slot (from 0 n) ∙ ap (λ (k : ℕ). map (λ x. getD (edge-live w) x false) (from 0 k)) (sym (length-flags (w .live-edges) n))
-      ∙ map-getD (edge-live w) false
+  edge-flags-are = made-flags (edge-slot-at w) (λ (s : EdgeSlot). s .live) (w .live-edges) (w .counts .edges .bound) (λ e. refl)
 
   -- one direction
-  pub axis-is : (d : TraversalDirection) → axis-in d (shape-of w) ≡ axis-of (axis-words d w) (length (w .edges)) (length (w .nodes)) (w .counts)
+  pub axis-is : (d : TraversalDirection) → axis-in d (shape-of w) ≡ axis-of (axis-words d w) (edge-capacity w) (node-capacity w) (w .counts)
   unfolding shape-of
   axis-is Outgoing = refl
   axis-is Incoming = refl
@@ -76,9 +84,9 @@ module _ (ws : List ℕ) (ce cn : ℕ) (counts : Counts) where
 module _ (w : Words) where
   -- a node's adjacency in the shape is the one that the words of its axis have
   pub shape-adjacency : (d : TraversalDirection) (x : ℕ) → x < w .counts .nodes .bound
-      → adjacency-of d (shape-of w) x ≡ adjacency-in (axis-words d w) (length (w .edges)) (length (w .nodes)) (w .counts) x
+      → adjacency-of d (shape-of w) x ≡ adjacency-in (axis-words d w) (edge-capacity w) (node-capacity w) (w .counts) x
   shape-adjacency d x l =
-      ap (λ (a : Axis). getD (a .nodes) x no-adjacency) (axis-is w d) ∙ axis-adjacency (axis-words d w) (length (w .edges)) (length (w .nodes)) (w .counts) x l
+      ap (λ (a : Axis). getD (a .nodes) x no-adjacency) (axis-is w d) ∙ axis-adjacency (axis-words d w) (edge-capacity w) (node-capacity w) (w .counts) x l
 
   -- bounds and flags of the plain lists are the store's
   pub plain-node-bound : node-bound (plain-of (shape-of w)) ≡ w .counts .nodes .bound
@@ -98,9 +106,9 @@ module _ (w : Words) where
   plain-edge-flags = edge-flags-are w
 
   -- the ends in the plain lists are those that the words of the axis have
-  pub plain-ends : (d : TraversalDirection) → incidence d (plain-of (shape-of w)) .ends ≡ axis-of (axis-words d w) (length (w .edges)) (length (w .nodes)) (w .counts) .ends
+  pub plain-ends : (d : TraversalDirection) → incidence d (plain-of (shape-of w)) .ends ≡ axis-of (axis-words d w) (edge-capacity w) (node-capacity w) (w .counts) .ends
   plain-ends d = ends-of (shape-of w) d ∙ ap (λ (a : Axis). a .ends) (axis-is w d)
 
   pub plain-end : (d : TraversalDirection) (e : ℕ) → e < w .counts .edges .bound → end-of d (plain-of (shape-of w)) e ≡ end-at (axis-words d w) e
   plain-end d e l =
-      ap (λ (k : List ℕ). getD k e 0) (plain-ends d) ∙ axis-end (axis-words d w) (length (w .edges)) (length (w .nodes)) (w .counts) e l
+      ap (λ (k : List ℕ). getD k e 0) (plain-ends d) ∙ axis-end (axis-words d w) (edge-capacity w) (node-capacity w) (w .counts) e l

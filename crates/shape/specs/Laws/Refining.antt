@@ -16,11 +16,11 @@ use Rattle.plain.specs.declared.Operation.the-variants.{AddNode, AddEdge, Remov
 use Rattle.plain.specs.Lists.{member, without, keep, from, append-at, delete-at, set-all}
 use Rattle.plain.specs.Plain.{Plain, NodeSlot, EdgeSlot, Incidence, incidence, with-incidence, no-node, no-edge, killed-node, list-of, end-of, widened, attached, node-added, edge-added, edge-removed, edges-removed, node-removed, redirected, moved, payload-set}
 use Rattle.plain.specs.Step.{Capacities}
+use Rattle.plain.specs.WellFormed.{Incident, WellFormed}
 use Rattle.plain.specs.Laws.Booleans.{by-test, below-or-not, and-left, or-false, or-true, or-other, eqb-comm}
 use Rattle.plain.specs.Laws.ListLaws.{map-snoc, getD-map, getD-from, length-from, member-append}
 use Rattle.plain.specs.Laws.Deleting.{getD-set, getD-snoc, map-set, getD-append-at, length-append-at, length-delete-at, without-all, without-all-keeps}
 use Rattle.plain.specs.Laws.Rank.{live-below}
-use Rattle.plain.specs.Laws.WellFormed.{Incident, WellFormed}
 use Rattle.plain.specs.Laws.Directions.{redirected-list, moved-list}
 use Rattle.plain.specs.Laws.Operating.{incident, edge-below, edges-removed-well-formed, edges-removed-list, edges-removed-nodes, edges-removed-ends, edges-removed-live}
 use Rattle.shape.specs.Chains.{In}

@@ -1,12 +1,11 @@
 -- `validate::broken_axes` meets its contract: the ends, the index and the rings of both directions, and then what is left.
 use mathlib.Core.Path.{_≡_}
 use mathlib.Core.Bool.{true}
-use lib.ListN.{length}
 use Rattle.plain.specs.declared.TraversalDirection.{TraversalDirection}
 use Rattle.plain.specs.declared.TraversalDirection.the-variants.{Outgoing, Incoming}
 use Rattle.plain.specs.Lists.{all, from}
 use Rattle.plain.specs.Laws.Booleans.{both-true}
-use Rattle.shape.specs.Shape.{Words, axis-words, store}
+use Rattle.shape.specs.Shape.{Words, node-capacity, edge-capacity, axis-words, store}
 use Rattle.shape.specs.Rules.{ends-right, rule-3, index-right, rule-4, ring-right, rule-5}
 use Rattle.validate.specs.Passing.{refused, accepted}
 use Rattle.validate.specs.Sizes.{AxisSized, axis-sized}
@@ -22,7 +21,7 @@ abbrev start : tie.After-ends-right → tie.Start
 start r = r .before .before .before .before .before .before .before
 
 -- each direction has its words
-sized : (s : tie.Start) (d : TraversalDirection) → let w = lent s in AxisSized (axis-words d w) (length (w .edges)) (length (w .nodes)) (w .counts)
+sized : (s : tie.Start) (d : TraversalDirection) → let w = lent s in AxisSized (axis-words d w) (edge-capacity w) (node-capacity w) (w .counts)
 sized s d = axis-sized (lent s) (s .pre .r1) d
 
 -- rule 3 of one direction, and of both
@@ -36,7 +35,7 @@ three c = both-true (ends-out (c .before .before)) (accepted (c .before .ends-ri
 -- rule 4
 index-out : (c : tie.Else3)
     → let w = lent (start (c .before .before .before .before .before)) in
-    index-right (length (w .edges)) (length (w .nodes)) (w .counts .nodes .base) (w .counts .edges .base) (w .outgoing) ≡ true
+    index-right (edge-capacity w) (node-capacity w) (w .counts .nodes .base) (w .counts .edges .base) (w .outgoing) ≡ true
 index-out c = accepted (c .before .index-right .ensures) (c .if3 .left)
 
 four : (c : tie.Else4) → rule-4 (lent (start (c .before .before .before .before .before .before .before))) ≡ true
@@ -46,7 +45,7 @@ four c = both-true (index-out (c .before .before)) (accepted (c .before .index-r
 -- rule 5
 rings-out : (c : tie.Else5)
     → let w = lent (start (c .before .before .before .before .before .before .before .before .before)) in
-    all (ring-right (length (w .edges)) (w .counts .edges .base) (w .counts .edges .bound) (w .outgoing)) (from 0 (w .counts .nodes .bound)) ≡ true
+    all (ring-right (edge-capacity w) (w .counts .edges .base) (w .counts .edges .bound) (w .outgoing)) (from 0 (w .counts .nodes .bound)) ≡ true
 rings-out c = accepted (c .before .rings-right .ensures) (c .if5 .left)
 
 threaded : (c : tie.Else6) → Threaded (lent (start (c .before .before .before .before .before .before .before .before .before .before .before)))

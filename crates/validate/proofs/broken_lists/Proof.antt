@@ -1,10 +1,9 @@
 -- `validate::broken_lists` meets its contract: the runs of both directions, then the walks.
 use mathlib.Core.Path.{_≡_, sym, _∙_}
 use mathlib.Core.Bool.{true}
-use lib.ListN.{length}
 use Rattle.plain.specs.declared.TraversalDirection.the-variants.{Outgoing, Incoming}
 use Rattle.plain.specs.Laws.Booleans.{both-true}
-use Rattle.shape.specs.Shape.{Words, node-live, edge-live, shape-of, plain-of, store}
+use Rattle.shape.specs.Shape.{Words, node-capacity, edge-capacity, node-live, edge-live, shape-of, plain-of, store}
 use Rattle.shape.specs.Rules.{runs-right, rule-6, walks-right, rule-7}
 use Rattle.shape.specs.Laws.Judging.{Structured}
 use Rattle.validate.specs.Passing.{refused, accepted}
@@ -22,7 +21,7 @@ start r = r .before .before .before .before .before .before .before
 
 -- the runs of one direction pass
 runs-out : (c : tie.Else1)
-    → let w = lent (start (c .before)) in runs-right (length (w .edges)) (length (w .nodes)) (w .counts) (node-live w) (edge-live w) (w .outgoing) ≡ true
+    → let w = lent (start (c .before)) in runs-right (edge-capacity w) (node-capacity w) (w .counts) (node-live w) (edge-live w) (w .outgoing) ≡ true
 runs-out c = accepted (c .before .runs-right .ensures) (c .if1 .left)
 
 -- and those of both

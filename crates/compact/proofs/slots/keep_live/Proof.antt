@@ -5,7 +5,8 @@ use mathlib.Core.Path.{sym, _∙_}
 use native.Mathlib.Omega.{arith}
 use borrow.Author.Needs.{needs}
 use Rattle.liveness.specs.Flags.{live-flags}
-use Rattle.shape.specs.Laws.Indexing.{Rewritten, rewritten-none}
+use Rattle.shape.specs.Index.{Rewritten}
+use Rattle.shape.specs.Laws.Indexing.{rewritten-none}
 use Rattle.compact.specs.Slots.{kept-word}
 use Rattle.compact.proofs.slots.Turns.{rewritten-next, Passed, passed-none, passed-live, passed-dead, kept-live, kept-all}
 use Rattle.compact.proofs.slots.keep_live.Statement.{statement}

@@ -4,7 +4,8 @@ use Prim.Native.Nat.{ℕ, _-_, _≤_, _<_}
 use mathlib.Core.Path.{_≡_, ap}
 use native.Mathlib.Omega.{arith}
 use lib.ListN.{length, getD}
-use Rattle.shape.specs.Laws.Indexing.{Rewritten, rewritten-none, rewritten-all}
+use Rattle.shape.specs.Index.{Rewritten}
+use Rattle.shape.specs.Laws.Indexing.{rewritten-none, rewritten-all}
 use Rattle.compact.specs.Slots.{translated-word}
 use Rattle.compact.proofs.slots.Turns.{rewritten-next}
 use Rattle.compact.proofs.slots.translate.Statement.{statement}

@@ -7,7 +7,8 @@ use borrow.Author.Needs.{needs}
 use Rattle.plain.specs.Compaction.{renumbering}
 use Rattle.plain.specs.Renumbering.{lookup}
 use Rattle.liveness.specs.Flags.{live-flags}
-use Rattle.shape.specs.Laws.Indexing.{Rewritten, rewritten-none}
+use Rattle.shape.specs.Index.{Rewritten}
+use Rattle.shape.specs.Laws.Indexing.{rewritten-none}
 use Rattle.compact.proofs.slots.Turns.{rewritten-next, Passed, passed-none, passed-live, passed-dead, mapped-live, mapped-dead, mapped-all}
 use Rattle.compact.proofs.slots.write_map.Statement.{statement}
 use Rattle.compact.proofs.slots.write_map.Tie as tie

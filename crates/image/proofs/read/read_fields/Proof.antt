@@ -5,7 +5,8 @@ use mathlib.Core.Path.{_≡_, ap, _∙_}
 use native.Mathlib.Omega.{arith}
 use native.Mathlib.Nat.{mul-zero}
 use Rattle.plain.specs.Bits.{field-at}
-use Rattle.shape.specs.Laws.Indexing.{Rewritten, rewritten-none, rewritten-more, rewritten-all}
+use Rattle.shape.specs.Index.{Rewritten}
+use Rattle.shape.specs.Laws.Indexing.{rewritten-none, rewritten-more, rewritten-all}
 use Rattle.image.specs.Spread.{spread, spread-room, spread-next, further}
 use Rattle.image.proofs.read.read_fields.Statement.{statement}
 use Rattle.image.proofs.read.read_fields.Tie as tie

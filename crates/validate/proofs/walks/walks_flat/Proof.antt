@@ -31,7 +31,7 @@ returns-6 c =
     let s = l .before .before in
     let n = s .before .before in
     λ h. walks-are-right (n .before .before .before .before .pre) (some-node (n .if1 .left)) (s .if2 .left)
-    (live-sound _ _ _ (sym (l .live-right .ensures) ∙ not-false _ (w .before .if3 .left))) (sym (w .words-below .ensures) ∙ not-false _ (b .before .if4 .left))
+    (live-sound _ _ (sym (l .live-right .ensures) ∙ not-false _ (w .before .if3 .left))) (sym (w .words-below .ensures) ∙ not-false _ (b .before .if4 .left))
     (b .base-flat .ensures (not-false _ (c .before .if5 .left))) (c .delta-flat .ensures h)
 
 pub walks-flat-spec : {M : Type 1} → statement M

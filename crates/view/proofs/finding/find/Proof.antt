@@ -26,7 +26,7 @@ returns-3 c =
 is-live-requires : tie.Need-is-live-requires
 is-live-requires c κs =
     let k = c .before .before .before .judge .ensures .checked (c .before .before .if1 .left) in
-    omega (arith, k .live-nodes-long, k .nodes .bound-within)
+    omega (arith, k .nodes .live-long, k .nodes .bounded .bound-within)
 
 find-requires : tie.Need-find-requires
 find-requires c κs =
