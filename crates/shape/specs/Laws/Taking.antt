@@ -86,10 +86,6 @@ module _ (flags : List Bool) where
         keep-append (live-in flags) run (a .ring),
       )
 
-  -- a swept run that took over the ring walks as the node did
-  pub live-edited : (a : Adjacency) → live-entries flags (swept flags (taken flags a)) ≡ live-entries flags (raw a)
-  live-edited a = keep-again (live-in flags) (taken flags a) ∙ live-taken a
-
   -- a swept run holds live edges only
   pub swept-live : (run : List ℕ) → LiveOnly flags (swept flags run)
   swept-live run e m = and-right (member e run) (live-in flags e) (sym (member-keep (live-in flags) e run) ∙ m)
@@ -97,3 +93,7 @@ module _ (flags : List Bool) where
   -- and one that holds live edges only is left
   pub swept-all : (run : List ℕ) → LiveOnly flags run → swept flags run ≡ run
   swept-all run alive = keep-passing (live-in flags) run alive
+
+  -- a swept run that has taken over the ring walks as the node did
+  pub live-edited : (a : Adjacency) → live-entries flags (swept flags (taken flags a)) ≡ live-entries flags (raw a)
+  live-edited a = keep-again (live-in flags) (taken flags a) ∙ live-taken a
