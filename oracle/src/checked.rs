@@ -12,7 +12,7 @@ use crate::graph::store::Graph;
 use crate::graph::traverse::TraversalDirection::Outgoing;
 use crate::model::{Capacities, DIRECTIONS};
 #[cfg(ported)]
-use crate::ported::Ported;
+use crate::ported::{Ported, compacted_walk};
 use crate::rng::Rng;
 use crate::rust_store::{RustStore, edge, walk};
 #[cfg(ported)]
@@ -50,7 +50,7 @@ pub fn rule_of(text: &str) -> Option<u32> {
     }
 }
 
-fn written(graph: &Store) -> Value {
+pub fn written(graph: &Store) -> Value {
     to_value(graph).expect("a store can be written")
 }
 
@@ -69,6 +69,18 @@ fn put(value: &mut Value, pointer: &str, new: Value) {
         Value::Array(entries) => entries[key.parse::<usize>().expect("an index")] = new,
         Value::Object(fields) => drop(fields.insert(key.to_string(), new)),
         other => panic!("{other} has no parts"),
+    }
+}
+
+/// Links a node's ring in this order; `chain` is 0 for outgoing and 1 for incoming.
+pub fn put_ring(value: &mut Value, chain: usize, node: usize, ring: &[u32], base_edges: u32) {
+    for (at, edge) in ring.iter().enumerate() {
+        let following = ring[(at + 1) % ring.len()];
+        let link = &mut value["chains"]["next"][(edge - base_edges) as usize][chain];
+        *link = json!(following - base_edges);
+    }
+    if let Some(last) = ring.last() {
+        value["chains"]["last"][node][chain] = json!(last - base_edges);
     }
 }
 
@@ -196,14 +208,7 @@ fn rearranged(graph: &Store, rng: &mut Rng) -> Value {
         for (node, part) in parts.into_iter().enumerate() {
             let mut ring = part.ring;
             rng.shuffle(&mut ring);
-            for (at, edge) in ring.iter().enumerate() {
-                let following = ring[(at + 1) % ring.len()];
-                let link = &mut value["chains"]["next"][(edge - base_edges) as usize][chain];
-                *link = json!(following - base_edges);
-            }
-            if let Some(last) = ring.last() {
-                value["chains"]["last"][node][chain] = json!(last - base_edges);
-            }
+            put_ring(&mut value, chain, node, &ring, base_edges);
             if let Some(mut run) = part.run {
                 for edge in unused.split_off(unused.len() / 2) {
                     run.insert(rng.below(run.len() + 1), edge);
@@ -222,15 +227,20 @@ fn rearranged(graph: &Store, rng: &mut Rng) -> Value {
     value
 }
 
-/// Goes on with a store from elsewhere, comparing everything.
-fn compare_foreign(rust: &RustStore, rng: &mut Rng, tally: &mut Tally) -> Result<bool, Difference> {
+/// Goes on with a store from elsewhere, comparing everything. Whether the Rust is
+/// the yardstick of its last compaction, and whether the Rust changes a walk then.
+fn compare_foreign(
+    rust: &RustStore,
+    rng: &mut Rng,
+    tally: &mut Tally,
+) -> Result<[bool; 2], Difference> {
     let value = rearranged(&rust.graph, rng);
     let place = || format!("a rearranged store, {value}");
     let graph = match read(value.clone()) {
         Ok(graph) => graph,
         Err(text) => {
             tally.same(Thing::Check, place, "accepted", text)?;
-            return Ok(false);
+            return Ok([true, false]);
         }
     };
     let mut trio = Trio::foreign(RustStore {
@@ -254,25 +264,22 @@ fn compare_foreign(rust: &RustStore, rng: &mut Rng, tally: &mut Tally) -> Result
         ported.compare_step(&step, true, tally)?;
     }
     trio.compare_everything(tally)?;
-    let put_in_slot_order = trio.walks_differ_from_settled();
+    let in_order = trio.shape.in_order();
+    let reordered = trio.in_rust_order() != trio.model.plain;
     trio.compact(tally)?;
     trio.compare_everything(tally)?;
-    Ok(put_in_slot_order)
+    Ok([in_order, reordered])
 }
 
-/// The smallest stores whose walk compaction puts in slot order: no base part and
-/// the ring 1, 0; and the base part [0, 0], both dead, with the ring 3, 2.
-fn compare_smallest_settled(tally: &mut Tally) -> Same {
+/// The smallest stores whose walk the Rust's compaction puts in slot order and the
+/// port's keeps: no base part and the ring 1, 0; and the base part [0, 0], both
+/// dead, with the ring 3, 2.
+fn compare_smallest_reordered(tally: &mut Tally) -> Same {
     let looped = [2, 0, 0, 5];
     let mut rust = RustStore::fresh(Capacities { nodes: 1, edges: 4 });
     perform(&mut rust, &[[1, 0, 0, 7], looped, looped]);
     let ring_turned = ("/chains/last/0", json!([0, 0]));
-    compare_settled(
-        &rust.graph,
-        std::slice::from_ref(&ring_turned),
-        &[1, 0],
-        tally,
-    )?;
+    compare_reordered(&rust, std::slice::from_ref(&ring_turned), &[1, 0], tally)?;
 
     rust.graph.compact();
     perform(&mut rust, &[[3, 0, 0, 0], [3, 1, 0, 0], looped, looped]);
@@ -281,18 +288,18 @@ fn compare_smallest_settled(tally: &mut Tally) -> Same {
         ("/in_edges", json!([0, 0])),
         ring_turned,
     ];
-    compare_settled(&rust.graph, &twice, &[3, 2], tally)
+    compare_reordered(&rust, &twice, &[3, 2], tally)
 }
 
 /// The changed store passes the check, has this walk, and after compaction the
-/// walk 0, 1.
-fn compare_settled(
-    graph: &Store,
+/// walk 0, 1 in the Rust; in the port 1, 0, as before.
+fn compare_reordered(
+    rust: &RustStore,
     changes: &[(&str, Value)],
     walked: &[u32],
     tally: &mut Tally,
 ) -> Same {
-    let mut value = written(graph);
+    let mut value = written(&rust.graph);
     for (pointer, new) in changes {
         put(&mut value, pointer, new.clone());
     }
@@ -301,6 +308,15 @@ fn compare_settled(
         Ok(graph) => graph,
         Err(text) => return tally.same(Thing::Check, place, "accepted", text),
     };
+    #[cfg(ported)]
+    {
+        let rust = RustStore {
+            graph: graph.clone(),
+            capacities: rust.capacities,
+        };
+        let kept = compacted_walk(&rust);
+        tally.same(Thing::BookForeignModel, place, vec![1, 0], kept)?;
+    }
     let before = walk(&graph, Outgoing, 0);
     graph.compact();
     let after = walk(&graph, Outgoing, 0);
@@ -316,9 +332,9 @@ fn compare_settled(
 /// compared with itself; now and then a rearranged one goes on.
 pub fn compare(sequences: usize, seed: u64, tally: &mut Tally) -> Same {
     compare_broken(tally)?;
-    compare_smallest_settled(tally)?;
+    compare_smallest_reordered(tally)?;
     let mut rng = Rng::new(seed);
-    let (mut foreign, mut in_slot_order) = (0, 0);
+    let (mut foreign, mut by_rust, mut in_slot_order) = (0, 0, 0);
     for _ in 0..sequences {
         let mut trio = Trio::fresh(SHORT.capacities(&mut rng));
         let mix = rng.pick(&MIXES);
@@ -340,12 +356,16 @@ pub fn compare(sequences: usize, seed: u64, tally: &mut Tally) -> Same {
             )?;
             if rng.one_in(4) {
                 foreign += 1;
-                in_slot_order += u64::from(compare_foreign(&trio.rust, &mut rng, tally)?);
+                let [in_order, reordered] = compare_foreign(&trio.rust, &mut rng, tally)?;
+                by_rust += u64::from(in_order);
+                in_slot_order += u64::from(reordered);
             }
         }
     }
     println!(
-        "stores from elsewhere: {foreign}; of them {in_slot_order} where compaction puts a list in slot order"
+        "stores from elsewhere: {foreign}; the Rust is the yardstick of {by_rust} and the model of {}, \
+         of which the Rust's compaction puts a list of {in_slot_order} in slot order",
+        foreign - by_rust
     );
     Ok(())
 }

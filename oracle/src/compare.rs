@@ -149,16 +149,21 @@ impl Trio {
 
     /// Compacts, compares all that a compaction leaves, and gives it.
     pub fn compact(&mut self, tally: &mut Tally) -> Result<Compaction, Difference> {
-        if self.foreign {
-            self.settle();
-        }
+        let place = || "compaction".to_string();
+        let in_rust_order = (!self.shape.in_order()).then(|| self.in_rust_order().compaction());
         let expected = self.model.compact();
         let given = self.rust.graph.compact();
-        let place = || "compaction".to_string();
         let maps = [expected.node_map.clone(), expected.edge_map.clone()];
         tally.same(Thing::Map, place, &maps, &rust_store::maps(&given))?;
         let index = self.rust.graph.index();
-        tally.same(Thing::Work, place, &expected.work, &index)?;
+        match in_rust_order {
+            None => tally.same(Thing::Work, place, &expected.work, &index)?,
+            // The Rust is no yardstick: it goes on with the lists that are kept.
+            Some(other) => {
+                tally.same(Thing::RustOrder, place, &other.work, &index)?;
+                self.rust.put(&expected.plain);
+            }
+        }
         compare_lookups(&maps, &given, tally)?;
 
         self.joined = Some(match self.joined.take() {
@@ -182,24 +187,17 @@ impl Trio {
         Ok(expected)
     }
 
-    /// Only where neither a fresh store nor an image led: compaction puts some
-    /// lists in slot order, and the shape tells which.
-    fn settle(&mut self) {
-        let plain = &mut self.model.plain;
+    /// The lists in the order in which the Rust's compaction takes them: it puts
+    /// some in slot order, and the shape tells which.
+    pub fn in_rust_order(&self) -> Plain {
+        let mut plain = self.model.plain.clone();
         let sides = [&mut plain.outgoing, &mut plain.incoming];
         for (direction, incidence) in DIRECTIONS.into_iter().zip(sides) {
             for (node, list) in (0..).zip(&mut incidence.lists) {
-                *list = self.shape.settled(direction, node);
+                *list = self.shape.rust_order(direction, node);
             }
         }
-    }
-
-    /// Whether compaction puts some list in slot order that is not.
-    #[cfg(feature = "serde")]
-    pub fn walks_differ_from_settled(&self) -> bool {
-        let mut settled = self.clone();
-        settled.settle();
-        self.foreign && settled.model.plain != self.model.plain
+        plain
     }
 
     /// A compacted store: its image, the store that reading the image leaves,

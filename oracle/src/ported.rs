@@ -28,6 +28,8 @@ use crate::calls::{self, Lots};
 use crate::compare::Touched;
 use crate::generate::Step;
 use crate::graph::store::Renumbering;
+#[cfg(feature = "serde")]
+use crate::lots::LotBook;
 use crate::model::{Answer, Capacities, DIRECTIONS, Model, NONE, Operation};
 use crate::rust_store::{self, RustStore, edge, node, record};
 use crate::sequences::{self, Same, Sides};
@@ -170,8 +172,8 @@ impl Ported {
     }
 
     fn compact(&mut self, tally: &mut Tally) -> Same {
-        self.model.compact();
-        let renumbering = self.rust.graph.compact();
+        let kept = self.model.compact().plain;
+        let (renumbering, _) = self.rust.compact_as(&kept);
         maps::compare_lookups(&renumbering, tally)?;
         if let Some(earlier) = &self.renumbering {
             maps::compare_composed(earlier, &renumbering, tally)?;
@@ -359,6 +361,14 @@ pub fn compare(operations: u64, depth: usize, seed: u64, tally: &mut Tally) -> S
         book::compare(operations, operations / 10, seed, tally)?;
     }
     Ok(())
+}
+
+/// The out-list of node 0 after a compaction by the proved code.
+#[cfg(feature = "serde")]
+pub fn compacted_walk(rust: &RustStore) -> Vec<u32> {
+    let mut book = LotBook::from_memory(Memory::of(rust).words());
+    book.compact().expect("a store");
+    book.outgoing(0).expect("a store")
 }
 
 /// The wrapper's lot books alone, on so many operations, and a tenth as many on

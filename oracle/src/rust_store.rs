@@ -11,6 +11,8 @@ use crate::graph::store::{EdgeId, Graph, NodeId, Renumbering};
 use crate::graph::traverse::TraversalDirection;
 use crate::image;
 use crate::model::{Answer, Capacities, Incidence, NONE, Operation, Plain, Slot};
+#[cfg(ported)]
+use crate::shape::Shape;
 
 pub const fn node(slot: u32) -> NodeId {
     NodeId::from_raw(slot)
@@ -110,6 +112,18 @@ impl RustStore {
             nodes: nodes.clone().map(node_slot).collect(),
             edges: edges.clone().map(edge_slot).collect(),
         }
+    }
+
+    /// Compacts. Where the Rust is no yardstick, the lists that are kept take the
+    /// place of its own; whether it is one.
+    #[cfg(ported)]
+    pub fn compact_as(&mut self, kept: &Plain) -> (Renumbering, bool) {
+        let in_order = Shape::of(&self.graph).in_order();
+        let renumbering = self.graph.compact();
+        if !in_order {
+            self.put(kept);
+        }
+        (renumbering, in_order)
     }
 
     /// Puts the nodes, edges and lists of an image in place of all.

@@ -23,6 +23,21 @@ impl Part {
     pub fn front(&self) -> &[u32] {
         self.run.as_deref().unwrap_or(&self.base)
     }
+
+    /// What keeps the Rust from being the yardstick of a compaction, or nothing:
+    /// it is one "wherever rings ascend and run entries precede the ring's in
+    /// number". Base entries precede them in every store that passes the check.
+    fn out_of_order(&self) -> Option<&'static str> {
+        if !self.ring.is_sorted_by(|a, b| a < b) {
+            return Some("a ring does not ascend");
+        }
+        match (self.front().iter().max(), self.ring.first()) {
+            (Some(most), Some(least)) if most >= least => {
+                Some("a run or base entry is not below the ring's")
+            }
+            _ => None,
+        }
+    }
 }
 
 #[derive(Debug, Clone, PartialEq, Eq)]
@@ -179,9 +194,16 @@ impl Shape {
             .collect()
     }
 
-    /// The walk as compaction takes it: "a list whose base part or run ascends
-    /// (its dead entries read too) comes out in slot order, as in the Rust."
-    pub fn settled(&self, direction: TraversalDirection, node: u32) -> Vec<u32> {
+    /// Whether the Rust is the yardstick of this store's compaction.
+    pub fn in_order(&self) -> bool {
+        let mut parts = self.sides.iter().flat_map(|side| &side.parts);
+        parts.all(|part| part.out_of_order().is_none())
+    }
+
+    /// The walk as the Rust's compaction takes it: in slot order where the run or
+    /// base part ascends, dead entries read too. In a store that is in order it is
+    /// the walk.
+    pub fn rust_order(&self, direction: TraversalDirection, node: u32) -> Vec<u32> {
         let mut walk = self.walk(direction, node);
         let part = &self.sides[side_of(direction)].parts[node as usize];
         if part.front().is_sorted() {
@@ -233,16 +255,10 @@ impl Shape {
             let mut in_run = vec![false; edges];
             let mut in_ring = vec![false; edges];
             for (node, part) in side.parts.iter().enumerate() {
-                if !part.ring.is_sorted_by(|a, b| a < b) {
-                    return Some("a ring does not ascend");
+                if let Some(text) = part.out_of_order() {
+                    return Some(text);
                 }
-                let front = part.front();
-                if let (Some(most), Some(least)) = (front.iter().max(), part.ring.first())
-                    && most >= least
-                {
-                    return Some("a run or base entry is not below the ring's");
-                }
-                let mut entries = front.iter().chain(&part.ring);
+                let mut entries = part.front().iter().chain(&part.ring);
                 if entries.any(|&edge| side.ends[edge as usize] != node as u32) {
                     return Some("an entry's end is not its node");
                 }

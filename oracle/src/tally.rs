@@ -60,6 +60,8 @@ things! {
         "A short second map gives NONE.";
     Work: "work slices",
         "Work then holds the new out adjacency, then the in adjacency";
+    RustOrder: "work slices of the Rust in another order than the walks, where it is no yardstick",
+        "the other stores are named in the differences file";
     Again: "second compactions",
         "Compaction drops the dead slots; an identity map holds i at each i below the bound";
     Image: "images",
@@ -120,6 +122,10 @@ things! {
         "The check, the yes or no reads of a store, bounds and counts: 1.";
     BookCompaction: "book: compactions, their maps, work slices and refusals, and second ones",
         "Compaction works as `Graph::compact`.";
+    BookForeignRust: "book: compactions of stores from elsewhere, judged by the Rust",
+        "The Rust remains the yardstick wherever rings ascend and run entries precede the ring's in number";
+    BookForeignModel: "book: compactions of stores from elsewhere with rings in another order, judged by the model",
+        "compaction, joining and the image keep every walk of every store that passes the check, ring order included";
     BookImage: "book: images written, into slices of several lengths, and refused",
         "Only compact stores have one. Writing: 1, 11, 2.";
     BookReading: "book: images read, and refused",

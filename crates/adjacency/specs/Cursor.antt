@@ -8,7 +8,7 @@ use mathlib.Core.List.{List, [], _∷_, _++_}
 use lib.ListN.{length, getD}
 use lib.Dec.{eqb, ltb}
 use Rattle.plain.specs.Numbers.{NONE, LIMIT}
-use Rattle.plain.specs.Lists.{keep}
+use Rattle.plain.specs.Lists.{keep, written}
 use Rattle.liveness.specs.Flags.{live-flags}
 use Rattle.shape.specs.Chains.{chain, until, In}
 use Rattle.shape.specs.Shape.{between, live-in}
@@ -118,6 +118,11 @@ pub record Writable (linked : Bool) (entries next : List ℕ) (tombstoned : Bool
     : Type 0 where
   pub seekable : Seekable linked entries next live slots c
   pub fits : length (listed-left linked entries next tombstoned live slots c) ≤ length out
+
+-- A list written to the start of a slice, and its length.
+pub record ListWritten (list entry : List ℕ) (size : ℕ) (exit : List ℕ) : Type 0 where
+  pub counted : size ≡ length list
+  pub wrote : exit ≡ written list entry
 
 -- What a search for the next entry that passes finds: the walk from that entry on is the entry and what the cursor left has to read.
 pub record Sought (test : ℕ → Bool) (linked : Bool) (entries next : List ℕ) (c : AdjacencyCursor) (s : Step) : Type 0 where

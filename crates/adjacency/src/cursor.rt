@@ -9,7 +9,7 @@ ghost use lib.ListN.{length};
 ghost use Rattle.plain.specs.Numbers.{NONE as none};
 ghost use Rattle.plain.specs.Lists.{written};
 ghost use Rattle.liveness.specs.Flags.{live-flags};
-ghost use Rattle.adjacency.specs.Cursor.{word, part-count, exhausted as exhausted-cursor, base-at, delta-at, ring-step, step-of, listed, listed-left, Ready, Seekable, Sought, Writable};
+ghost use Rattle.adjacency.specs.Cursor.{word, part-count, exhausted as exhausted-cursor, base-at, delta-at, ring-step, step-of, listed, listed-left, Ready, Seekable, Sought, Writable, ListWritten};
 ghost use Rattle.adjacency.specs.Finding.{first-of, ends-at};
 use plain::NONE;
 
@@ -211,7 +211,8 @@ impl AdjacencyCursor {
         }
     }
 
-    // Writes the listed entries that are left to the start of `out`. It steps for itself: most walks are short, and a search for each entry is a call more.
+    // Writes the listed entries that are left to the start of `out`, and answers how many they are. It steps for itself: most walks are short, and a search for
+    // each entry is a call more.
     pub fn write(
         self,
         linked: bool,
@@ -221,9 +222,9 @@ impl AdjacencyCursor {
         live: &[u64],
         slots: usize,
         out: &mut [u32],
-    )
+    ) -> usize
         requires { ⌜ Writable linked (now entries) (now next) tombstoned (now live) slots self (now out) ⌝ }
-        ensures { λ _. ⌜ now (out .exit) ≡ written (listed-left linked (now (entries .entry)) (now (next .entry)) tombstoned (now (live .entry)) slots self) (now (out .entry)) ⌝ }
+        ensures { λ r. ⌜ ListWritten (listed-left linked (now (entries .entry)) (now (next .entry)) tombstoned (now (live .entry)) slots self) (now (out .entry)) r (now (out .exit)) ⌝ }
     {
         let mut cursor = self;
         let mut n: usize = 0;
@@ -238,7 +239,7 @@ impl AdjacencyCursor {
                     }
                 }
                 Found::Done => {
-                    return;
+                    return n;
                 }
             }
             cursor = step.cursor;

@@ -1,4 +1,4 @@
-// Walks over one node's adjacency in one direction, from the packed axis: where a walk starts, the walk into a lent slice with the count first, degrees, and far
+// Walks over one node's adjacency in one direction, from the packed axis: where a walk starts, the walk into a lent slice with its length, degrees, and far
 // ends. Both directions use the same functions with the one axis or the other. `edges` and `nodes` are the capacities of the axis; `live` says whether the node
 // is live.
 
@@ -8,6 +8,7 @@ ghost use Prim.Native.Nat.{_≤_};
 ghost use lib.ListN.{length};
 ghost use Rattle.plain.specs.Lists.{written};
 ghost use Rattle.shape.specs.Columns.{end-at};
+ghost use Rattle.adjacency.specs.Cursor.{ListWritten};
 ghost use Rattle.adjacency.specs.Walk.{walk-in, tombstoned-in, entries-column, next-column, ColumnsThere, Readable, Walkable, WalkFits, Started};
 ghost use Rattle.adjacency.specs.Finding.{first-of, ends-at};
 use crate::cursor::AdjacencyCursor;
@@ -111,7 +112,7 @@ pub fn count_walk(
     start.cursor.count(linked, entries, next, tombstoned(counts), live_edges, slots)
 }
 
-// Writes a node's walk to the start of `out`. The caller has counted it.
+// Writes a node's walk to the start of `out`, and answers its length. The caller knows that it fits.
 pub fn write_walk(
     axis: &[u32],
     edges: usize,
@@ -121,9 +122,9 @@ pub fn write_walk(
     node: usize,
     live: bool,
     out: &mut [u32],
-)
+) -> usize
     requires { ⌜ WalkFits (now axis) edges nodes counts (now «live_edges») node live (now out) ⌝ }
-    ensures { λ _. ⌜ now (out .exit) ≡ written (walk-in (now (axis .entry)) edges nodes counts (now («live_edges» .entry)) node live) (now (out .entry)) ⌝ }
+    ensures { λ r. ⌜ ListWritten (walk-in (now (axis .entry)) edges nodes counts (now («live_edges» .entry)) node live) (now (out .entry)) r (now (out .exit)) ⌝ }
 {
     let start = start(axis, edges, nodes, counts, node, live);
     let linked = start.linked;
@@ -138,7 +139,7 @@ pub fn write_walk(
         live_edges,
         slots,
         out,
-    );
+    )
 }
 
 // Writes the far ends of a node's walk to the start of `out`: successors, or predecessors. `far` is the axis of the other direction.

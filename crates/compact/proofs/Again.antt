@@ -2,31 +2,25 @@
 use Prim.Native.Nat.{ℕ, _+_, _*_, _≤_, _<_}
 use mathlib.Core.Path.{_≡_, sym, ap, ap₂, subst, subst₂, _∙_}
 use mathlib.Core.Bool.{true}
-use mathlib.Core.Logic.{⊎-elim}
-use mathlib.Core.List.{List, [], map}
+use mathlib.Core.List.{List, map}
 use native.Mathlib.Nat.{zero-add}
-use lib.ListN.{length, getD, take, drop, replicate, List·getD-eq-default}
+use lib.ListN.{length, getD, take, drop, replicate}
 use lib.Seq.{getD-take}
 use Rattle.plain.specs.declared.TraversalDirection.{TraversalDirection}
 use Rattle.plain.specs.declared.TraversalDirection.the-variants.{Outgoing, Incoming}
 use Rattle.plain.specs.declared.Slots.{Slots}
 use Rattle.plain.specs.declared.Counts.{Counts}
-use Rattle.plain.specs.Lists.{joined, from, member, written}
-use Rattle.plain.specs.Plain.{Plain, node-bound, list-of}
+use Rattle.plain.specs.Lists.{joined, from, written}
+use Rattle.plain.specs.Plain.{Plain, list-of}
 use Rattle.plain.specs.Compaction.{survivors, of-survivors, compacted}
 use Rattle.plain.specs.Laws.AllLive.{AllLive, live-slot, own-rank, compacted-same}
-use Rattle.plain.specs.Laws.Booleans.{below-or-not}
 use Rattle.plain.specs.Laws.ListLaws.{getD-map, length-from, getD-from}
 use Rattle.liveness.specs.Flags.{live-flags}
 use Rattle.liveness.specs.Calls.{all-live}
 use Rattle.shape.specs.Columns.{cell, end-at}
-use Rattle.shape.specs.Chains.{ring}
-use Rattle.shape.specs.Shape.{Words, Adjacency, capacities, node-live, edge-live, axis-words, ring-of, axis-in, adjacency-of, no-adjacency, shape-of, plain-of, ascends, settled, lists}
-use Rattle.shape.specs.Checked.{Checked, Reached}
-use Rattle.shape.specs.Laws.Chains.{in-none}
-use Rattle.shape.specs.Laws.CheckedShape.{checked-proper}
-use Rattle.shape.specs.Laws.Settling.{settled-is-plain}
-use Rattle.shape.specs.Laws.Reading.{shape-adjacency, axis-is, axis-nodes, node-flags-are, edge-flags-are, node-bound-is, edge-bound-is}
+use Rattle.shape.specs.Shape.{Words, capacities, node-live, edge-live, axis-words, lists}
+use Rattle.shape.specs.Checked.{Checked}
+use Rattle.shape.specs.Laws.Reading.{plain-node-bound, plain-edge-bound, plain-node-flags, plain-edge-flags}
 use Rattle.shape.specs.Laws.Indexing.{Rewritten, before, ends-of}
 use Rattle.compact.specs.Slots.{kept-word, rewritten-same, kept-all-live}
 use Rattle.compact.specs.Bases.{Compactable, AxisCompacted}
@@ -76,33 +70,7 @@ module _ {ws : List ℕ} {ce cn : ℕ} {live : List ℕ} {bound : ℕ} {node-map
   axis-again =
       rewritten-same (r .rebuilds .marks) (λ x h. sym (s .marks x h) ∙ ap (λ (l : List ℕ). cell l (4 * ce + 4 * cn) x) (sym emptied-same)) ∙ emptied-same
 
--- no node of a canonical store has a ring
-no-ring : {w : Words} → Canonical w → (d : TraversalDirection) (x : ℕ) → adjacency-of d (shape-of w) x .ring ≡ []
-unfolding ring-of ring
-no-ring {w} s d x =
-    ⊎-elim
-    (λ l. ap (λ (a : Adjacency). a .ring) (shape-adjacency w d x l) ∙ rw (s .axis d .rings x l))
-    (λ l. ap (λ (a : Adjacency). a .ring)
-    (List·getD-eq-default (axis-in d (shape-of w) .nodes) no-adjacency
-    (rw (axis-is w d, axis-nodes (axis-words d w) (length (w .edges)) (length (w .nodes)) (w .counts)) l)))
-    (below-or-not x (w .counts .nodes .bound))
-
-canonical-reached : {w : Words} → Canonical w → Reached (shape-of w)
-unfolding ascends member
-canonical-reached s = record {
-  rings = λ d x. ap ascends (no-ring s d x);
-  order = λ d x e f m k. in-none f (ap (member f) (sym (no-ring s d x)) ∙ k);
-}
-
-plain-bound : (w : Words) → node-bound (lists w) ≡ w .counts .nodes .bound
-unfolding plain-of
-plain-bound w = node-bound-is w
-
 module _ {w : Words} (k : Checked w) (s : Canonical w) where
-  -- compaction sees the plain lists
-  seen-lists : settled (shape-of w) ≡ lists w
-  seen-lists = settled-is-plain (checked-proper w k) (canonical-reached s)
-
   node-flags-on : node-live w ≡ replicate (w .counts .nodes .bound) true
   node-flags-on = s .node-words .flags
 
@@ -110,10 +78,9 @@ module _ {w : Words} (k : Checked w) (s : Canonical w) where
   edge-flags-on = s .edge-words .flags
 
   every-live : AllLive (lists w)
-  unfolding plain-of
   every-live = record {
-    nodes = node-flags-are w ∙ node-flags-on ∙ ap (λ (n : ℕ). replicate n true) (sym (node-bound-is w));
-    edges = edge-flags-are w ∙ edge-flags-on ∙ ap (λ (n : ℕ). replicate n true) (sym (edge-bound-is w));
+    nodes = plain-node-flags w ∙ node-flags-on ∙ ap (λ (n : ℕ). replicate n true) (sym (plain-node-bound w));
+    edges = plain-edge-flags w ∙ edge-flags-on ∙ ap (λ (n : ℕ). replicate n true) (sym (plain-edge-bound w));
   }
 
   same-lists : compacted (lists w) ≡ lists w
@@ -121,21 +88,21 @@ module _ {w : Words} (k : Checked w) (s : Canonical w) where
       compacted-same (capacities w) (lists w) (k .walks) every-live (k .axis Outgoing .sized .nodes-within) (k .axis Outgoing .sized .edges-within)
 
   -- so the lists that are left are those that were there
-  outs-again : survivors (settled (shape-of w)) .outs ≡ map (list-of Outgoing (lists w)) (from 0 (w .counts .nodes .bound))
+  outs-again : survivors (lists w) .outs ≡ map (list-of Outgoing (lists w)) (from 0 (w .counts .nodes .bound))
   unfolding compacted of-survivors
   outs-again =
-      ap (λ (p : Plain). survivors p .outs) seen-lists ∙ ap (λ (p : Plain). p .outgoing .lists) same-lists
-      ∙ sym (all-lists (w .counts .nodes .bound) (lists w .outgoing .lists) (k .walks .outgoing .lists-length ∙ plain-bound w))
+      ap (λ (p : Plain). p .outgoing .lists) same-lists
+      ∙ sym (all-lists (w .counts .nodes .bound) (lists w .outgoing .lists) (k .walks .outgoing .lists-length ∙ plain-node-bound w))
 
-  ins-again : survivors (settled (shape-of w)) .ins ≡ map (list-of Incoming (lists w)) (from 0 (w .counts .nodes .bound))
+  ins-again : survivors (lists w) .ins ≡ map (list-of Incoming (lists w)) (from 0 (w .counts .nodes .bound))
   unfolding compacted of-survivors
   ins-again =
-      ap (λ (p : Plain). survivors p .ins) seen-lists ∙ ap (λ (p : Plain). p .incoming .lists) same-lists
-      ∙ sym (all-lists (w .counts .nodes .bound) (lists w .incoming .lists) (k .walks .incoming .lists-length ∙ plain-bound w))
+      ap (λ (p : Plain). p .incoming .lists) same-lists
+      ∙ sym (all-lists (w .counts .nodes .bound) (lists w .incoming .lists) (k .walks .incoming .lists-length ∙ plain-node-bound w))
 
 module _ {w : Words} {node-map work : List ℕ} {v : Words} (pre : Droppable w node-map work) (r : Dropped w node-map work v)
-    (outs : take (w .counts .edges .live) work ≡ joined (survivors (settled (shape-of w)) .outs))
-    (ins : take (w .counts .edges .live) (drop (w .counts .edges .live) work) ≡ joined (survivors (settled (shape-of w)) .ins)) (s : Canonical w) where
+    (outs : take (w .counts .edges .live) work ≡ joined (survivors (lists w) .outs))
+    (ins : take (w .counts .edges .live) (drop (w .counts .edges .live) work) ≡ joined (survivors (lists w) .ins)) (s : Canonical w) where
   abbrev k : Checked w
   k = pre .checked
 

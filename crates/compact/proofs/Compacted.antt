@@ -12,7 +12,7 @@ use Rattle.plain.specs.declared.TraversalDirection.the-variants.{Outgoing, Inco
 use Rattle.plain.specs.declared.Counts.{Counts}
 use Rattle.plain.specs.Numbers.{LIMIT}
 use Rattle.plain.specs.Lists.{joined, from}
-use Rattle.plain.specs.Plain.{Plain, no-node, no-edge, node-flags, edge-flags, end-of}
+use Rattle.plain.specs.Plain.{no-node, no-edge, node-flags, edge-flags, end-of}
 use Rattle.plain.specs.Reads.{live-count, live-slots}
 use Rattle.plain.specs.Compaction.{Survivors, rank, survivors, surviving-edge, source-of, target-of}
 use Rattle.plain.specs.Laws.ListLaws.{map-same, map-getD, member-below}
@@ -24,17 +24,15 @@ use Rattle.liveness.specs.Flags.{live-flags}
 use Rattle.liveness.specs.Calls.{Reset}
 use Rattle.liveness.specs.FlagLaws.{length-flags}
 use Rattle.shape.specs.Columns.{Sized, end-at}
-use Rattle.shape.specs.Shape.{Words, capacities, node-live, edge-live, axis-words, shape-of, plain-of, settled}
+use Rattle.shape.specs.Shape.{Words, capacities, node-live, edge-live, axis-words, shape-of, plain-of, lists}
 use Rattle.shape.specs.Kept.{AxisRenewed, Renewed}
 use Rattle.shape.specs.Laws.Indexing.{Rewritten, ends-of}
 use Rattle.shape.specs.Laws.NewBase.{NewBase}
-use Rattle.shape.specs.Laws.CheckedShape.{checked-proper}
-use Rattle.shape.specs.Laws.Reading.{plain-end}
+use Rattle.shape.specs.Laws.Reading.{plain-node-flags, plain-edge-flags, plain-end}
 use Rattle.relocate.specs.Stores.{checked-end}
 use Rattle.store.specs.Reads.{node-at, edge-at}
 use Rattle.compact.specs.Holding.{based, front, Holding, reset-same, reset-word, sized-as}
 use Rattle.compact.specs.Slots.{kept-word, rewritten-through}
-use Rattle.compact.specs.ListsStore.{settled-well-formed, settled-node-flags, settled-edge-flags}
 use Rattle.compact.specs.Bases.{Compactable, AxisCompacted, rebuildable, rebuilt-base, rebuilt-renewed}
 use Rattle.compact.specs.Dropping.{node-count, edge-count, Droppable, Dropped, axis-compactable, first-half, drop-room}
 
@@ -90,18 +88,9 @@ module _ {ws : List ℕ} {ce cn : ℕ} {live : List ℕ} {bound : ℕ} {node-map
 
 -- ---- the store
 
--- what compaction sees has the store's ends
-seen-end : (w : Words) (d : TraversalDirection) (e : ℕ) → e < w .counts .edges .bound → end-of d (settled (shape-of w)) e ≡ end-at (axis-words d w) e
-unfolding settled plain-of
-seen-end w Outgoing e l = plain-end w Outgoing e l
-seen-end w Incoming e l = plain-end w Incoming e l
-
 module _ {w : Words} {node-map work : List ℕ} {v : Words} (pre : Droppable w node-map work) (r : Dropped w node-map work v) where
-  abbrev seen : Plain
-  seen = settled (shape-of w)
-
   abbrev left : Survivors
-  left = survivors seen
+  left = survivors (lists w)
 
   few-nodes : length (w .nodes) ≤ LIMIT
   few-nodes = pre .checked .axis Outgoing .sized .nodes-within
@@ -110,35 +99,35 @@ module _ {w : Words} {node-map work : List ℕ} {v : Words} (pre : Droppable w n
   few-edges = pre .checked .axis Outgoing .sized .edges-within
 
   pub left-sound : Sound left
-  left-sound = survivors-sound (capacities w) seen (settled-well-formed (checked-proper w (pre .checked))) few-nodes few-edges
+  left-sound = survivors-sound (capacities w) (lists w) (pre .checked .walks) few-nodes few-edges
 
   pub left-nodes : length (left .nodes) ≡ w .counts .nodes .live
-  left-nodes = length-surviving-nodes seen ∙ ap live-count (settled-node-flags w) ∙ sym (pre .checked .nodes-live .live-right)
+  left-nodes = length-surviving-nodes (lists w) ∙ ap live-count (plain-node-flags w) ∙ sym (pre .checked .nodes-live .live-right)
 
   pub left-edges : length (left .edges) ≡ w .counts .edges .live
-  left-edges = length-surviving-edges seen ∙ ap live-count (settled-edge-flags w) ∙ sym (pre .checked .edges-live .live-right)
+  left-edges = length-surviving-edges (lists w) ∙ ap live-count (plain-edge-flags w) ∙ sym (pre .checked .edges-live .live-right)
 
   -- the new number of a live edge's end
   new-end : (d : TraversalDirection) (e : ℕ) → getD (edge-live w) e false ≡ true
-      → getD node-map (end-at (axis-words d w) e) 0 ≡ rank (node-flags seen) (end-of d seen e)
+      → getD node-map (end-at (axis-words d w) e) 0 ≡ rank (node-flags (lists w)) (end-of d (lists w) e)
   new-end d e l =
       pre .mapped (end-at (axis-words d w) e) (checked-end (pre .checked) d e l)
-      ∙ ap₂ rank (sym (settled-node-flags w)) (sym (seen-end w d e (slot-low (w .live-edges) (w .counts .edges .bound) e l)))
+      ∙ ap₂ rank (sym (plain-node-flags w)) (sym (plain-end w d e (slot-low (w .live-edges) (w .counts .edges .bound) e l)))
 
   ends-left : (d : TraversalDirection) → map (λ e. getD node-map (end-at (axis-words d w) e) 0) (live-slots (edge-live w))
-      ≡ map (λ e. rank (node-flags seen) (end-of d seen e)) (live-slots (edge-flags seen))
+      ≡ map (λ e. rank (node-flags (lists w)) (end-of d (lists w) e)) (live-slots (edge-flags (lists w)))
   ends-left d =
-      map-same (λ e. getD node-map (end-at (axis-words d w) e) 0) (λ e. rank (node-flags seen) (end-of d seen e)) (live-slots (edge-live w))
+      map-same (λ e. getD node-map (end-at (axis-words d w) e) 0) (λ e. rank (node-flags (lists w)) (end-of d (lists w) e)) (live-slots (edge-live w))
       (λ e m. new-end d e (sym (member-live-slots (edge-live w) e) ∙ m))
-      ∙ ap (λ (f : List Bool). map (λ e. rank (node-flags seen) (end-of d seen e)) (live-slots f)) (sym (settled-edge-flags w))
+      ∙ ap (λ (f : List Bool). map (λ e. rank (node-flags (lists w)) (end-of d (lists w) e)) (live-slots f)) (sym (plain-edge-flags w))
 
   sources-left : map (λ e. getD node-map (end-at (w .outgoing) e) 0) (live-slots (edge-live w)) ≡ map source-of (left .edges)
   unfolding survivors
-  sources-left = ends-left Outgoing ∙ sym (map-map source-of (surviving-edge seen) (live-slots (edge-flags seen)))
+  sources-left = ends-left Outgoing ∙ sym (map-map source-of (surviving-edge (lists w)) (live-slots (edge-flags (lists w))))
 
   targets-left : map (λ e. getD node-map (end-at (w .incoming) e) 0) (live-slots (edge-live w)) ≡ map target-of (left .edges)
   unfolding survivors
-  targets-left = ends-left Incoming ∙ sym (map-map target-of (surviving-edge seen) (live-slots (edge-flags seen)))
+  targets-left = ends-left Incoming ∙ sym (map-map target-of (surviving-edge (lists w)) (live-slots (edge-flags (lists w))))
 
   -- the counts
   pub nodes-bound : v .counts .nodes .bound ≡ w .counts .nodes .live
@@ -169,7 +158,7 @@ module _ {w : Words} {node-map work : List ℕ} {v : Words} (pre : Droppable w n
 
     -- the store holds the survivors
     pub dropped-holding : Holding v left
-    unfolding settled survivors
+    unfolding plain-of survivors
     dropped-holding =
         let same = r .lengths in
         let k = pre .checked in
@@ -183,11 +172,11 @@ module _ {w : Words} {node-map work : List ℕ} {v : Words} (pre : Droppable w n
           sized = sized-left;
           nodes = kept-payloads (node-live w) (λ x. getD (shape-of w .nodes) x no-node .payload) (length (left .nodes)) (r .nodes) (left-nodes ∙ k .nodes-live .live-right)
               (λ x l. sym (node-at w x (slot-low (w .live-nodes) (w .counts .nodes .bound) x l)))
-              ∙ ap (λ (f : List Bool). map (λ x. getD (shape-of w .nodes) x no-node .payload) (live-slots f)) (sym (settled-node-flags w));
+              ∙ ap (λ (f : List Bool). map (λ x. getD (shape-of w .nodes) x no-node .payload) (live-slots f)) (sym (plain-node-flags w));
           edges = kept-payloads (edge-live w) (λ e. getD (shape-of w .edges) e no-edge .payload) (length (left .edges)) (r .edges) (left-edges ∙ k .edges-live .live-right)
               (λ e l. sym (edge-at w e (slot-low (w .live-edges) (w .counts .edges .bound) e l)))
-              ∙ ap (λ (f : List Bool). map (λ e. getD (shape-of w .edges) e no-edge .payload) (live-slots f)) (sym (settled-edge-flags w))
-              ∙ sym (map-map payload-of (surviving-edge seen) (live-slots (edge-flags seen)));
+              ∙ ap (λ (f : List Bool). map (λ e. getD (shape-of w .edges) e no-edge .payload) (live-slots f)) (sym (plain-edge-flags w))
+              ∙ sym (map-map payload-of (surviving-edge (lists w)) (live-slots (edge-flags (lists w))));
           live-nodes = subst (λ (n : ℕ). Reset (v .live-nodes) n (v .live-nodes)) (sym left-nodes) (reset-same (r .live-nodes));
           live-edges = subst (λ (n : ℕ). Reset (v .live-edges) n (v .live-edges)) (sym left-edges) (reset-same (r .live-edges));
           outgoing = subst₂ (λ (ce cn : ℕ). NewBase (v .outgoing) ce cn (v .counts) (map source-of (left .edges)) (left .outs)) (sym (same .edges)) (sym (same .nodes)) out-base;

@@ -9,42 +9,40 @@ use lib.Seq.{take-at, drop-at}
 use borrow.Author.Tests.{le-leb, lt-leb}
 use Rattle.plain.specs.declared.TraversalDirection.the-variants.{Outgoing}
 use Rattle.plain.specs.Lists.{written, joined}
-use Rattle.plain.specs.Plain.{node-bound, edge-bound, node-flags, edge-flags}
+use Rattle.plain.specs.Plain.{node-flags, edge-flags}
 use Rattle.plain.specs.Reads.{live-edges, live-count}
 use Rattle.plain.specs.Memory.{first-short}
 use Rattle.plain.specs.Compaction.{Survivors, survivors, source-of, target-of, renumbering, adjacency, compacted}
 use Rattle.plain.specs.Laws.WellFormed.{Sound}
 use Rattle.plain.specs.Laws.Compacting.{survivors-sound, length-surviving-edges}
 use Rattle.plain.specs.Calls.{Compacted, compaction, judged-compaction}
-use Rattle.shape.specs.Shape.{Words, capacities, shape-of, settled}
+use Rattle.shape.specs.Shape.{Words, capacities, shape-of, lists}
 use Rattle.shape.specs.Kept.{nothing-spared, renewed-none, renewed-spared}
 use Rattle.shape.specs.Rules.{broken}
-use Rattle.shape.specs.Laws.CheckedShape.{checked-proper}
+use Rattle.shape.specs.Steps.{state-of}
 use Rattle.shape.specs.Laws.NewBase.{fitted-total}
-use Rattle.shape.specs.Laws.Reading.{node-bound-is, edge-bound-is}
+use Rattle.shape.specs.Laws.Reading.{plain-node-bound, plain-edge-bound, plain-node-flags, plain-edge-flags}
 use Rattle.validate.specs.Judging.{Judged}
 use Rattle.store.specs.Operations.{same-lengths}
-use Rattle.compact.specs.ListsStore.{settled-well-formed, settled-node-flags, settled-edge-flags}
 use Rattle.compact.specs.Settling.{Settleable, Settling, droppable}
-use Rattle.compact.specs.Holding.{holding-shape, holding-state, holding-reached, holding-checked, holding-canonical}
+use Rattle.compact.specs.Holding.{holding-shape, holding-state, holding-checked, holding-canonical}
 use Rattle.compact.proofs.Compacted.{dropped-holding, dropped-renewed}
-use Rattle.compact.specs.Calls.{seen, compacting-of, CompactOf}
+use Rattle.compact.specs.Calls.{compacting-of, CompactOf}
 use Rattle.compact.proofs.Again.{dropped-again}
 
 module _ (w : Words) (node-map edge-map work : List ℕ) where
   -- refused: not a word changes
   kept : (o : Compacted) → compacting-of w (length node-map) (length edge-map) (length work) ≡ o → o .node-map ≡ [] → o .edge-map ≡ [] → o .work ≡ []
-      → (o .number ≡ 0 → ⊥) → CompactOf w node-map edge-map work (o .number) (o .value) w node-map edge-map work
-  kept o is nodes edges lists refused = record {
+      → o .after ≡ state-of (shape-of w) → (o .number ≡ 0 → ⊥) → CompactOf w node-map edge-map work (o .number) (o .value) w node-map edge-map work
+  kept o is nodes edges entries same refused = record {
     numbered = ap (λ (c : Compacted). c .number) (sym is);
     valued = ap (λ (c : Compacted). c .value) (sym is);
     node-mapped = sym (ap (λ (l : List ℕ). written l node-map) (ap (λ (c : Compacted). c .node-map) is ∙ nodes));
     edge-mapped = sym (ap (λ (l : List ℕ). written l edge-map) (ap (λ (c : Compacted). c .edge-map) is ∙ edges));
-    worked = sym (ap (λ (l : List ℕ). written l work) (ap (λ (c : Compacted). c .work) is ∙ lists));
-    state = λ h. absurd (refused h);
+    worked = sym (ap (λ (l : List ℕ). written l work) (ap (λ (c : Compacted). c .work) is ∙ entries));
+    state = sym (ap (λ (c : Compacted). c .after) is ∙ same);
     shape = λ h. absurd (refused h);
     checked = λ h. absurd (refused h);
-    reached = λ h. absurd (refused h);
     canonical = λ h. absurd (refused h);
     again = λ h. absurd (refused h);
     lengths = same-lengths w;
@@ -60,34 +58,25 @@ module _ (w : Words) (node-map edge-map work : List ℕ) where
       by : (rule : ℕ) → rule ≡ broken w → (rule ≡ 0 → ⊥) → CompactOf w node-map edge-map work 1 rule w node-map edge-map work
       by zero is broke = absurd (broke refl)
       by (suc rule) is broke =
-          kept (record { number = 1; value = suc rule; node-map = []; edge-map = []; work = []; after = seen w })
-          (ap (λ (n : ℕ). judged-compaction n (seen w) (compaction (seen w) (length node-map) (length edge-map) (length work))) (sym is)) refl refl refl (λ q. omega arith)
-
-  -- the bounds and the live edges that compaction sees are the counts
-  bound-of-nodes : node-bound (settled (shape-of w)) ≡ w .counts .nodes .bound
-  unfolding settled
-  bound-of-nodes = node-bound-is w
-
-  bound-of-edges : edge-bound (settled (shape-of w)) ≡ w .counts .edges .bound
-  unfolding settled
-  bound-of-edges = edge-bound-is w
+          kept (record { number = 1; value = suc rule; node-map = []; edge-map = []; work = []; after = state-of (shape-of w) })
+          (ap (λ (n : ℕ). judged-compaction n (state-of (shape-of w)) (compaction (state-of (shape-of w)) (length node-map) (length edge-map) (length work))) (sym is)) refl refl refl refl (λ q. omega arith)
 
   module _ {rule : ℕ} (j : Judged w rule) (sound : rule ≡ 0) where
-    told : compacting-of w (length node-map) (length edge-map) (length work) ≡ compaction (seen w) (length node-map) (length edge-map) (length work)
+    told : compacting-of w (length node-map) (length edge-map) (length work) ≡ compaction (state-of (shape-of w)) (length node-map) (length edge-map) (length work)
     told =
-        ap (λ (n : ℕ). judged-compaction n (seen w) (compaction (seen w) (length node-map) (length edge-map) (length work))) (sym (j .first) ∙ sound)
+        ap (λ (n : ℕ). judged-compaction n (state-of (shape-of w)) (compaction (state-of (shape-of w)) (length node-map) (length edge-map) (length work))) (sym (j .first) ∙ sound)
 
-    many-edges : live-edges (settled (shape-of w)) ≡ w .counts .edges .live
-    many-edges = ap live-count (settled-edge-flags w) ∙ sym (j .checked sound .edges-live .live-right)
+    many-edges : live-edges (lists w) ≡ w .counts .edges .live
+    many-edges = ap live-count (plain-edge-flags w) ∙ sym (j .checked sound .edges-live .live-right)
 
     -- "a lent slice too short | 2 | length needed | everything"
     abbrev short : ℕ → Compacted
-    short needed = record { number = 2; value = needed; node-map = []; edge-map = []; work = []; after = seen w }
+    short needed = record { number = 2; value = needed; node-map = []; edge-map = []; work = []; after = state-of (shape-of w) }
 
     pub nodes-short : length node-map < w .counts .nodes .bound → CompactOf w node-map edge-map work 2 (w .counts .nodes .bound) w node-map edge-map work
     unfolding compaction first-short
     nodes-short h =
-        kept (short (w .counts .nodes .bound)) (told ∙ rw (bound-of-nodes, lt-leb (w .counts .nodes .bound) (length node-map) h)) refl refl refl (λ q. omega arith)
+        kept (short (w .counts .nodes .bound)) (told ∙ rw (plain-node-bound w, lt-leb (w .counts .nodes .bound) (length node-map) h)) refl refl refl refl (λ q. omega arith)
 
     module _ (nodes-room : w .counts .nodes .bound ≤ length node-map) where
       pub edges-short : length edge-map < w .counts .edges .bound → CompactOf w node-map edge-map work 2 (w .counts .edges .bound) w node-map edge-map work
@@ -95,12 +84,12 @@ module _ (w : Words) (node-map edge-map work : List ℕ) where
       edges-short h =
           kept (short (w .counts .edges .bound))
           (told ∙ rw (
-            bound-of-nodes,
-            bound-of-edges,
+            plain-node-bound w,
+            plain-edge-bound w,
             le-leb (w .counts .nodes .bound) (length node-map) nodes-room,
             lt-leb (w .counts .edges .bound) (length edge-map) h,
           ))
-          refl refl refl (λ q. omega arith)
+          refl refl refl refl (λ q. omega arith)
 
       module _ (edges-room : w .counts .edges .bound ≤ length edge-map) where
         pub work-short : length work < 2 * w .counts .edges .live → CompactOf w node-map edge-map work 2 (2 * w .counts .edges .live) w node-map edge-map work
@@ -108,27 +97,27 @@ module _ (w : Words) (node-map edge-map work : List ℕ) where
         work-short h =
             kept (short (2 * w .counts .edges .live))
             (told ∙ rw (
-              bound-of-nodes,
-              bound-of-edges,
+              plain-node-bound w,
+              plain-edge-bound w,
               many-edges,
               le-leb (w .counts .nodes .bound) (length node-map) nodes-room,
               le-leb (w .counts .edges .bound) (length edge-map) edges-room,
               lt-leb (2 * w .counts .edges .live) (length work) h,
             ))
-            refl refl refl (λ q. omega arith)
+            refl refl refl refl (λ q. omega arith)
 
         -- what is left
         abbrev left : Survivors
-        left = survivors (settled (shape-of w))
+        left = survivors (lists w)
 
         sound-left : Sound left
         sound-left =
             let k = j .checked sound in
-            survivors-sound (capacities w) (settled (shape-of w)) (settled-well-formed (checked-proper w k)) (k .axis Outgoing .sized .nodes-within)
+            survivors-sound (capacities w) (lists w) (k .walks) (k .axis Outgoing .sized .nodes-within)
             (k .axis Outgoing .sized .edges-within)
 
         edges-left : length (left .edges) ≡ w .counts .edges .live
-        edges-left = length-surviving-edges (settled (shape-of w)) ∙ many-edges
+        edges-left = length-surviving-edges (lists w) ∙ many-edges
 
         outs-long : length (joined (left .outs)) ≡ w .counts .edges .live
         outs-long = fitted-total (sound-left .outs) ∙ length-map (left .edges) source-of ∙ edges-left
@@ -171,10 +160,10 @@ module _ (w : Words) (node-map edge-map work : List ℕ) where
           unfolding compaction compacted first-short
           compact-done {v} {node-map'} {edge-map'} {work'} done =
               let is : compacting-of w (length node-map) (length edge-map) (length work)
-              ≡ record { number = 0; value = 0; node-map = renumbering (node-flags (settled (shape-of w))); edge-map = renumbering (edge-flags (settled (shape-of w))); work = adjacency (survivors (settled (shape-of w))); after = record { lists = compacted (settled (shape-of w)); compact = true } } =
+              ≡ record { number = 0; value = 0; node-map = renumbering (node-flags (lists w)); edge-map = renumbering (edge-flags (lists w)); work = adjacency (survivors (lists w)); after = record { lists = compacted (lists w); compact = true } } =
               told ∙ rw (
-                bound-of-nodes,
-                bound-of-edges,
+                plain-node-bound w,
+                plain-edge-bound w,
                 many-edges,
                 le-leb (w .counts .nodes .bound) (length node-map) nodes-room,
                 le-leb (w .counts .edges .bound) (length edge-map) edges-room,
@@ -189,14 +178,13 @@ module _ (w : Words) (node-map edge-map work : List ℕ) where
                 numbered = ap (λ (c : Compacted). c .number) (sym is);
                 valued = ap (λ (c : Compacted). c .value) (sym is);
                 node-mapped = done .node-mapped
-                    ∙ ap (λ (f : List Bool). written (renumbering f) node-map) (sym (settled-node-flags w)) ∙ sym (ap (λ (c : Compacted). written (c .node-map) node-map) is);
+                    ∙ ap (λ (f : List Bool). written (renumbering f) node-map) (sym (plain-node-flags w)) ∙ sym (ap (λ (c : Compacted). written (c .node-map) node-map) is);
                 edge-mapped = done .edge-mapped
-                    ∙ ap (λ (f : List Bool). written (renumbering f) edge-map) (sym (settled-edge-flags w)) ∙ sym (ap (λ (c : Compacted). written (c .edge-map) edge-map) is);
+                    ∙ ap (λ (f : List Bool). written (renumbering f) edge-map) (sym (plain-edge-flags w)) ∙ sym (ap (λ (c : Compacted). written (c .edge-map) edge-map) is);
                 worked = done .worked ∙ sym (ap (λ (c : Compacted). written (c .work) work) is);
-                state = λ h. holding-state holding ∙ sym (ap (λ (c : Compacted). c .after) is);
+                state = holding-state holding ∙ sym (ap (λ (c : Compacted). c .after) is);
                 shape = λ h. holding-shape holding;
                 checked = λ h. holding-checked holding;
-                reached = λ h. holding-reached holding;
                 canonical = λ h. holding-canonical holding;
                 again = λ h s. dropped-again pre r outs ins s;
                 lengths = r .lengths;

@@ -7,13 +7,12 @@ use Rattle.plain.specs.declared.TraversalDirection.{TraversalDirection}
 use Rattle.plain.specs.Numbers.{NONE}
 use Rattle.plain.specs.Lists.{written, joined, from}
 use Rattle.plain.specs.Plain.{list-of}
-use Rattle.plain.specs.Step.{State}
 use Rattle.plain.specs.Compaction.{survivors}
 use Rattle.plain.specs.Calls.{Compacted, compaction, judged-compaction}
 use Rattle.liveness.specs.Calls.{Reset}
 use Rattle.shape.specs.Columns.{cell, offset-at, last-at, mark-at}
-use Rattle.shape.specs.Shape.{Words, axis-words, shape-of, lists, settled, is-compact}
-use Rattle.shape.specs.Checked.{Checked, Reached}
+use Rattle.shape.specs.Shape.{Words, axis-words, shape-of, lists}
+use Rattle.shape.specs.Checked.{Checked}
 use Rattle.shape.specs.Kept.{Renewed, Spared}
 use Rattle.shape.specs.Rules.{broken}
 use Rattle.shape.specs.Steps.{state-of}
@@ -21,13 +20,9 @@ use Rattle.shape.specs.Laws.Indexing.{before, ends-of}
 use Rattle.store.specs.Operations.{SameLengths}
 use Rattle.compact.specs.Survivors.{shape-of-survivors}
 
--- What compaction sees of a store. On stores that a fresh one or an image led to it is the store's state.
-abbrev pub seen : Words → State
-seen w = record { lists = settled (shape-of w); compact = is-compact (shape-of w) }
-
 -- what document 01 says of a compaction of a store, number 1 included, by the lengths of the three lent slices
 abbrev pub compacting-of : Words → ℕ → ℕ → ℕ → Compacted
-compacting-of w node-map edge-map work = judged-compaction (broken w) (seen w) (compaction (seen w) node-map edge-map work)
+compacting-of w node-map edge-map work = judged-compaction (broken w) (state-of (shape-of w)) (compaction (state-of (shape-of w)) node-map edge-map work)
 
 -- One direction whose words are what compaction writes: all that it holds is in the base.
 pub record AxisCanonical (ws : List ℕ) (ce cn n m : ℕ) (entries : List ℕ) : Type 0 where
@@ -55,11 +50,10 @@ pub record CompactOf (w : Words) (node-map edge-map work : List ℕ) (number val
   pub node-mapped : node-map' ≡ written (compacting-of w (length node-map) (length edge-map) (length work) .node-map) node-map
   pub edge-mapped : edge-map' ≡ written (compacting-of w (length node-map) (length edge-map) (length work) .edge-map) edge-map
   pub worked : work' ≡ written (compacting-of w (length node-map) (length edge-map) (length work) .work) work
-  pub state : number ≡ 0 → state-of (shape-of v) ≡ compacting-of w (length node-map) (length edge-map) (length work) .after
+  pub state : state-of (shape-of v) ≡ compacting-of w (length node-map) (length edge-map) (length work) .after
   -- nothing is left in runs or rings
-  pub shape : number ≡ 0 → shape-of v ≡ shape-of-survivors (survivors (settled (shape-of w)))
+  pub shape : number ≡ 0 → shape-of v ≡ shape-of-survivors (survivors (lists w))
   pub checked : number ≡ 0 → Checked v
-  pub reached : number ≡ 0 → Reached (shape-of v)
   pub canonical : number ≡ 0 → Canonical v
   -- compacting again changes no word and no count, field or not
   pub again : number ≡ 0 → Canonical w → v ≡ w

@@ -1,5 +1,5 @@
 -- A store that holds survivors and nothing else, which is what compaction and image reading leave: "the result equals what compaction leaves". Its shape and its
--- plain lists are the survivors', it is checked, compact and reached, and its words are canonical.
+-- plain lists are the survivors', it is checked and compact, and its words are canonical.
 use Prim.Native.Nat.{ℕ, _+_, _-_, _*_, _/_, _%_, _^_, _≤_}
 use mathlib.Core.Path.{_≡_, sym, ap, ap₂, subst, _∙_}
 use mathlib.Core.Bool.{Bool, true, false, cond}
@@ -29,12 +29,12 @@ use Rattle.liveness.specs.Flags.{live-flags}
 use Rattle.liveness.specs.Calls.{Reset, all-live}
 use Rattle.shape.specs.Columns.{Sized, cell}
 use Rattle.shape.specs.Shape.{Words, capacities, node-live, edge-live, axis-words, shape-of, plain-of, lists}
-use Rattle.shape.specs.Checked.{LiveRight, AxisChecked, Checked, Reached}
+use Rattle.shape.specs.Checked.{LiveRight, AxisChecked, Checked}
 use Rattle.shape.specs.Steps.{state-of}
 use Rattle.shape.specs.Laws.Indexing.{before, ends-of}
 use Rattle.shape.specs.Laws.NewBase.{NewBase, new-axis, new-checked}
 use Rattle.store.specs.Acting.{shape-ext}
-use Rattle.compact.specs.Survivors.{shape-of-survivors, survivors-plain, survivors-state, survivors-reached}
+use Rattle.compact.specs.Survivors.{shape-of-survivors, survivors-plain, survivors-state}
 use Rattle.compact.specs.Calls.{AxisCanonical, Canonical}
 
 -- the counts of slots that are all live and all in the base
@@ -178,9 +178,6 @@ module _ {v : Words} {s : Survivors} (h : Holding v s) where
 
   pub holding-state : state-of (shape-of v) ≡ record { lists = of-survivors s; compact = true }
   holding-state = ap state-of holding-shape ∙ survivors-state s (h .sound)
-
-  pub holding-reached : Reached (shape-of v)
-  holding-reached = subst Reached (sym holding-shape) (survivors-reached s)
 
   plain-held : lists v ≡ of-survivors s
   plain-held = ap plain-of holding-shape ∙ survivors-plain s (h .sound)

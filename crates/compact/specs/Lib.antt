@@ -2,12 +2,12 @@ pub mod Survivors
 pub mod Holding
 pub mod Slots
 pub mod Lists
-pub mod ListsSettled
 pub mod ListsStore
 pub mod Working
 pub mod Bases
 pub mod Dropping
 pub mod Settling
 pub mod Calls
+mod Examples
 pub mod Agreeing
 pub mod Refuted

@@ -10,7 +10,7 @@ use Rattle.plain.specs.Lists.{written}
 use Rattle.plain.specs.Compaction.{renumbering, survivors, adjacency}
 use Rattle.plain.specs.Laws.Renumberings.{length-renumbering}
 use Rattle.liveness.specs.FlagLaws.{length-flags}
-use Rattle.shape.specs.Shape.{Words, node-live, edge-live, shape-of, settled}
+use Rattle.shape.specs.Shape.{Words, node-live, edge-live, lists}
 use Rattle.shape.specs.Checked.{Checked}
 use Rattle.compact.specs.Slots.{MapFits, written-at}
 use Rattle.compact.specs.Working.{Workable}
@@ -26,7 +26,7 @@ pub record Settleable (w : Words) (node-map edge-map work : List ℕ) : Type 0 w
 pub record Settling (w : Words) (node-map edge-map work : List ℕ) (v : Words) (node-map' edge-map' work' : List ℕ) : Type 0 where
   pub node-mapped : node-map' ≡ written (renumbering (node-live w)) node-map
   pub edge-mapped : edge-map' ≡ written (renumbering (edge-live w)) edge-map
-  pub worked : work' ≡ written (adjacency (survivors (settled (shape-of w)))) work
+  pub worked : work' ≡ written (adjacency (survivors (lists w))) work
   pub dropped : Dropped w node-map' work' v
 
 -- a map is as long as it was

@@ -1,5 +1,5 @@
--- The shape of a store whose survivors are all in the base, which is what compaction and image reading leave: it is compact and reached, and its plain lists
--- are the survivors'.
+-- The shape of a store whose survivors are all in the base, which is what compaction and image reading leave: it is compact, and its plain lists are the
+-- survivors'.
 use Prim.Native.Nat.{ℕ, _<_}
 use native.Mathlib.Omega.{arith}
 use mathlib.Core.Path.{_≡_, refl, sym, ap, ap₂, _∙_}
@@ -7,8 +7,6 @@ use mathlib.Core.Bool.{Bool, true, false, not}
 use mathlib.Core.List.{List, [], _∷_, map, append-nil}
 use lib.ListN.{length, getD, length-map, List·getD-map, replicate}
 use borrow.Author.Tests.{lt-ltb, ltb-true, eq-eqb}
-use Rattle.plain.specs.declared.TraversalDirection.{TraversalDirection}
-use Rattle.plain.specs.declared.TraversalDirection.the-variants.{Outgoing, Incoming}
 use Rattle.plain.specs.Lists.{member, from, all}
 use Rattle.plain.specs.Plain.{Plain, Incidence, NodeSlot, EdgeSlot}
 use Rattle.plain.specs.Step.{State}
@@ -18,10 +16,8 @@ use Rattle.plain.specs.Laws.Rank.{live-all-live}
 use Rattle.plain.specs.Laws.WellFormed.{Fitted, Sound}
 use Rattle.plain.specs.Laws.Fitting.{fitted-many, right-at, has-end-below}
 use Rattle.plain.specs.Laws.Compacting.{node-flags-of, edge-flags-of}
-use Rattle.shape.specs.Shape.{Adjacency, Shape, live-in, walk-of, adjacency-of, no-adjacency, incidence-by, plain-of, ascends, has-run, is-compact}
-use Rattle.shape.specs.Checked.{Reached}
+use Rattle.shape.specs.Shape.{Shape, live-in, walk-of, no-adjacency, walks-of, plain-of, has-run, is-compact}
 use Rattle.shape.specs.Steps.{state-of}
-use Rattle.shape.specs.Laws.Chains.{in-none}
 use Rattle.shape.specs.Laws.NewBase.{in-base}
 use Rattle.shape.specs.Laws.Taking.{keep-passing}
 
@@ -52,7 +48,7 @@ module _ {n : ℕ} {ends : List ℕ} {lists : List (List ℕ)} (f : Fitted n end
       (keep-passing (live-in (replicate (length ends) true)) (getD lists x []) (entry-live x))
 
   -- the direction's plain lists
-  based-incidence : incidence-by (walk-of (replicate (length ends) true)) (replicate n true) (record { ends = ends; nodes = map in-base lists })
+  based-incidence : walks-of (replicate (length ends) true) (replicate n true) (record { ends = ends; nodes = map in-base lists })
       ≡ record { ends = ends; lists = lists }
   based-incidence =
       let walk : ℕ → List ℕ = λ x. walk-of (replicate (length ends) true) (getD (replicate n true) x false) (getD (map in-base lists) x no-adjacency) in
@@ -62,7 +58,7 @@ module _ {n : ℕ} {ends : List ℕ} {lists : List (List ℕ)} (f : Fitted n end
       (λ x m. based-walk x (let l = ltb-true x (length lists) (sym (member-below x (length lists)) ∙ m) in let many = fitted-many f in omega arith))
       ∙ map-getD lists [])
 
--- ---- every slot is live, and no node has a run or a ring
+-- ---- every slot is live, and no node has a run
 
 all-kept : (l : List ℕ) → all (λ f. f) (map (λ (n : NodeSlot). n .live) (map kept-node l)) ≡ true
 unfolding all
@@ -79,29 +75,21 @@ unfolding all
 all-based [] = refl
 all-based (x ∷ l) = all-based l
 
-no-ring-in : (l : List (List ℕ)) (x : ℕ) → getD (map in-base l) x no-adjacency .ring ≡ []
-no-ring-in l x = ap (λ (a : Adjacency). a .ring) (List·getD-map in-base l x [])
-
-no-ring : (s : Survivors) (d : TraversalDirection) (x : ℕ) → adjacency-of d (shape-of-survivors s) x .ring ≡ []
-unfolding shape-of-survivors
-no-ring s Outgoing x = no-ring-in (s .outs) x
-no-ring s Incoming x = no-ring-in (s .ins) x
-
 -- ---- the whole
 
 module _ (s : Survivors) (sound : Sound s) where
-  sources : incidence-by (walk-of (replicate (length (s .edges)) true)) (replicate (length (s .nodes)) true)
+  sources : walks-of (replicate (length (s .edges)) true) (replicate (length (s .nodes)) true)
       (record { ends = map source-of (s .edges); nodes = map in-base (s .outs) })
       ≡ record { ends = map source-of (s .edges); lists = s .outs }
   sources =
-      ap (λ (k : ℕ). incidence-by (walk-of (replicate k true)) (replicate (length (s .nodes)) true) (record { ends = map source-of (s .edges); nodes = map in-base (s .outs) }))
+      ap (λ (k : ℕ). walks-of (replicate k true) (replicate (length (s .nodes)) true) (record { ends = map source-of (s .edges); nodes = map in-base (s .outs) }))
       (sym (length-map (s .edges) source-of)) ∙ based-incidence (sound .outs)
 
-  targets : incidence-by (walk-of (replicate (length (s .edges)) true)) (replicate (length (s .nodes)) true)
+  targets : walks-of (replicate (length (s .edges)) true) (replicate (length (s .nodes)) true)
       (record { ends = map target-of (s .edges); nodes = map in-base (s .ins) })
       ≡ record { ends = map target-of (s .edges); lists = s .ins }
   targets =
-      ap (λ (k : ℕ). incidence-by (walk-of (replicate k true)) (replicate (length (s .nodes)) true) (record { ends = map target-of (s .edges); nodes = map in-base (s .ins) }))
+      ap (λ (k : ℕ). walks-of (replicate k true) (replicate (length (s .nodes)) true) (record { ends = map target-of (s .edges); nodes = map in-base (s .ins) }))
       (sym (length-map (s .edges) target-of)) ∙ based-incidence (sound .ins)
 
   -- its plain lists are the survivors'
@@ -111,9 +99,9 @@ module _ (s : Survivors) (sound : Sound s) where
       let nodes = node-flags-of s in
       let edges = edge-flags-of s in
       let out = (ap₂ {C = Incidence}
-      (λ (e n : List Bool). incidence-by (walk-of e) n (record { ends = map source-of (s .edges); nodes = map in-base (s .outs) })) edges nodes ∙ sources) in
+      (λ (e n : List Bool). walks-of e n (record { ends = map source-of (s .edges); nodes = map in-base (s .outs) })) edges nodes ∙ sources) in
       let into = (ap₂ {C = Incidence}
-      (λ (e n : List Bool). incidence-by (walk-of e) n (record { ends = map target-of (s .edges); nodes = map in-base (s .ins) })) edges nodes ∙ targets) in
+      (λ (e n : List Bool). walks-of e n (record { ends = map target-of (s .edges); nodes = map in-base (s .ins) })) edges nodes ∙ targets) in
       λ i. record { nodes = map kept-node (s .nodes); edges = map kept-edge (s .edges); outgoing = out i; incoming = into i }
 
   -- it is compact
@@ -132,11 +120,3 @@ module _ (s : Survivors) (sound : Sound s) where
   -- so lists and flag are what document 01 leaves
   pub survivors-state : state-of (shape-of-survivors s) ≡ record { lists = of-survivors s; compact = true }
   survivors-state = ap₂ {C = State} (λ (p : Plain) (c : Bool). record { lists = p; compact = c }) survivors-plain survivors-compact
-
--- and no ring is out of order
-pub survivors-reached : (s : Survivors) → Reached (shape-of-survivors s)
-unfolding ascends
-survivors-reached s = record {
-  rings = λ d x. ap (λ (l : List ℕ). ascends l) (no-ring s d x);
-  order = λ d x e f m k. in-none f (ap (member f) (sym (no-ring s d x)) ∙ k);
-}

@@ -12,7 +12,7 @@ use plain::numbers;
 ghost use mathlib.Core.Path.{_≡_};
 ghost use Rattle.plain.specs.Lists.{written};
 ghost use Rattle.plain.specs.Compaction.{survivors, adjacency};
-ghost use Rattle.shape.specs.Shape.{shape-of, settled};
+ghost use Rattle.shape.specs.Shape.{lists};
 ghost use Rattle.shape.specs.Lent.{lent, at-entry, at-exit};
 ghost use Rattle.compact.specs.Holding.{based};
 ghost use Rattle.compact.specs.Working.{Workable};
@@ -44,8 +44,8 @@ fn write_work(
     work: &mut [u32],
 )
     requires { ⌜ Workable (lent counts nodes edges «live_nodes» «live_edges» outgoing incoming) (now «edge_map») (now work) ⌝ }
-    ensures { λ _. ⌜ now (work .exit) ≡ written (adjacency (survivors (settled (shape-of
-        (at-entry counts nodes edges «live_nodes» «live_edges» outgoing incoming)))))
+    ensures { λ _. ⌜ now (work .exit) ≡ written (adjacency (survivors (lists
+        (at-entry counts nodes edges «live_nodes» «live_edges» outgoing incoming))))
         (now (work .entry)) ⌝ }
 {
     let edge_slots = counts.edges;

@@ -75,7 +75,7 @@ pub record Compacts (s : State) {w : Words} (a : Compacting w) : Type 0 where
   pub node-map : a .node-mapped ≡ written (compaction-of s a .node-map) (a .node-map)
   pub edge-map : a .edge-mapped ≡ written (compaction-of s a .edge-map) (a .edge-map)
   pub work : a .worked ≡ written (compaction-of s a .work) (a .work)
-  pub leaves : a .number ≡ 0 → state-of (shape-of (a .after)) ≡ compaction-of s a .after
+  pub leaves : state-of (shape-of (a .after)) ≡ compaction-of s a .after
   -- "the only other number they can give is 2"
   pub zero-or-two : (a .number ≡ 0) ⊎ (a .number ≡ 2)
 

@@ -1,6 +1,7 @@
 -- DEMAND 3, one theorem about two whole lists of calls. Document 01, sentence by sentence:
 -- "It is one claim about two whole lists of calls, not one for each call." `demand-3`: of any two runs, in any memory, with whatever is lent, each from a fresh
--- store on (`history`), or from an image read into memory that may hold anything: only "a checked store that neither a fresh one nor an image led to" is left out.
+-- store on (`history`), or from an image read into memory that may hold anything. Its image half is the case of runs of `checked-images`, which is of any two checked
+-- stores.
 -- "Every number answered in them follows from the plain lists and the calls' arguments, lengths included, never from the store's counts or words": `answers` and
 -- `numbers` of `Follows`; of the closing calls `Compacts` and `Writes`.
 -- "a refused call or operation leaves the plain lists and the store as they were": `refusals` of `Follows`.
@@ -17,13 +18,13 @@ use Rattle.plain.specs.Compaction.{survivors}
 use Rattle.plain.specs.Image.{image}
 use Rattle.plain.specs.History.{history-from, history}
 use Rattle.plain.specs.Laws.ImageLaws.{image-injective}
-use Rattle.shape.specs.Shape.{Words, capacities, shape-of, settled}
+use Rattle.shape.specs.Shape.{Words, capacities, lists}
 use Rattle.shape.specs.Checked.{Checked}
 use Rattle.histories.specs.Runs.{Request, call-of, Turn, Origin, FreshStore, first-state, Ran, final}
 use Rattle.histories.specs.Follows.{Follows}
 use Rattle.histories.specs.Closing.{Closing, Done, image-of, Closes}
-use Rattle.histories.specs.Laws.Following.{seen-is, run-follows}
-use Rattle.histories.specs.Laws.Closing.{checked-closes, seen-sound}
+use Rattle.histories.specs.Laws.Following.{run-follows}
+use Rattle.histories.specs.Laws.Closing.{checked-closes, left-sound}
 
 -- the history of requests in memory w: of the origin, the capacities and the calls, of no count and no word
 abbrev pub history-of : Origin → Words → List Request → State
@@ -45,14 +46,15 @@ pub record Demand3 (origin₁ origin₂ : Origin) (w₁ w₂ : Words) (requests�
   pub images : Done c₁ → Done c₂
       → (image-of c₁ ≡ image-of c₂) ↔ (survivors (history-of origin₁ w₁ requests₁ .lists) ≡ survivors (history-of origin₂ w₂ requests₂ .lists))
 
--- The image half, of any two checked stores, wherever they come from: where the closing calls answer 0, the images are equal exactly when what survives is equal, in
--- the order that compaction sees.
+-- The image half, of any two checked stores, wherever they come from, ring order included. Document 02, No. 9: "compaction, joining and the image keep every walk
+-- of every store that passes the check, ring order included. So equality of images now covers all checked stores and not only those built by operations." Where the
+-- closing calls answer 0, the images are equal exactly when what survives of the plain lists is equal.
 pub checked-images : {w₁ w₂ : Words} → Checked w₁ → Checked w₂ → (c₁ : Closing w₁) (c₂ : Closing w₂) → Done c₁ → Done c₂
-    → (image-of c₁ ≡ image-of c₂) ↔ (survivors (settled (shape-of w₁)) ≡ survivors (settled (shape-of w₂)))
+    → (image-of c₁ ≡ image-of c₂) ↔ (survivors (lists w₁) ≡ survivors (lists w₂))
 checked-images {w₁} {w₂} k₁ k₂ c₁ c₂ d₁ d₂ =
     let i₁ = checked-closes k₁ c₁ .imaged d₁ in
     let i₂ = checked-closes k₂ c₂ .imaged d₂ in (
-      λ same. image-injective (survivors (settled (shape-of w₁))) (survivors (settled (shape-of w₂))) (seen-sound k₁) (seen-sound k₂) (sym i₁ ∙ same ∙ i₂),
+      λ same. image-injective (survivors (lists w₁)) (survivors (lists w₂)) (left-sound k₁) (left-sound k₂) (sym i₁ ∙ same ∙ i₂),
       λ same. i₁ ∙ ap image same ∙ sym i₂,
     )
 
@@ -63,13 +65,11 @@ pub demand-3 : {origin₁ origin₂ : Origin} {w₁ w₂ : Words} {requests₁ r
 demand-3 ran₁ ran₂ c₁ c₂ =
     let f₁ = run-follows ran₁ in
     let f₂ = run-follows ran₂ in
-    let s₁ = seen-is (f₁ .checked) (f₁ .reached) ∙ f₁ .ends in
-    let s₂ = seen-is (f₂ .checked) (f₂ .reached) ∙ f₂ .ends in
     record {
       first = f₁;
       second = f₂;
-      first-closes = subst (λ (s : State). Closes s c₁) s₁ (checked-closes (f₁ .checked) c₁);
-      second-closes = subst (λ (s : State). Closes s c₂) s₂ (checked-closes (f₂ .checked) c₂);
-      images = λ d₁ d₂. subst₂ (λ (s t : State). (image-of c₁ ≡ image-of c₂) ↔ (survivors (s .lists) ≡ survivors (t .lists))) s₁ s₂
+      first-closes = subst (λ (s : State). Closes s c₁) (f₁ .ends) (checked-closes (f₁ .checked) c₁);
+      second-closes = subst (λ (s : State). Closes s c₂) (f₂ .ends) (checked-closes (f₂ .checked) c₂);
+      images = λ d₁ d₂. subst₂ (λ (s t : State). (image-of c₁ ≡ image-of c₂) ↔ (survivors (s .lists) ≡ survivors (t .lists))) (f₁ .ends) (f₂ .ends)
           (checked-images (f₁ .checked) (f₂ .checked) c₁ c₂ d₁ d₂);
     }

@@ -11,7 +11,7 @@ use Rattle.plain.specs.Reads.{live-edges}
 use Rattle.plain.specs.Image.{broken-image, nodes-in, edges-in}
 use Rattle.plain.specs.History.{Call, Strip, Compaction, Reading, Called, call, called-from, history-from}
 use Rattle.shape.specs.Shape.{Words, shape-of}
-use Rattle.shape.specs.Checked.{Checked, Reached}
+use Rattle.shape.specs.Checked.{Checked}
 use Rattle.shape.specs.Steps.{state-of}
 use Rattle.strip.specs.Strip.{Steps}
 use Rattle.histories.specs.Runs.{Request, StripInto, CompactionInto, ReadingOf, call-of, lent-to, Heard, Turn, final}
@@ -82,6 +82,5 @@ pub record Follows (caps : Capacities) (s : State) (w : Words) (requests : List 
   pub states : map (λ (t : Turn). state-of (shape-of (t .store))) turns ≡ map (λ (c : Called). c .after) (called-from caps s (map call-of requests))
   pub ends : state-of (shape-of (final w turns)) ≡ history-from caps s (map call-of requests)
   pub refusals : RefusalsKeep w requests turns
-  -- in the end it is a store, one that a fresh store or an image led to
+  -- in the end it is a store
   pub checked : Checked (final w turns)
-  pub reached : Reached (shape-of (final w turns))

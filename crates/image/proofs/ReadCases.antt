@@ -12,7 +12,7 @@ use Rattle.plain.specs.Calls.{read-image}
 use Rattle.shape.specs.Shape.{Words, store, lengths-of, axis-words}
 use Rattle.shape.specs.Kept.{AxisRenewed, Renewed, nothing-spared, renewed-none, renewed-spared}
 use Rattle.store.specs.Operations.{same-lengths}
-use Rattle.compact.specs.Holding.{holding-shape, holding-state, holding-reached, holding-checked, holding-canonical}
+use Rattle.compact.specs.Holding.{holding-shape, holding-state, holding-checked, holding-canonical}
 use Rattle.image.specs.Reading.{Accepted, Placed, placed-holding, placed-renewed}
 use Rattle.image.proofs.Answering.{read-accepted}
 use Rattle.image.specs.Calls.{ReadOf}
@@ -25,7 +25,6 @@ module _ (w : Words) (bytes : List ℕ) (answer : Answer) (told : answer ≡ rea
     state = λ h. absurd (refused h);
     shape = λ h. absurd (refused h);
     checked = λ h. absurd (refused h);
-    reached = λ h. absurd (refused h);
     canonical = λ h. absurd (refused h);
     lengths = same-lengths w;
     refused-keeps = λ h. refl;
@@ -56,7 +55,6 @@ module _ (w : Words) (bytes : List ℕ) (answer : Answer) (told : answer ≡ rea
           state = λ h. holding-state holding;
           shape = λ h. holding-shape holding;
           checked = λ h. holding-checked holding;
-          reached = λ h. holding-reached holding;
           canonical = λ h. holding-canonical holding;
           lengths = record {
             nodes = same .nodes;

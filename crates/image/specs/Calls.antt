@@ -7,7 +7,7 @@ use Rattle.plain.specs.Reads.{Reply}
 use Rattle.plain.specs.Image.{parsed}
 use Rattle.plain.specs.Calls.{read-image, read-state, write-image}
 use Rattle.shape.specs.Shape.{Words, lengths-of, shape-of}
-use Rattle.shape.specs.Checked.{Checked, Reached}
+use Rattle.shape.specs.Checked.{Checked}
 use Rattle.shape.specs.Kept.{Renewed, Spared}
 use Rattle.shape.specs.Steps.{state-of}
 use Rattle.store.specs.Operations.{SameLengths}
@@ -25,7 +25,6 @@ pub record ReadOf (w : Words) (bytes : List ℕ) (number value : ℕ) (v : Words
   -- all is in the base: "the result equals what compaction leaves"
   pub shape : number ≡ 0 → shape-of v ≡ shape-of-survivors (parsed bytes)
   pub checked : number ≡ 0 → Checked v
-  pub reached : number ≡ 0 → Reached (shape-of v)
   pub canonical : number ≡ 0 → Canonical v
   pub lengths : SameLengths w v
   -- not a word and not a count

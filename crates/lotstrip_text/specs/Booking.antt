@@ -28,15 +28,13 @@ use Rattle.plain.specs.Laws.CallCases.{no-slice, slice-fits, strip-done, compac
 use Rattle.plain.specs.Laws.Compacting.{survivors-sound, survivors-of, surviving-nodes-within, surviving-edges-within}
 use Rattle.plain.specs.Laws.ImageLaws.{image-length}
 use Rattle.shape.specs.Shape.{Words, store, capacities, lengths-of, shape-of, plain-of, lists, is-compact}
-use Rattle.shape.specs.Checked.{Checked, Reached}
+use Rattle.shape.specs.Checked.{Checked}
 use Rattle.shape.specs.Rules.{broken}
 use Rattle.shape.specs.Steps.{state-of}
 use Rattle.shape.specs.Laws.Judging.{checked-sound}
-use Rattle.shape.specs.Laws.CheckedShape.{checked-proper}
-use Rattle.shape.specs.Laws.Settling.{settled-is-plain}
 use Rattle.strip.specs.Fresh.{FreshOf}
 use Rattle.strip.specs.Strip.{StripOf, stripped}
-use Rattle.compact.specs.Calls.{CompactOf, seen, compacting-of}
+use Rattle.compact.specs.Calls.{CompactOf, compacting-of}
 use Rattle.view.specs.Calls.{Replied}
 use Rattle.image.specs.Calls.{written-image}
 
@@ -71,7 +69,6 @@ pub record Bookable (nodes edges live-nodes live-edges outgoing incoming words a
 -- A store that a strip led to.
 pub record Held (w : Words) : Type 0 where
   pub checked : Checked w
-  pub reached : Reached (shape-of w)
   pub sized : capacities w ≡ lotstrip-capacities
 
 pub record Booked (words entry : List ℕ) (v : Words) (exit : List ℕ) : Type 0 where
@@ -111,7 +108,6 @@ module _ {nodes edges live-nodes live-edges outgoing incoming words entry : List
       record {
         held = record {
           checked = done .checked (done .numbered ∙ ap (λ (o : Stripped). o .number) is);
-          reached = done .reached (made .reached);
           sized = (λ i. record { nodes = done .lengths .nodes i; edges = done .lengths .edges i }) ∙ caps;
         };
         state = done .state ∙ ap (λ (o : Stripped). o .after) is;
@@ -133,16 +129,13 @@ module _ {w : Words} (h : Held w) where
   well : WellFormed lotstrip-capacities plain
   well = subst (λ (caps : Capacities). WellFormed caps plain) (h .sized) (h .checked .walks)
 
-  seen-is : seen w ≡ state-of (shape-of w)
-  seen-is = ap (λ (p : Plain). record { lists = p; compact = is-compact (shape-of w) }) (settled-is-plain (checked-proper w (h .checked)) (h .reached))
-
   compacting-is : (node-map edge-map work : ℕ) → 512 ≤ node-map → 1024 ≤ edge-map → 2048 ≤ work
       → compacting-of w node-map edge-map work ≡ compacting none (state-of (shape-of w))
   compacting-is node-map edge-map work a b c =
       let few : live-edges plain ≤ 1024 = omega (arith, count-length (λ f. f) (edge-flags plain), length-map (plain .edges) (λ (e : EdgeSlot). e .live), well .edges-within) in
-      ap (λ (rule : ℕ). judged-compaction rule (seen w) (compaction (seen w) node-map edge-map work)) (checked-sound w (h .checked))
-      ∙ ap (λ (s : State). compaction s node-map edge-map work) seen-is
-      ∙ compaction-done (state-of (shape-of w)) node-map edge-map work
+      let s = state-of (shape-of w) in
+      ap (λ (rule : ℕ). judged-compaction rule s (compaction s node-map edge-map work)) (checked-sound w (h .checked))
+      ∙ compaction-done s node-map edge-map work
       (slice-fits (omega (arith, well .nodes-within)) (slice-fits (omega (arith, well .edges-within)) (slice-fits (omega arith) no-slice)))
 
   pub closes : {node-map edge-map work node-map' edge-map' work' : List ℕ} {number value : ℕ} {v : Words}
@@ -152,7 +145,7 @@ module _ {w : Words} (h : Held w) where
   closes {node-map} {edge-map} {work} done a b c =
       let is = compacting-is (length node-map) (length edge-map) (length work) a b c in
       let zero = done .numbered ∙ ap (λ (o : Compacted). o .number) is in
-      let state = done .state zero ∙ ap (λ (o : Compacted). o .after) is in
+      let state = done .state ∙ ap (λ (o : Compacted). o .after) is in
       record {
         checked = done .checked zero;
         compact = ap (λ (s : State). s .compact) state;

@@ -11,7 +11,7 @@ use Rattle.plain.specs.declared.Slots.{Slots}
 use Rattle.plain.specs.declared.Counts.{Counts}
 use Rattle.plain.specs.declared.Answer.{Answer}
 use Rattle.plain.specs.Numbers.{above-limit}
-use Rattle.plain.specs.Lists.{member, all, from, count}
+use Rattle.plain.specs.Lists.{all, from, count}
 use Rattle.plain.specs.Plain.{Plain}
 use Rattle.plain.specs.Step.{State}
 use Rattle.plain.specs.Memory.{axis-words as axis-room}
@@ -20,10 +20,9 @@ use Rattle.plain.specs.Laws.Operating.{empty-well-formed}
 use Rattle.plain.specs.Laws.WellFormed.{WellFormed}
 use Rattle.memory.specs.Laws.{Roomy, roomy-for, fresh-reads}
 use Rattle.liveness.specs.Flags.{packed, live-flags}
-use Rattle.shape.specs.Shape.{Words, Adjacency, store, capacities, lengths-of, node-live, edge-live, axis-words, axis-of, adjacency-of, no-adjacency, shape-of, plain-of, ascends, is-compact}
-use Rattle.shape.specs.Checked.{LiveRight, AxisChecked, Checked, Reached}
+use Rattle.shape.specs.Shape.{Words, store, capacities, lengths-of, node-live, edge-live, axis-words, axis-of, shape-of, plain-of, is-compact}
+use Rattle.shape.specs.Checked.{LiveRight, AxisChecked, Checked}
 use Rattle.shape.specs.Steps.{state-of}
-use Rattle.shape.specs.Laws.Chains.{in-none}
 
 -- the counts of a store with no slot
 abbrev pub empty-slots : Slots
@@ -37,7 +36,6 @@ pub record FreshOf (w : Words) (number value : ℕ) : Type 0 where
   pub counts : w .counts ≡ empty-counts
   pub state : state-of (shape-of w) ≡ fresh-state
   pub checked : number ≡ 0 → Checked w
-  pub reached : Reached (shape-of w)
 
 module _ (nodes edges live-nodes live-edges outgoing incoming : List ℕ) where
   -- the memory lent, with no slot
@@ -47,18 +45,6 @@ module _ (nodes edges live-nodes live-edges outgoing incoming : List ℕ) where
   nothing : state-of (shape-of memory) ≡ fresh-state
   unfolding shape-of plain-of axis-of is-compact from all
   nothing = refl
-
-  no-entry : (d : TraversalDirection) (x : ℕ) → adjacency-of d (shape-of memory) x ≡ no-adjacency
-  unfolding shape-of axis-of from
-  no-entry Outgoing x = refl
-  no-entry Incoming x = refl
-
-  arrived : Reached (shape-of memory)
-  unfolding ascends member
-  arrived = record {
-    rings = λ d x. ap (λ (a : Adjacency). ascends (a .ring)) (no-entry d x);
-    order = λ d x e f m n. in-none f (ap (λ (a : Adjacency). member f (a .ring)) (sym (no-entry d x)) ∙ n);
-  }
 
   bare : Roomy limits (lengths-of memory) → (d : TraversalDirection) → axis-room (capacities memory) ≤ length (axis-words d memory)
       → AxisChecked (axis-words d memory) (length edges) (length nodes) empty-counts (node-live memory) (edge-live memory)
@@ -102,5 +88,4 @@ module _ (nodes edges live-nodes live-edges outgoing incoming : List ℕ) where
     state = nothing;
     checked = λ h. a-store (roomy-for limits above-limit (λ q. omega arith) (lengths-of memory) 0 0 0
         (ap (λ (a : Answer). a .number) (fresh-reads limits above-limit (lengths-of memory) ∙ sym is) ∙ h) .roomy);
-    reached = arrived;
   }

@@ -1,7 +1,7 @@
 -- What one operation of a strip comes to on a checked store: number and value of document 01's table, the shape's own step, the store checked again; a refused
 -- operation leaves every word. The laws say it case by case.
 use Prim.Native.Nat.{ℕ, _≤_, _<_}
-use mathlib.Core.Path.{_≡_, refl, sym, ap, subst, _∙_}
+use mathlib.Core.Path.{_≡_, refl, sym, ap, _∙_}
 use mathlib.Core.Bool.{Bool, true, false, cond}
 use lib.ListN.{getD}
 use lib.Dec.{eqb}
@@ -14,12 +14,11 @@ use Rattle.plain.specs.Laws.Booleans.{true-false}
 use Rattle.plain.specs.Laws.Cases.{Absent, Removed, Live, Case, comes-to, unknown as unknown-code}
 use Rattle.liveness.specs.FlagLaws.{length-flags}
 use Rattle.shape.specs.Shape.{Words, capacities, node-live, edge-live, shape-of, plain-of, lists}
-use Rattle.shape.specs.Checked.{Checked, Reached}
+use Rattle.shape.specs.Checked.{Checked}
 use Rattle.shape.specs.Kept.{Kept, kept-none}
 use Rattle.shape.specs.Writes.{Writes, nothing-written}
 use Rattle.shape.specs.Steps.{acted, acts, shape-step, state-of}
 use Rattle.shape.specs.Laws.CheckedShape.{checked-proper, checked-based}
-use Rattle.shape.specs.Laws.Reaching.{step-reached}
 use Rattle.shape.specs.Laws.Running.{step-state}
 use Rattle.shape.specs.Laws.Reading.{node-flags-are, edge-flags-are, node-bound-is, edge-bound-is}
 use Rattle.store.specs.Operations.{Acted, SameLengths, same-lengths}
@@ -48,11 +47,6 @@ pub record StepOf (operation : Operation) (w v : Words) (number value : ℕ) : T
 pub step-lists : {operation : Operation} {w v : Words} {number value : ℕ} → Checked w → StepOf operation w v number value
     → state-of (shape-of v) ≡ stepped (capacities w) (state-of (shape-of w)) operation
 step-lists {operation} {w} c does = ap state-of (does .shaped) ∙ step-state (checked-proper w c) (checked-based w c) operation
-
--- and a store that a fresh one or an image led to stays one
-pub step-keeps : {operation : Operation} {w v : Words} {number value : ℕ} → Checked w → StepOf operation w v number value → Reached (shape-of w)
-    → Reached (shape-of v)
-step-keeps {operation} {w} c does r = subst Reached (sym (does .shaped)) (step-reached (checked-proper w c) r operation)
 
 -- a removal with value 0 leaves every word
 pub no-edge-kept : {e : ℕ} {w v : Words} {number : ℕ} → StepOf (RemoveEdge e) w v number 0 → v ≡ w

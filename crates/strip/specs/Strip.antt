@@ -16,7 +16,7 @@ use Rattle.plain.specs.Step.{Capacities, State, Outcome, step, stepped, run, an
 use Rattle.plain.specs.Calls.{Stripped, strip, judged-strip}
 use Rattle.plain.specs.Laws.Strips.{run-snoc, answers-snoc, length-answers, length-operations}
 use Rattle.shape.specs.Shape.{Words, Shape, capacities, shape-of}
-use Rattle.shape.specs.Checked.{Checked, Reached}
+use Rattle.shape.specs.Checked.{Checked}
 use Rattle.shape.specs.Rules.{broken}
 use Rattle.shape.specs.Kept.{Kept, Spared, kept-none, kept-through, kept-spared, nothing-spared}
 use Rattle.shape.specs.Steps.{shape-step, shape-run, state-of}
@@ -24,7 +24,7 @@ use Rattle.shape.specs.Laws.Running.{shape-run-snoc}
 use Rattle.adjacency.specs.Reading.{write-one}
 use Rattle.validate.specs.Judging.{Judged}
 use Rattle.store.specs.Operations.{SameLengths, same-lengths}
-use Rattle.strip.specs.Step.{StepOf, outcome, step-lists, step-keeps}
+use Rattle.strip.specs.Step.{StepOf, outcome, step-lists}
 
 -- What it takes to run a strip: a checked store, and two words of answer for every operation.
 pub record Runnable (w : Words) (words answers : List ℕ) : Type 0 where
@@ -41,7 +41,6 @@ pub record Ran (w : Words) (ops : List Operation) (entry : List ℕ) (v : Words)
   pub shape : shape-of v ≡ shape-run (capacities w) (shape-of w) ops
   pub state : state-of (shape-of v) ≡ run (capacities w) (state-of (shape-of w)) ops
   pub checked : Checked v
-  pub reached : Reached (shape-of w) → Reached (shape-of v)
   pub lengths : SameLengths w v
   pub kept : Kept w v
   pub steps : Steps w ops v
@@ -62,7 +61,6 @@ pub record StripOf (w : Words) (words entry : List ℕ) (number value : ℕ) (v 
   -- run contents are fixed, not only the lists
   pub shape : number ≡ 0 → shape-of v ≡ shape-run (capacities w) (shape-of w) (operations words)
   pub checked : number ≡ 0 → Checked v
-  pub reached : Reached (shape-of w) → Reached (shape-of v)
   pub lengths : SameLengths w v
   -- "A refused operation changes nothing and the strip goes on": not a word
   pub steps : number ≡ 0 → Steps w (operations words) v
@@ -111,7 +109,7 @@ same-capacities same = ap₂ {C = Capacities} (λ (n e : ℕ). record { nodes = 
 -- before the first operation
 ran-none : {w : Words} {entry : List ℕ} → Checked w → Ran w [] entry w entry
 unfolding shape-run run answers
-ran-none {w} c = record { shape = refl; state = refl; checked = c; reached = λ r. r; lengths = same-lengths w; kept = kept-none w; steps = no-step; answered = refl }
+ran-none {w} c = record { shape = refl; state = refl; checked = c; lengths = same-lengths w; kept = kept-none w; steps = no-step; answered = refl }
 
 steps-more : {w v u : Words} {ops : List Operation} {x : Operation} {number value : ℕ} → Steps w ops v → StepOf x v u number value → Steps w (ops ++ (x ∷ [])) u
 steps-more no-step does = one-step does no-step
@@ -132,7 +130,6 @@ module _ {w v u : Words} {ops : List Operation} {entry exit : List ℕ} {x : Ope
         ∙ ap₂ {C = State} (λ (caps : Capacities) (s : State). stepped caps s x) (same-capacities (ran .lengths)) (ran .state)
         ∙ sym (run-snoc (capacities w) (state-of (shape-of w)) ops x);
     checked = does .checked;
-    reached = λ r. step-keeps (ran .checked) does (ran .reached r);
     lengths = same-through (ran .lengths) (does .lengths);
     kept = kept-through (ran .lengths .nodes) (ran .lengths .edges) (ran .kept) (does .kept);
     steps = steps-more (ran .steps) does;
@@ -210,7 +207,6 @@ module _ (w : Words) (words entry : List ℕ) where
         state = sym (ap (λ (s : Stripped). s .after) is ∙ same);
         shape = λ h. absurd (refused h);
         checked = λ h. absurd (refused h);
-        reached = λ r. r;
         lengths = same-lengths w;
         steps = λ h. absurd (refused h);
         refused-keeps = λ h. refl;
@@ -269,7 +265,6 @@ module _ (w : Words) (words entry : List ℕ) where
               state = ran .state ∙ sym (ap (λ (o : Stripped). o .after) is);
               shape = λ h. ran .shape;
               checked = λ h. ran .checked;
-              reached = ran .reached;
               lengths = ran .lengths;
               steps = λ h. ran .steps;
               refused-keeps = λ h. absurd (h refl);

@@ -15,7 +15,7 @@ use Rattle.shape.specs.Columns.{end-at}
 use Rattle.shape.specs.Shape.{Words, node-live, edge-live, axis-words, shape-of, plain-of}
 use Rattle.shape.specs.Rules.{walks-right, rule-1}
 use Rattle.shape.specs.Laws.Judging.{Structured, sizes-sound, edges-live-sound, axis-sound}
-use Rattle.shape.specs.Laws.Reading.{node-bound-is, edge-bound-is, node-flags-are, edge-flags-are, plain-end}
+use Rattle.shape.specs.Laws.Reading.{plain-node-bound, plain-edge-bound, plain-node-flags, plain-edge-flags, plain-end}
 use Rattle.adjacency.specs.Walk.{Walkable}
 use Rattle.adjacency.specs.WalkLaws.{walk-below}
 use Rattle.adjacency.specs.StoreWalks.{list-is-walk}
@@ -51,24 +51,6 @@ walks-read p d walk ends nodes edges nb eb node-size edge-size node-live edge-li
         rw (lists x l)
         (ap (λ (b : Bool). distinct (walk x) && b)
         (entries-agree (λ e. eqb (end-of d p e) x) (λ e. eqb (ends e) x) (walk x) (λ e m. ap (λ (y : ℕ). eqb y x) (ends-are e (below x e l m)))))
-
--- bounds and flags of a store's plain lists
-module _ (w : Words) where
-  plain-nodes : node-bound (plain-of (shape-of w)) ≡ w .counts .nodes .bound
-  unfolding plain-of
-  plain-nodes = node-bound-is w
-
-  plain-edges : edge-bound (plain-of (shape-of w)) ≡ w .counts .edges .bound
-  unfolding plain-of
-  plain-edges = edge-bound-is w
-
-  plain-node-flags : node-flags (plain-of (shape-of w)) ≡ node-live w
-  unfolding plain-of
-  plain-node-flags = node-flags-are w
-
-  plain-edge-flags : edge-flags (plain-of (shape-of w)) ≡ edge-live w
-  unfolding plain-of
-  plain-edge-flags = edge-flags-are w
 
 module _ (w : Words) (d : TraversalDirection) where
   abbrev ws : List ℕ
@@ -117,7 +99,7 @@ module _ (w : Words) (d : TraversalDirection) where
     unfolding walks-test walk-test listed-test node-walk
     walks-rule =
         sym (walks-read (plain-of (shape-of w)) d (node-walk ws ce cn (w .counts) (w .live-nodes) (w .live-edges)) (end-at ws) (node-live w) (edge-live w)
-        (w .counts .nodes .bound) (w .counts .edges .bound) (plain-nodes w) (plain-edges w) (plain-node-flags w) (plain-edge-flags w) (list-is-walk w d) (plain-end w d)
+        (w .counts .nodes .bound) (w .counts .edges .bound) (plain-node-bound w) (plain-edge-bound w) (plain-node-flags w) (plain-edge-flags w) (list-is-walk w d) (plain-end w d)
         (λ x e l m. walk-below (walkable x l) (getD (node-live w) x false) e m) (axis-sound w t d .ends-below))
 
 -- ---- the answer

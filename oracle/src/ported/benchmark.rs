@@ -18,6 +18,7 @@ use std::time::{Duration, Instant};
 use super::Port;
 use super::memory::Memory;
 use crate::calls::Lots;
+use crate::checked::{put_ring, read, written};
 use crate::graph::store::Graph;
 use crate::lots::LotBook;
 use crate::model::{Capacities, DIRECTIONS, LIMIT, Operation};
@@ -160,6 +161,39 @@ impl Pair {
         }
     }
 
+    /// One compaction on both sides, and the check alone.
+    fn compare_compaction(&self, name: &str) {
+        let [nodes, edges] = self.rust.bounds();
+        let mut times = [const { Vec::new() }; 3];
+        for _ in 0..REPEATS {
+            let began = Instant::now();
+            self.book.check().expect("a store");
+            let check = began.elapsed();
+            let mut book = self.book.clone();
+            let mut maps = [nodes, edges].map(|bound| vec![0; bound]);
+            let mut work = vec![0; 2 * self.rust.graph.edge_count()];
+            let [node_map, edge_map] = &mut maps;
+            let began = Instant::now();
+            let done = book.compact_into(node_map, edge_map, &mut work);
+            let port = began.elapsed();
+            done.expect("a store");
+            let mut graph = self.rust.graph.clone();
+            let began = Instant::now();
+            let renumbering = graph.compact();
+            let rust = began.elapsed();
+            std::hint::black_box((renumbering, graph));
+            for (times, time) in times.iter_mut().zip([port, check, rust]) {
+                times.push(time);
+            }
+        }
+        let [port, check, rust] = times.map(median);
+        println!(
+            "{name}: port {port:.0} µs, of it the check {check:.0} µs, Rust {rust:.0} µs, ratio {:.2}, without the check {:.2}",
+            port / rust,
+            (port - check).max(0.0) / rust
+        );
+    }
+
     /// Every list and every degree, both ways: by the internal functions, and by
     /// the public entries for some nodes.
     fn compare_reads(&self) {
@@ -298,6 +332,14 @@ fn compare_operations(rng: &mut Rng) {
     );
     let any: Vec<[u32; 4]> = shuffled(rng).into_iter().take(8192).map(away).collect();
     hub.compare("redirects away from a hub, in any order", &any, &[4096]);
+    hub.compare_compaction("compaction of a hub, its ring of all edges ascending");
+    let mut value = written(&hub.rust.graph);
+    put_ring(&mut value, 0, 0, &shuffled(rng), 0);
+    let turned = Pair::of(RustStore {
+        graph: read(value).expect("it passes the check"),
+        capacities,
+    });
+    turned.compare_compaction("compaction of a hub, its ring of all edges in any order");
 
     let moves: Vec<[u32; 4]> = (0..SLOTS)
         .map(|_| {

@@ -85,6 +85,8 @@ struct Shelf {
     model: Model,
     rust: RustStore,
     book: LotBook,
+    /// Whether neither a fresh store nor an image led to this one.
+    foreign: bool,
 }
 
 impl Shelf {
@@ -94,6 +96,7 @@ impl Shelf {
             model: Lots::fresh(capacities),
             rust: RustStore::fresh(capacities),
             book: LotBook::from_memory(Memory::fresh(capacities).words()),
+            foreign: false,
         }
     }
 
@@ -107,6 +110,7 @@ impl Shelf {
             model,
             rust,
             book: LotBook::from_memory(memory),
+            foreign: true,
         }
     }
 
@@ -120,7 +124,9 @@ impl Shelf {
     ) -> Result<u64, Difference> {
         let words = operations(most, &self.model, generator);
         let length = words.len() / 2 + generator.rng.below(3);
-        let Self { model, rust, book } = self;
+        let Self {
+            model, rust, book, ..
+        } = self;
         compare_strip(model, rust, book, &words, length, tally)?;
         self.compare_reads(generator.rng, tally)?;
         Ok(words.len() as u64 / 4)
@@ -128,6 +134,8 @@ impl Shelf {
 
     /// Compacts on both sides: the maps and the lists into slices with words to
     /// spare, then every read. Before it, one of the three slices is too short.
+    /// A store from elsewhere is judged by the Rust where it is the yardstick, and
+    /// by the model's lists elsewhere.
     fn compact(&mut self, rng: &mut Rng, tally: &mut Tally) -> Same {
         let place = || "a compaction".to_string();
         let [nodes, edges] = self.rust.bounds();
@@ -148,12 +156,19 @@ impl Shelf {
         let [node_map, edge_map, work] = &mut slices;
         let given = self.book.compact_into(node_map, edge_map, work);
         let given = given.map(|()| slices.map(kept)).map_err(Answer::from);
-        let [node_map, edge_map] = rust_store::maps(&self.rust.graph.compact());
+        let kept = self.model.compact().plain;
+        let (renumbering, in_order) = self.rust.compact_as(&kept);
+        let [node_map, edge_map] = rust_store::maps(&renumbering);
         let [(_, outgoing), (_, incoming)] = self.rust.graph.compressed_base();
         let expected = Ok([node_map, edge_map, [outgoing, incoming].concat()]);
-        tally.same(Thing::BookCompaction, place, expected, given)?;
-        self.model.plain = self.rust.plain();
-        self.model.compact = true;
+        let thing = match (self.foreign, in_order) {
+            (false, _) => Thing::BookCompaction,
+            (true, true) => Thing::BookForeignRust,
+            (true, false) => Thing::BookForeignModel,
+        };
+        tally.same(thing, place, expected, given)?;
+        tally.same(thing, place, kept, self.rust.plain())?;
+        self.foreign = false;
         self.compare_reads(rng, tally)?;
         self.compact_again(tally)
     }
@@ -202,6 +217,7 @@ impl Shelf {
                 tally.same(Thing::BookReading, place, Ok(()), given)?;
                 self.rust.put(&model.plain);
                 self.model = model;
+                self.foreign = false;
                 self.compare_reads(rng, tally)?;
                 let image = self.book.image().map_err(Answer::from);
                 tally.same(Thing::BookReading, place, Ok(bytes), image)?;

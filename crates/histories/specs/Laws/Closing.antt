@@ -1,4 +1,4 @@
--- What the closing calls come to on every checked store: the image is that of the survivors as compaction sees them, and a further compaction finds nothing to do.
+-- What the closing calls come to on every checked store: the image is that of the survivors of its plain lists, and a further compaction finds nothing to do.
 use Prim.Native.Nat.{ℕ}
 use mathlib.Core.Path.{_≡_, sym, ap, ap₂, subst, _∙_}
 use mathlib.Core.Logic.{_⊎_, ⊎-elim}
@@ -14,24 +14,20 @@ use Rattle.plain.specs.Reads.{Reply}
 use Rattle.plain.specs.Compaction.{renumbering, survivors}
 use Rattle.plain.specs.Image.{image}
 use Rattle.plain.specs.Calls.{Compacted, compacting, write-image, judged-reply}
-use Rattle.plain.specs.Laws.WellFormed.{WellFormed, Sound}
+use Rattle.plain.specs.Laws.WellFormed.{Sound}
 use Rattle.plain.specs.Laws.Compacting.{survivors-sound}
 use Rattle.plain.specs.Laws.Renumberings.{renumbering-all-live}
 use Rattle.plain.specs.Laws.Histories.{compaction-state, closing-compaction-number, closing-image-number, closing-bytes}
-use Rattle.shape.specs.Shape.{Words, capacities, shape-of, settled}
+use Rattle.shape.specs.Shape.{Words, capacities, shape-of, lists}
 use Rattle.shape.specs.Checked.{Checked}
 use Rattle.shape.specs.Rules.{broken}
 use Rattle.shape.specs.Laws.Judging.{checked-sound}
-use Rattle.shape.specs.Laws.CheckedShape.{checked-proper}
-use Rattle.compact.specs.ListsStore.{settled-well-formed, settled-node-flags, settled-edge-flags}
-use Rattle.compact.specs.Calls.{Canonical, seen, compacting-of}
+use Rattle.shape.specs.Steps.{state-of}
+use Rattle.shape.specs.Laws.Reading.{plain-node-flags, plain-edge-flags}
+use Rattle.compact.specs.Calls.{Canonical, compacting-of}
 use Rattle.image.specs.Calls.{written-image}
 use Rattle.histories.specs.Closing.{Compacting, Closing, Done, image-of, NothingMore, compaction-of, writing-of, Compacts, Writes, Closes}
 use Rattle.histories.specs.Laws.Following.{checked-within, compacting-is}
-
--- what compaction sees of a checked store is well formed
-seen-well-formed : {w : Words} → Checked w → WellFormed (capacities w) (seen w .lists)
-seen-well-formed {w} k = settled-well-formed (checked-proper w k)
 
 -- the map of slots that are all live
 identity-map : (flags : List Bool) (n : ℕ) → flags ≡ replicate n true → renumbering flags ≡ from 0 n
@@ -40,27 +36,27 @@ identity-map flags n all-live = ap renumbering all-live ∙ renumbering-all-live
 -- ---- one compaction
 
 module _ {w : Words} (k : Checked w) (a : Compacting w) where
-  is-defined : compacting-of w (length (a .node-map)) (length (a .edge-map)) (length (a .work)) ≡ compaction-of (seen w) a
+  is-defined : compacting-of w (length (a .node-map)) (length (a .edge-map)) (length (a .work)) ≡ compaction-of (state-of (shape-of w)) a
   is-defined = compacting-is k (length (a .node-map)) (length (a .edge-map)) (length (a .work))
 
-  number-is : a .number ≡ compaction-of (seen w) a .number
+  number-is : a .number ≡ compaction-of (state-of (shape-of w)) a .number
   number-is = a .comes-to .numbered ∙ ap (λ (r : Compacted). r .number) is-defined
 
   -- a compaction of any checked store
-  checked-compacts : Compacts (seen w) a
+  checked-compacts : Compacts (state-of (shape-of w)) a
   checked-compacts = record {
     numbered = number-is;
     valued = a .comes-to .valued ∙ ap (λ (r : Compacted). r .value) is-defined;
     node-map = a .comes-to .node-mapped ∙ ap (λ (r : Compacted). written (r .node-map) (a .node-map)) is-defined;
     edge-map = a .comes-to .edge-mapped ∙ ap (λ (r : Compacted). written (r .edge-map) (a .edge-map)) is-defined;
     work = a .comes-to .worked ∙ ap (λ (r : Compacted). written (r .work) (a .work)) is-defined;
-    leaves = λ done. a .comes-to .state done ∙ ap (λ (r : Compacted). r .after) is-defined;
+    leaves = a .comes-to .state ∙ ap (λ (r : Compacted). r .after) is-defined;
     zero-or-two = subst (λ (n : ℕ). (n ≡ 0) ⊎ (n ≡ 2)) (sym number-is)
-        (closing-compaction-number (capacities w) (checked-within k) (seen w) (seen-well-formed k) (length (a .node-map)) (length (a .edge-map)) (length (a .work)));
+        (closing-compaction-number (capacities w) (checked-within k) (state-of (shape-of w)) (k .walks) (length (a .node-map)) (length (a .edge-map)) (length (a .work)));
   }
 
-  whole : a .number ≡ 0 → compaction-of (seen w) a ≡ compacting none (seen w)
-  whole done = compaction-state (seen w) (length (a .node-map)) (length (a .edge-map)) (length (a .work)) (sym number-is ∙ done)
+  whole : a .number ≡ 0 → compaction-of (state-of (shape-of w)) a ≡ compacting none (state-of (shape-of w))
+  whole done = compaction-state (state-of (shape-of w)) (length (a .node-map)) (length (a .edge-map)) (length (a .work)) (sym number-is ∙ done)
 
   -- on a store that compaction left there is nothing to do
   nothing-more : Canonical w → NothingMore a
@@ -69,44 +65,44 @@ module _ {w : Words} (k : Checked w) (a : Compacting w) where
     unchanged = ⊎-elim (λ q. a .comes-to .again q canonical) (λ q. a .comes-to .refused-keeps (λ z. let e = sym z ∙ q in omega arith))
         (checked-compacts .zero-or-two);
     node-map = λ done. checked-compacts .node-map ∙ ap (λ (r : Compacted). written (r .node-map) (a .node-map)) (whole done)
-        ∙ ap (λ (l : List ℕ). written l (a .node-map)) (identity-map _ (w .counts .nodes .bound) (settled-node-flags w ∙ canonical .node-words .flags));
+        ∙ ap (λ (l : List ℕ). written l (a .node-map)) (identity-map _ (w .counts .nodes .bound) (plain-node-flags w ∙ canonical .node-words .flags));
     edge-map = λ done. checked-compacts .edge-map ∙ ap (λ (r : Compacted). written (r .edge-map) (a .edge-map)) (whole done)
-        ∙ ap (λ (l : List ℕ). written l (a .edge-map)) (identity-map _ (w .counts .edges .bound) (settled-edge-flags w ∙ canonical .edge-words .flags));
+        ∙ ap (λ (l : List ℕ). written l (a .edge-map)) (identity-map _ (w .counts .edges .bound) (plain-edge-flags w ∙ canonical .edge-words .flags));
   }
 
 -- ---- compaction and image writing
 
 module _ {w : Words} (k : Checked w) (c : Closing w) where
   module _ (done : c .compacting .number ≡ 0) where
-    compaction-done : compaction-of (seen w) (c .compacting) .number ≡ 0
+    compaction-done : compaction-of (state-of (shape-of w)) (c .compacting) .number ≡ 0
     compaction-done = sym (number-is k (c .compacting)) ∙ done
 
-    reply-is : judged-reply (broken (c .compacting .after)) (written-image (c .compacting .after) (length (c .writing .slice))) ≡ writing-of (seen w) c
+    reply-is : judged-reply (broken (c .compacting .after)) (written-image (c .compacting .after) (length (c .writing .slice))) ≡ writing-of (state-of (shape-of w)) c
     reply-is =
         ap (λ (rule : ℕ). judged-reply rule (written-image (c .compacting .after) (length (c .writing .slice))))
         (checked-sound (c .compacting .after) (c .compacting .comes-to .checked done))
-        ∙ ap (λ (s : State). write-image s (length (c .writing .slice))) (checked-compacts k (c .compacting) .leaves done)
+        ∙ ap (λ (s : State). write-image s (length (c .writing .slice))) (checked-compacts k (c .compacting) .leaves)
 
-    image-number : c .writing .answer .number ≡ writing-of (seen w) c .number
+    image-number : c .writing .answer .number ≡ writing-of (state-of (shape-of w)) c .number
     image-number = c .writing .comes-to .number ∙ ap (λ (r : Reply). r .number) reply-is
 
-    checked-writes : Writes (seen w) c
+    checked-writes : Writes (state-of (shape-of w)) c
     checked-writes = record {
       numbered = image-number;
       valued = c .writing .comes-to .value ∙ ap (λ (r : Reply). r .value) reply-is;
       bytes = c .writing .comes-to .writes ∙ ap (λ (r : Reply). written (r .words) (c .writing .slice)) reply-is;
       zero-or-two = subst (λ (n : ℕ). (n ≡ 0) ⊎ (n ≡ 2)) (sym image-number)
-          (closing-image-number (capacities w) (checked-within k) (seen w) (seen-well-formed k) (length (c .compacting .node-map)) (length (c .compacting .edge-map))
+          (closing-image-number (capacities w) (checked-within k) (state-of (shape-of w)) (k .walks) (length (c .compacting .node-map)) (length (c .compacting .edge-map))
           (length (c .compacting .work)) compaction-done (length (c .writing .slice)));
     }
 
   module _ (done : Done c) where
     abbrev bytes : List ℕ
-    bytes = image (survivors (settled (shape-of w)))
+    bytes = image (survivors (lists w))
 
-    reply-whole : writing-of (seen w) c ≡ record { number = 0; value = length bytes; words = bytes }
+    reply-whole : writing-of (state-of (shape-of w)) c ≡ record { number = 0; value = length bytes; words = bytes }
     reply-whole =
-        closing-bytes (capacities w) (checked-within k) (seen w) (seen-well-formed k) (length (c .compacting .node-map)) (length (c .compacting .edge-map))
+        closing-bytes (capacities w) (checked-within k) (state-of (shape-of w)) (k .walks) (length (c .compacting .node-map)) (length (c .compacting .edge-map))
         (length (c .compacting .work)) (compaction-done (done .compacts)) (length (c .writing .slice)) (sym (image-number (done .compacts)) ∙ done .writes)
 
     value-length : c .writing .answer .value ≡ length bytes
@@ -119,7 +115,7 @@ module _ {w : Words} (k : Checked w) (c : Closing w) where
         ∙ take-append-seam bytes (drop (length bytes) (c .writing .slice))
 
   -- closing calls on any checked store
-  pub checked-closes : Closes (seen w) c
+  pub checked-closes : Closes (state-of (shape-of w)) c
   checked-closes = record {
     compacts = checked-compacts k (c .compacting);
     writes = checked-writes;
@@ -128,8 +124,8 @@ module _ {w : Words} (k : Checked w) (c : Closing w) where
     again = λ done a. nothing-more (c .compacting .comes-to .checked done) a (c .compacting .comes-to .canonical done);
   }
 
--- what survives of a checked store, as compaction sees it, has an image that tells it
-pub seen-sound : {w : Words} → Checked w → Sound (survivors (settled (shape-of w)))
-seen-sound {w} k =
+-- what survives of a checked store has an image that tells it
+pub left-sound : {w : Words} → Checked w → Sound (survivors (lists w))
+left-sound {w} k =
     let few = checked-within k in
-    survivors-sound (capacities w) (settled (shape-of w)) (seen-well-formed k) (few .nodes) (few .edges)
+    survivors-sound (capacities w) (lists w) (k .walks) (few .nodes) (few .edges)

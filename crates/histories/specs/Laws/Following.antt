@@ -9,20 +9,17 @@ use lib.Dec.{eqb}
 use Rattle.plain.specs.declared.TraversalDirection.the-variants.{Outgoing}
 use Rattle.plain.specs.declared.Answer.{Answer}
 use Rattle.plain.specs.Lists.{written}
-use Rattle.plain.specs.Plain.{Plain}
 use Rattle.plain.specs.Step.{Capacities, State}
 use Rattle.plain.specs.Memory.{exact}
 use Rattle.plain.specs.Calls.{Stripped, strip, judged-strip, Compacted, compaction, judged-compaction, read-image, read-state}
 use Rattle.plain.specs.History.{Call, Strip, Compaction, Reading, call, called-from, history-from}
 use Rattle.plain.specs.Laws.Histories.{Within, call-refused}
-use Rattle.shape.specs.Shape.{Words, capacities, lengths-of, shape-of, is-compact}
-use Rattle.shape.specs.Checked.{Checked, Reached}
+use Rattle.shape.specs.Shape.{Words, capacities, lengths-of, shape-of}
+use Rattle.shape.specs.Checked.{Checked}
 use Rattle.shape.specs.Steps.{state-of}
 use Rattle.shape.specs.Laws.Judging.{checked-sound}
-use Rattle.shape.specs.Laws.CheckedShape.{checked-proper}
-use Rattle.shape.specs.Laws.Settling.{settled-is-plain}
 use Rattle.strip.specs.Strip.{StripOf, stripped, same-capacities}
-use Rattle.compact.specs.Calls.{seen, compacting-of, CompactOf}
+use Rattle.compact.specs.Calls.{compacting-of, CompactOf}
 use Rattle.image.specs.Calls.{ReadOf}
 use Rattle.histories.specs.Runs.{Request, StripInto, CompactionInto, ReadingOf, call-of, Heard, Turn, Turned, stripped as by-strip, compacted as by-compaction, read as by-reading, Turns, no-turn, turn, Origin, first-state, Made, made-fresh, made-by-reading, Ran}
 use Rattle.histories.specs.Follows.{told, CanAnswer, no-answer, one-answer, RefusalKeeps, no-refusal, one-kept, Follows}
@@ -34,21 +31,18 @@ use Rattle.histories.specs.Laws.Calling.{roomy-read, checked-long, call-
 pub checked-within : {w : Words} → Checked w → Within (capacities w)
 checked-within k = record { nodes = k .axis Outgoing .sized .nodes-within; edges = k .axis Outgoing .sized .edges-within }
 
--- compaction sees the lists of a store that a fresh one or an image led to
-pub seen-is : {w : Words} → Checked w → Reached (shape-of w) → seen w ≡ state-of (shape-of w)
-seen-is {w} k r = ap (λ (p : Plain). record { lists = p; compact = is-compact (shape-of w) }) (settled-is-plain (checked-proper w k) r)
-
 -- a compaction of a checked store is that of the definition
-pub compacting-is : {w : Words} → Checked w → (node-map edge-map work : ℕ) → compacting-of w node-map edge-map work ≡ compaction (seen w) node-map edge-map work
+pub compacting-is : {w : Words} → Checked w → (node-map edge-map work : ℕ)
+    → compacting-of w node-map edge-map work ≡ compaction (state-of (shape-of w)) node-map edge-map work
 compacting-is {w} k node-map edge-map work =
-    ap (λ (rule : ℕ). judged-compaction rule (seen w) (compaction (seen w) node-map edge-map work)) (checked-sound w k)
+    let s = state-of (shape-of w) in
+    ap (λ (rule : ℕ). judged-compaction rule s (compaction s node-map edge-map work)) (checked-sound w k)
 
 -- ---- one call
 
--- A store of these capacities, of state s, that a fresh one or an image led to.
+-- A checked store of these capacities, of state s.
 record Stands (caps : Capacities) (s : State) (w : Words) : Type 0 where
   pub checked : Checked w
-  pub reached : Reached (shape-of w)
   pub sized : capacities w ≡ caps
   pub state : state-of (shape-of w) ≡ s
 
@@ -79,7 +73,7 @@ module _ {caps : Capacities} {s : State} {w : Words} (at : Stands caps s w) wher
   compacted-is : (node-map edge-map work : ℕ) → compacting-of w node-map edge-map work ≡ compaction s node-map edge-map work
   compacted-is node-map edge-map work =
       compacting-is (at .checked) node-map edge-map work
-      ∙ ap (λ (t : State). compaction t node-map edge-map work) (seen-is (at .checked) (at .reached) ∙ at .state)
+      ∙ ap (λ (t : State). compaction t node-map edge-map work) (at .state)
 
   read-is : (bytes : List ℕ) → read-image (lengths-of w) bytes ≡ read-image (exact caps) bytes
   read-is bytes = roomy-read (lengths-of w) (checked-long (at .checked)) bytes ∙ ap (λ (c : Capacities). read-image (exact c) bytes) (at .sized)
@@ -99,7 +93,6 @@ module _ {caps : Capacities} {s : State} {w : Words} (at : Stands caps s w) wher
         stands = goes-on (Strip words (length entry)) at number numbered
             (λ done. record {
               checked = of .checked done;
-              reached = of .reached (at .reached);
               sized = same-capacities (of .lengths) ∙ at .sized;
               state = of .state ∙ ap (λ (r : Stripped). r .after) is;
             }) (of .refused-keeps);
@@ -123,9 +116,8 @@ module _ {caps : Capacities} {s : State} {w : Words} (at : Stands caps s w) wher
         stands = goes-on (Compaction (length node-map) (length edge-map) (length work)) at number numbered
             (λ done. record {
               checked = of .checked done;
-              reached = of .reached done;
               sized = same-capacities (of .lengths) ∙ at .sized;
-              state = of .state done ∙ ap (λ (r : Compacted). r .after) is;
+              state = of .state ∙ ap (λ (r : Compacted). r .after) is;
             }) (of .refused-keeps);
       }
 
@@ -142,7 +134,6 @@ module _ {caps : Capacities} {s : State} {w : Words} (at : Stands caps s w) wher
         stands = goes-on (Reading bytes) at number numbered
             (λ done. record {
               checked = of .checked done;
-              reached = of .reached done;
               sized = same-capacities (of .lengths) ∙ at .sized;
               state = of .state done ∙ sym (ap (λ (n : ℕ). cond (eqb n 0) (read-state bytes) s) (sym numbered ∙ done));
             }) (of .refused-keeps);
@@ -160,7 +151,7 @@ follows-from : {caps : Capacities} {s : State} {w : Words} {requests : List Requ
     → Follows caps s w requests turns
 unfolding called-from history-from
 follows-from at no-turn =
-    record { answers = refl; numbers = no-answer; states = refl; ends = at .state; refusals = no-refusal; checked = at .checked; reached = at .reached }
+    record { answers = refl; numbers = no-answer; states = refl; ends = at .state; refusals = no-refusal; checked = at .checked }
 follows-from {caps} {s} at (turn {request = request} one rest) =
     let f = one-call at one in
     let more = follows-from (f .stands) rest in
@@ -173,13 +164,12 @@ follows-from {caps} {s} at (turn {request = request} one rest) =
       ends = more .ends;
       refusals = one-kept (f .keeps) (more .refusals);
       checked = more .checked;
-      reached = more .reached;
     }
 
 -- a store that was made stands
 made-stands : {origin : Origin} {w : Words} → Made w origin → Stands (capacities w) (first-state origin) w
-made-stands (made-fresh of) = record { checked = of .checked refl; reached = of .reached; sized = refl; state = of .state }
-made-stands (made-by-reading of) = record { checked = of .checked refl; reached = of .reached refl; sized = refl; state = of .state refl }
+made-stands (made-fresh of) = record { checked = of .checked refl; sized = refl; state = of .state }
+made-stands (made-by-reading of) = record { checked = of .checked refl; sized = refl; state = of .state refl }
 
 pub run-follows : {origin : Origin} {w : Words} {requests : List Request} {turns : List Turn} → Ran origin w requests turns
     → Follows (capacities w) (first-state origin) w requests turns

@@ -9,7 +9,7 @@ use Rattle.plain.specs.declared.TraversalDirection.{TraversalDirection}
 use Rattle.plain.specs.declared.TraversalDirection.the-variants.{Outgoing, Incoming}
 use Rattle.plain.specs.declared.Counts.{Counts}
 use Rattle.plain.specs.Lists.{from}
-use Rattle.plain.specs.Plain.{NodeSlot, EdgeSlot, incidence, end-of}
+use Rattle.plain.specs.Plain.{NodeSlot, EdgeSlot, incidence, end-of, node-bound, edge-bound, node-flags, edge-flags}
 use Rattle.plain.specs.Laws.ListLaws.{getD-map, getD-from, length-from, map-getD}
 use Rattle.liveness.specs.FlagLaws.{length-flags}
 use Rattle.shape.specs.Columns.{end-at}
@@ -79,6 +79,23 @@ module _ (w : Words) where
       → adjacency-of d (shape-of w) x ≡ adjacency-in (axis-words d w) (length (w .edges)) (length (w .nodes)) (w .counts) x
   shape-adjacency d x l =
       ap (λ (a : Axis). getD (a .nodes) x no-adjacency) (axis-is w d) ∙ axis-adjacency (axis-words d w) (length (w .edges)) (length (w .nodes)) (w .counts) x l
+
+  -- bounds and flags of the plain lists are the store's
+  pub plain-node-bound : node-bound (plain-of (shape-of w)) ≡ w .counts .nodes .bound
+  unfolding plain-of
+  plain-node-bound = node-bound-is w
+
+  pub plain-edge-bound : edge-bound (plain-of (shape-of w)) ≡ w .counts .edges .bound
+  unfolding plain-of
+  plain-edge-bound = edge-bound-is w
+
+  pub plain-node-flags : node-flags (plain-of (shape-of w)) ≡ node-live w
+  unfolding plain-of
+  plain-node-flags = node-flags-are w
+
+  pub plain-edge-flags : edge-flags (plain-of (shape-of w)) ≡ edge-live w
+  unfolding plain-of
+  plain-edge-flags = edge-flags-are w
 
   -- the ends in the plain lists are those that the words of the axis have
   pub plain-ends : (d : TraversalDirection) → incidence d (plain-of (shape-of w)) .ends ≡ axis-of (axis-words d w) (length (w .edges)) (length (w .nodes)) (w .counts) .ends

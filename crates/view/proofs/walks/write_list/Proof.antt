@@ -18,7 +18,7 @@ returns c =
     let called = c .before .before in
     let live = called .before .before .before .before in
     let told = called .before .before .enum-told .given .1 in
-    rw told (list-written (told-fits told (entry live .pre)) (live .is-live .ensures) (called .write-walk .ensures))
+    rw told (list-written (told-fits told (entry live .pre)) (live .is-live .ensures) (called .write-walk .ensures .wrote))
 
 write-walk-requires-2 : tie.Need-write-walk-requires-2
 write-walk-requires-2 c κs =
@@ -31,7 +31,7 @@ returns-2 c =
     let called = c .before .before in
     let live = called .before .before .before .before in
     let told = called .before .before .enum-told2 .given .1 in
-    rw told (list-written (told-fits told (entry live .pre)) (live .is-live .ensures) (called .write-walk2 .ensures))
+    rw told (list-written (told-fits told (entry live .pre)) (live .is-live .ensures) (called .write-walk2 .ensures .wrote))
 
 pub write-list-spec : {M : Type 1} → statement M
 write-list-spec =

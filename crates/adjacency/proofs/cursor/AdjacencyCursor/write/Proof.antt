@@ -1,7 +1,7 @@
 -- `adjacency::cursor::AdjacencyCursor::write` meets its contract. The loop's invariant is `Writing`, with each entry itself; the measure is how many entries
 -- remain, listed or not.
 use Prim.Native.Nat.{_+_, _≤_}
-use mathlib.Core.Path.{sym, _∙_}
+use mathlib.Core.Path.{sym, ap, _∙_}
 use mathlib.Core.Logic.{⊎-elim}
 use mathlib.Core.List.{map-id}
 use native.Mathlib.Omega.{arith}
@@ -11,7 +11,7 @@ use Rattle.plain.specs.Numbers.{NONE, LIMIT}
 use Rattle.liveness.specs.Flags.{live-flags}
 use Rattle.adjacency.specs.Cursor.{remaining, listed}
 use Rattle.adjacency.specs.CursorLaws.{seek-start, seek-listed, seek-done, turn-less}
-use Rattle.adjacency.specs.Reading.{walked-few, Writing, writing-start, writing-room, writing-on, writing-skip, writing-end}
+use Rattle.adjacency.specs.Reading.{walked-few, walked-end, Writing, writing-start, writing-room, writing-on, writing-skip, writing-end}
 use Rattle.adjacency.proofs.cursor.AdjacencyCursor.write.Statement.{statement}
 use Rattle.adjacency.proofs.cursor.AdjacencyCursor.write.Tie as tie
 
@@ -44,7 +44,9 @@ returns : tie.Need-returns Inv-loop μ-loop
 returns c =
     let s = c .before .before in
     let i = s .before .loop .inv in
-    rw map-id at (writing-end i (seek-done (seek-start (i .walked .ready)) (s .step .ensures) (c .enum-told .given .1)) (c .enum-told .given .1))
+    let q = c .enum-told .given .1 in
+    let found = seek-done (seek-start (i .walked .ready)) (s .step .ensures) q in
+    record { counted = i .walked .counted ∙ sym (ap length (walked-end (i .walked) found q)); wrote = rw map-id at (writing-end i found q) }
 
 loop-less : tie.Need-loop-less Inv-loop μ-loop
 loop-less c =
