@@ -112,6 +112,7 @@ module _ {w : Words} (pre : NodeAddable w) where
           live-edges = λ i h. refl;
           axis = kept;
         };
+        live-only = tt;
         writes = record {
           nodes = λ x off. getD-set-other (w .nodes) (w .counts .nodes .bound) x payload 0 off;
           edges = λ e off. refl;
@@ -235,6 +236,7 @@ module _ {w : Words} {source target : ℕ} (pre : EdgeAddable w source target) w
           live-edges = pushed-word pushed;
           axis = kept;
         };
+        live-only = tt;
         writes = record {
           nodes = λ x off. refl;
           edges = λ e off. getD-set-other (w .edges) (w .counts .edges .bound) e payload 0 off;

@@ -132,6 +132,7 @@ module _ {w : Words} (checked : Checked w) (node : ℕ) (live : getD (node-live 
           live-edges = retired-word gone;
           axis = kept;
         };
+        live-only = tt;
         writes = record {
           nodes = λ x off. refl;
           edges = λ e off. refl;

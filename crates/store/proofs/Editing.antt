@@ -126,6 +126,7 @@ module _ {w : Words} (checked : Checked w) (edge : ℕ) (live : getD (edge-live 
           live-edges = cleared-word cleared removed-below;
           axis = kept;
         };
+        live-only = tt;
         writes = record { nodes = λ x off. refl; edges = λ e off. refl; live-nodes = λ i off. refl; live-edges = cleared-other cleared; axis = written };
       }
         where
@@ -236,6 +237,7 @@ module _ {w : Words} {edge : ℕ} (pre : PayloadSettable w edge) (payload : ℕ)
       live-edges = λ i h. refl;
       axis = kept;
     };
+    live-only = tt;
     writes = record {
       nodes = λ x off. refl;
       edges = λ e off. getD-set-other (w .edges) edge e payload 0 off;
