@@ -1,6 +1,6 @@
 mod Pushing
-mod Retaining
-mod Powers
+mod Scanning
+mod Sweeping
 mod Draining
 mod Starting
 mod Searching

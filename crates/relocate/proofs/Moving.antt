@@ -1,64 +1,36 @@
--- What moving the edges of a node does, step by step: they are gathered, the other run is prepared, their ends are stored, and their run is handed over.
+-- What moving the edges of a node does, step by step: both runs are prepared, their ends are stored, and their run is handed over.
 use Prim.Native.Nat.{ℕ, _+_, _-_, _*_, _≤_, _<_}
 use native.Mathlib.Omega.{arith}
 use mathlib.Core.Path.{_≡_, refl, sym, ap, ap₂, _∙_, subst}
-use mathlib.Core.Bool.{Bool, true, false}
-use mathlib.Core.Logic.{_⊎_, ⊎-elim, _≢_}
+use mathlib.Core.Bool.{Bool, true}
+use mathlib.Core.Logic.{⊎-elim, _≢_}
 use mathlib.Core.List.{List, [], _∷_, _++_, append-nil}
 use lib.ListN.{length, getD, set, length-set}
 use lib.Seq.{getD-set-same, getD-set-other, append-snoc}
 use lib.Dec.{eqb}
 use borrow.Author.Tests.{eqb-true, eqb-false}
 use Rattle.plain.specs.declared.Counts.{Counts}
-use Rattle.plain.specs.Lists.{member, set-all}
-use Rattle.plain.specs.Laws.Booleans.{by-test, and-right}
-use Rattle.plain.specs.Laws.ListLaws.{member-first, member-keep}
+use Rattle.plain.specs.Lists.{set-all}
+use Rattle.plain.specs.Laws.Booleans.{by-test}
+use Rattle.plain.specs.Laws.ListLaws.{member-first}
 use Rattle.shape.specs.Columns.{cell, end-at, link-at, first-at, count-at}
 use Rattle.shape.specs.Chains.{In, chain}
 use Rattle.shape.specs.Shape.{adjacency-in, Adjacency, Axis, raw, live-in, run-list, ring-of, axis-of, no-adjacency}
-use Rattle.shape.specs.Steps.{live-entries, taken, swept, with-run, moved-axis}
+use Rattle.shape.specs.Steps.{taken, swept, with-run, moved-axis}
 use Rattle.shape.specs.Laws.Chains.{in-front, in-none, in-last, in-snoc, chain-none, chain-some, run-is}
 use Rattle.shape.specs.Kept.{axis-kept-again}
 use Rattle.shape.specs.Laws.Frames.{run-list-below}
-use Rattle.shape.specs.Laws.Taking.{keep-passing, live-taken}
-use Rattle.shape.specs.Laws.Keeping.{in-either, in-keep, in-taken, in-edited, in-second}
+use Rattle.shape.specs.Laws.Taking.{live-taken, swept-live}
+use Rattle.shape.specs.Laws.Keeping.{in-either, in-edited, in-second}
 use Rattle.shape.specs.Laws.Reading.{axis-adjacency}
-use Rattle.relocate.specs.Runs.{Editable, Cuttable, Retainable, Retained}
+use Rattle.relocate.specs.Runs.{Editable, Cuttable}
 use Rattle.relocate.specs.Runs.Laws.{list-of-run, mark-of-run}
-use Rattle.relocate.specs.Overlay.{flags-of, Remade, TakenOver, Preparable}
-use Rattle.relocate.specs.Overlay.Laws.{remade-edited, remade-run, remade-list, remade-mark}
+use Rattle.relocate.specs.Overlay.{flags-of, Remade, Preparable, Prepared}
+use Rattle.relocate.specs.Overlay.Laws.{remade-run}
 use Rattle.relocate.specs.Redirects.{Linked, Relabelled, Relocated}
 use Rattle.relocate.specs.Redirects.Laws.{placed-ready, remade-linked, remade-axis, remade-placed, relocated-axis, relocated-checked, relabelled-node, relabelled-linked, relabelled-kept}
-use Rattle.relocate.specs.Moves.{Gathered, RunRelabelled, HandableOver, HandedOver, Movable, Met, Moved}
+use Rattle.relocate.specs.Moves.{RunRelabelled, HandableOver, HandedOver, Movable, Met, Moved}
 use Rattle.relocate.proofs.Pushing.{run-before}
-
--- ---- gathering
-
-module _
-    {ws us : List ℕ}
-    {ce cn : ℕ}
-    {counts : Counts}
-    {live : List ℕ}
-    {tombstoned : Bool}
-    {node : ℕ}
-    (pre : Preparable ws ce cn counts live tombstoned node)
-    (over : TakenOver ws us ce cn counts live node)
-  where
-    pub gather-retain : Retainable us ce cn counts node live
-    gather-retain = record { editable = over .editable; marked = remade-mark over; live-long = pre .ready .live-long }
-
-    -- the dead entries are out
-    pub gather-some : {vs : List ℕ} → Retained us vs ce cn counts node live → Gathered ws vs ce cn counts live node
-    gather-some done =
-        remade-edited (pre .ready .nodes-based) (pre .ready .edges-based) (in-taken (flags-of live counts) (adjacency-in ws ce cn counts node)) over
-        (rw (remade-list over) at done)
-
-    -- there are none
-    pub gather-all : tombstoned ≡ false → Gathered ws us ce cn counts live node
-    gather-all off =
-        subst (λ (l : List ℕ). Remade ws us ce cn counts node l)
-        (sym (keep-passing (live-in (flags-of live counts)) (taken (flags-of live counts) (adjacency-in ws ce cn counts node))
-        (λ e m. pre .all-live off e (run-list-below (over .editable .runs) node e (over .editable .node-below) (rw (remade-list over) m))))) over
 
 -- ---- relabelling
 
@@ -136,8 +108,8 @@ module _ {ws : List ℕ} {ce cn : ℕ} {counts : Counts} {node : ℕ} (pre : Cut
 -- a moved axis by the two nodes that it reads
 moved-is : (flags : List Bool) (old new : ℕ) (axis : Axis) (a b : Adjacency) → getD (axis .nodes) old no-adjacency ≡ a → getD (axis .nodes) new no-adjacency ≡ b
     → moved-axis flags old new axis ≡ record {
-      ends = set-all (live-entries flags (taken flags a)) new (axis .ends);
-      nodes = set (set (axis .nodes) old (with-run [] a)) new (with-run (swept flags (taken flags b) ++ live-entries flags (taken flags a)) b);
+      ends = set-all (swept flags (taken flags a)) new (axis .ends);
+      nodes = set (set (axis .nodes) old (with-run [] a)) new (with-run (swept flags (taken flags b) ++ swept flags (taken flags a)) b);
     }
 unfolding moved-axis
 moved-is flags old new axis a b p q = rw (p, q)
@@ -148,24 +120,23 @@ module _ {ws : List ℕ} {ce cn : ℕ} {counts : Counts} {live : List ℕ} {tomb
 
   -- the edges that move
   abbrev moving : List ℕ
-  moving = live-entries flags (taken flags (adjacency-in ws ce cn counts old))
+  moving = swept flags (taken flags (adjacency-in ws ce cn counts old))
 
-  -- the node's edges can be gathered
-  pub move-gather : Preparable ws ce cn counts live tombstoned old
-  move-gather = record { ready = placed-ready (pre .axis) (pre .old-placed); all-live = pre .all-live }
+  -- the node's run can be prepared
+  pub move-prepare-old : Preparable ws ce cn counts live tombstoned old
+  move-prepare-old = record { ready = placed-ready (pre .axis) (pre .old-placed); all-live = pre .all-live }
 
   -- a gathered edge is live and ended at the node
   alive : (e : ℕ) → In e moving → live-in flags e ≡ true
-  alive e m = and-right (member e (taken flags (adjacency-in ws ce cn counts old))) (live-in flags e) (sym (member-keep (live-in flags) e (taken flags (adjacency-in ws ce cn counts old))) ∙ m)
+  alive = swept-live flags (taken flags (adjacency-in ws ce cn counts old))
 
   ended : (e : ℕ) → In e moving → end-at ws e ≡ old
   ended e m =
-      pre .old-placed .own e (alive e m)
-      (in-taken flags (adjacency-in ws ce cn counts old) e (in-keep (live-in flags) e (taken flags (adjacency-in ws ce cn counts old)) m))
+      pre .old-placed .own e (alive e m) (in-edited flags (adjacency-in ws ce cn counts old) e m)
 
-  -- then the other run can be prepared
-  pub move-prepare : {us : List ℕ} → Gathered ws us ce cn counts live old → Preparable us ce cn counts live tombstoned new
-  move-prepare got =
+  -- then the other can be
+  pub move-prepare-new : {us : List ℕ} → Prepared ws us ce cn counts live old → Preparable us ce cn counts live tombstoned new
+  move-prepare-new got =
       record {
         ready =
             placed-ready (remade-axis (pre .axis) got (λ e _ m. ended e m)) (remade-placed (pre .axis) got new (λ q. pre .apart (sym q)) (pre .new-placed));
@@ -306,9 +277,8 @@ module _ {ws : List ℕ} {ce cn : ℕ} {counts : Counts} {live : List ℕ} {tomb
 
             emptied-in : (e : ℕ) → In e (raw (adjacency-in vs ce cn counts old)) → In e (raw (adjacency-in ws ce cn counts old))
             emptied-in e m =
-                in-taken flags (adjacency-in ws ce cn counts old) e
-                (in-keep (live-in flags) e (taken flags (adjacency-in ws ce cn counts old))
-                (in-either e moving [] (subst (λ (a : Adjacency). In e (raw a)) old-named m) (λ k. k) (in-none e)))
+                in-edited flags (adjacency-in ws ce cn counts old) e
+                (in-either e moving [] (subst (λ (a : Adjacency). In e (raw a)) old-named m) (λ k. k) (in-none e))
 
             prepared-in : (e : ℕ) → In e (raw (adjacency-in (met .between) ce cn counts new)) → In e (raw (adjacency-in ws ce cn counts new))
             prepared-in e m =
@@ -324,6 +294,15 @@ module _ {ws : List ℕ} {ce cn : ℕ} {counts : Counts} {live : List ℕ} {tomb
                   relocated-axis (pre .old-placed .below) (pre .new-placed .below) (pre .apart) below relocated
                   ∙ sym (moved-is flags old new (axis-of ws ce cn counts) (adjacency-in ws ce cn counts old) (adjacency-in ws ce cn counts new)
                   (axis-adjacency ws ce cn counts old (pre .old-placed .below)) (axis-adjacency ws ce cn counts new (pre .new-placed .below)));
+              live-only = (
+                record { entries = []; has = ap (λ (a : Adjacency). a .run) (relocated .first); live-only = λ e m. in-none e m },
+                record {
+                  entries = swept-run ++ moving;
+                  has = ap (λ (a : Adjacency). a .run) (relocated .second);
+                  live-only = λ e m.
+                      in-either e swept-run moving m (swept-live flags (taken flags (adjacency-in ws ce cn counts new)) e) (alive e);
+                },
+              );
               checked = λ nodes. relocated-checked (pre .old-placed .below) (pre .new-placed .below) (pre .apart) below relocated nodes flags;
               frame = relocated .frame;
               writes = λ i out. relocated .writes i (λ m. out (rw (← live-taken flags (adjacency-in ws ce cn counts old)) m));

@@ -1,11 +1,13 @@
 -- Taking over and sweeping, one after the other.
 use Prim.Native.Nat.{ℕ}
+use mathlib.Core.Path.{subst}
 use mathlib.Core.Bool.{Bool}
 use mathlib.Core.List.{List}
 use Rattle.plain.specs.declared.Counts.{Counts}
 use Rattle.shape.specs.Shape.{adjacency-in}
+use Rattle.shape.specs.Steps.{swept}
 use Rattle.shape.specs.Laws.Keeping.{in-taken}
-use Rattle.relocate.specs.Runs.{Sweepable, Swept}
+use Rattle.relocate.specs.Runs.{Edited, Sweepable, Swept}
 use Rattle.relocate.specs.Overlay.{flags-of, TakenOver, Preparable, Prepared}
 use Rattle.relocate.specs.Overlay.Laws.{remade-edited, remade-list, remade-mark}
 
@@ -23,12 +25,12 @@ module _
     pub prepare-sweep : Sweepable us ce cn counts node live tombstoned
     prepare-sweep =
         record {
-          retainable = record { editable = over .editable; marked = remade-mark over; live-long = pre .ready .live-long };
+          scannable = record { editable = over .editable; marked = remade-mark over; live-long = pre .ready .live-long };
           all-live = pre .all-live;
         }
 
     -- and is then prepared
     pub prepare-end : {vs : List ℕ} → Swept us vs ce cn counts node live → Prepared ws vs ce cn counts live node
-    prepare-end done =
+    prepare-end {vs} done =
         remade-edited (pre .ready .nodes-based) (pre .ready .edges-based) (in-taken (flags-of live counts) (adjacency-in ws ce cn counts node)) over
-        (rw (remade-list over) at done)
+        (subst (λ (l : List ℕ). Edited us vs ce cn counts node (swept (flags-of live counts) l) l) (remade-list over) (done .edited))

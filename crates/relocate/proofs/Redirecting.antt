@@ -20,7 +20,8 @@ use Rattle.shape.specs.Shape.{adjacency-in, Adjacency, Axis, raw, live-in, ring
 use Rattle.shape.specs.Steps.{taken, swept, with-run, redirected-axis}
 use Rattle.shape.specs.Kept.{axis-kept-none, axis-kept-again}
 use Rattle.shape.specs.Laws.Chains.{in-none}
-use Rattle.shape.specs.Laws.Keeping.{in-edited, in-one, in-without}
+use Rattle.shape.specs.Laws.Taking.{swept-live}
+use Rattle.shape.specs.Laws.Keeping.{in-either, in-edited, in-one, in-without}
 use Rattle.shape.specs.Laws.Reading.{axis-end, axis-adjacency}
 use Rattle.relocate.specs.Runs.{Cuttable, TakenOut, Pushable, Grown}
 use Rattle.relocate.specs.Overlay.{flags-of, Preparable, Prepared}
@@ -100,7 +101,7 @@ module _ {ws : List ℕ} {ce cn : ℕ} {counts : Counts} {live : List ℕ} {tomb
   -- the present end again
   pub redirect-same : old ≡ new → Redirected ws ws ce cn counts live e new old
   redirect-same q =
-      record { previous = refl; unchanged = λ p. refl; changed = λ ne. absurd (ne q); checked = λ nodes a b was. was; frame = axis-kept-none ws ce cn (counts .nodes .bound) (counts .edges .bound); writes = λ i ne lo ln o n. refl }
+      record { previous = refl; unchanged = λ p. refl; changed = λ ne. absurd (ne q); live-only = λ ne. absurd (ne q); checked = λ nodes a b was. was; frame = axis-kept-none ws ce cn (counts .nodes .bound) (counts .edges .bound); writes = λ i ne lo ln o n. refl }
 
   -- the edge can leave its end
   pub redirect-leave : Preparable ws ce cn counts live tombstoned old
@@ -203,6 +204,22 @@ module _ {ws : List ℕ} {ce cn : ℕ} {counts : Counts} {live : List ℕ} {tomb
                 ∙ sym (redirected-is flags e new (axis-of ws ce cn counts) old (adjacency-in ws ce cn counts old) (adjacency-in ws ce cn counts new)
                 (axis-end ws ce cn counts e (pre .edge-below)) (axis-adjacency ws ce cn counts old (pre .old-placed .below))
                 (axis-adjacency ws ce cn counts new (pre .new-placed .below)));
+            live-only = λ ne. (
+              record {
+                entries = left-run;
+                has = ap (λ (a : Adjacency). a .run) (relocated .first);
+                live-only = λ f m.
+                    let run = taken flags (adjacency-in ws ce cn counts old) in
+                    swept-live flags run f (in-without e f (swept flags run) m);
+              },
+              record {
+                entries = swept flags (taken flags (adjacency-in ws ce cn counts new)) ++ (e ∷ []);
+                has = ap (λ (a : Adjacency). a .run) (relocated .second);
+                live-only = λ f m.
+                    let run = taken flags (adjacency-in ws ce cn counts new) in
+                    in-either f (swept flags run) (e ∷ []) m (swept-live flags run f) (λ q. rw (in-one f e q) (pre .edge-live));
+              },
+            );
             checked = λ nodes. relocated-checked (pre .old-placed .below) (pre .new-placed .below) apart edges relocated nodes flags;
             frame = relocated .frame;
             writes = λ i ne. relocated .writes i (λ m. ne (in-one i e m));

@@ -9,18 +9,13 @@ use Rattle.plain.specs.declared.Counts.{Counts}
 use Rattle.shape.specs.Columns.{mark-at}
 use Rattle.shape.specs.Chains.{In}
 use Rattle.shape.specs.Shape.{adjacency-in, raw, live-in, run-list, axis-of}
-use Rattle.shape.specs.Steps.{live-entries, taken, moved-axis}
+use Rattle.shape.specs.Steps.{live-entries, taken, swept, LiveRun, moved-axis}
 use Rattle.shape.specs.Checked.{AxisChecked}
 use Rattle.shape.specs.Kept.{AxisKept}
 use Rattle.shape.specs.Writes.{OfLinks, OfNode}
 use Rattle.relocate.specs.Runs.{Editable, Edited}
-use Rattle.relocate.specs.Overlay.{flags-of, Remade, Prepared}
+use Rattle.relocate.specs.Overlay.{flags-of, Prepared}
 use Rattle.relocate.specs.Redirects.{Relocatable, Placed, Relabelled}
-
--- The node's run holds its live edges.
-abbrev pub Gathered : (ws vs : List ℕ) (ce cn : ℕ) (counts : Counts) (live : List ℕ) (node : ℕ) → Type 0
-Gathered ws vs ce cn counts live node =
-    Remade ws vs ce cn counts node (live-entries (flags-of live counts) (taken (flags-of live counts) (adjacency-in ws ce cn counts node)))
 
 -- The edges of the node's run end at `new`; r is how many they are.
 pub record RunRelabelled (ws vs : List ℕ) (ce cn node new r : ℕ) : Type 0 where
@@ -49,17 +44,19 @@ pub record Movable (ws : List ℕ) (ce cn : ℕ) (counts : Counts) (live : List 
   pub apart : old ≢ new
   pub all-live : tombstoned ≡ false → (f : ℕ) → f < counts .edges .bound → live-in (flags-of live counts) f ≡ true
 
--- The edges that move are in one run, and the other is prepared.
+-- Both runs are prepared; the first holds the edges that move.
 pub record Met (ws vs : List ℕ) (ce cn : ℕ) (counts : Counts) (live : List ℕ) (old new : ℕ) : Type 0 where
   pub between : List ℕ
-  pub gathered : Gathered ws between ce cn counts live old
+  pub gathered : Prepared ws between ce cn counts live old
   pub prepared : Prepared between vs ce cn counts live new
 
 -- The edges are moved; r is how many they are.
 pub record Moved (ws vs : List ℕ) (ce cn : ℕ) (counts : Counts) (live : List ℕ) (old new r : ℕ) : Type 0 where
-  pub counted : r ≡ length (live-entries (flags-of live counts) (taken (flags-of live counts) (adjacency-in ws ce cn counts old)))
+  pub counted : r ≡ length (swept (flags-of live counts) (taken (flags-of live counts) (adjacency-in ws ce cn counts old)))
   -- the axis is the shape's
   pub axis : axis-of vs ce cn counts ≡ moved-axis (flags-of live counts) old new (axis-of ws ce cn counts)
+  -- "an edited run holds live edges only": both nodes'
+  pub live-only : LiveRun (flags-of live counts) (adjacency-in vs ce cn counts old) × LiveRun (flags-of live counts) (adjacency-in vs ce cn counts new)
   -- rules 3 to 6 are kept
   pub checked : (nodes : List Bool) → getD nodes old false ≡ true → getD nodes new false ≡ true
       → AxisChecked ws ce cn counts nodes (flags-of live counts) → AxisChecked vs ce cn counts nodes (flags-of live counts)

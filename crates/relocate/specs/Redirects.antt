@@ -11,7 +11,7 @@ use Rattle.plain.specs.Lists.{distinct, without}
 use Rattle.shape.specs.Columns.{Sized, end-at}
 use Rattle.shape.specs.Chains.{In}
 use Rattle.shape.specs.Shape.{adjacency-in, raw, live-in, run-list, axis-of}
-use Rattle.shape.specs.Steps.{live-entries, taken, swept, with-run, redirected-axis}
+use Rattle.shape.specs.Steps.{live-entries, taken, swept, with-run, LiveRun, redirected-axis}
 use Rattle.shape.specs.Checked.{Index, Rings, Runs, AxisChecked}
 use Rattle.shape.specs.Kept.{AxisKept}
 use Rattle.shape.specs.Writes.{OfLinks, OfNode}
@@ -91,6 +91,9 @@ pub record Redirected (ws vs : List ℕ) (ce cn : ℕ) (counts : Counts) (live :
   pub unchanged : end-at ws e ≡ new → vs ≡ ws
   -- any other is the shape's
   pub changed : end-at ws e ≢ new → axis-of vs ce cn counts ≡ redirected-axis (flags-of live counts) e new (axis-of ws ce cn counts)
+  -- "an edited run holds live edges only": both nodes'
+  pub live-only : end-at ws e ≢ new
+      → LiveRun (flags-of live counts) (adjacency-in vs ce cn counts (end-at ws e)) × LiveRun (flags-of live counts) (adjacency-in vs ce cn counts new)
   -- rules 3 to 6 are kept
   pub checked : (nodes : List Bool) → getD nodes (end-at ws e) false ≡ true → getD nodes new false ≡ true
       → AxisChecked ws ce cn counts nodes (flags-of live counts) → AxisChecked vs ce cn counts nodes (flags-of live counts)

@@ -7,18 +7,19 @@ use mathlib.Core.Bool.{Bool, true, false, cond}
 use mathlib.Core.Logic.{_≢_}
 use mathlib.Core.Option.{some}
 use mathlib.Core.List.{List, [], _∷_, _++_}
-use lib.ListN.{length, getD}
+use lib.ListN.{length, getD, take, drop}
 use lib.Dec.{eqb}
 use Rattle.plain.specs.declared.Counts.{Counts}
 use Rattle.plain.specs.Numbers.{NONE, LIMIT}
-use Rattle.plain.specs.Lists.{without}
+use Rattle.plain.specs.Lists.{distinct, without}
 use Rattle.liveness.specs.Flags.{live-flags}
-use Rattle.shape.specs.Columns.{Sized, cell, link-at, mark-at}
-use Rattle.shape.specs.Chains.{In, chain}
+use Rattle.shape.specs.Columns.{Sized, cell, link-at, first-at, mark-at}
+use Rattle.shape.specs.Chains.{In, Run, chain}
 use Rattle.shape.specs.Shape.{live-in, run-list, run-of}
-use Rattle.shape.specs.Steps.{live-entries, swept}
+use Rattle.shape.specs.Steps.{live-entries, swept, LiveOnly}
 use Rattle.shape.specs.Checked.{Runs}
 use Rattle.shape.specs.Kept.{Mark}
+use Rattle.relocate.specs.declared.runs.Front.{Front}
 
 -- What it takes to edit the run of a node.
 pub record Editable (ws : List ℕ) (ce cn : ℕ) (counts : Counts) (node : ℕ) : Type 0 where
@@ -64,26 +65,52 @@ pub record Keepable (ws : List ℕ) (ce cn : ℕ) (counts : Counts) (node : ℕ)
   pub live-long : counts .edges .bound ≤ 64 * length live
   pub new : live-in (live-flags live (counts .edges .bound)) e ≡ true → (x : ℕ) → x < counts .nodes .bound → In e (run-list ws ce cn x) → ⊥
 
--- What it takes to take the dead entries out of the run of a node.
-pub record Retainable (ws : List ℕ) (ce cn : ℕ) (counts : Counts) (node : ℕ) (live : List ℕ) : Type 0 where
+-- What it takes to look for a dead entry in the run of a node.
+pub record Scannable (ws : List ℕ) (ce cn : ℕ) (counts : Counts) (node : ℕ) (live : List ℕ) : Type 0 where
   pub editable : Editable ws ce cn counts node
   pub marked : mark-at ws ce cn node ≢ 0
   pub live-long : counts .edges .bound ≤ 64 * length live
 
--- The live entries of the run are left.
-abbrev pub Retained : (ws vs : List ℕ) (ce cn : ℕ) (counts : Counts) (node : ℕ) (live : List ℕ) → Type 0
-Retained ws vs ce cn counts node live =
-    Edited ws vs ce cn counts node (live-entries (live-flags live (counts .edges .bound)) (run-list ws ce cn node)) (run-list ws ce cn node)
+-- The run is divided: its front is a run of live entries by itself, and the chain from `next` on is the rest.
+pub record Scanned (ws : List ℕ) (ce cn : ℕ) (counts : Counts) (node : ℕ) (live : List ℕ) (f : Front) : Type 0 where
+  pub front : Run (cell ws (3 * ce)) (counts .edges .bound) (first-at ws ce cn node) (f .last) (f .length) (take (f .length) (run-list ws ce cn node))
+  pub live-only : LiveOnly (live-flags live (counts .edges .bound)) (take (f .length) (run-list ws ce cn node))
+  pub rest : drop (f .length) (run-list ws ce cn node) ≡ chain (cell ws (3 * ce)) (f .left) (f .next)
+
+-- What it takes to make the run of a node end after its first n entries: these are a run by themselves.
+pub record Shortenable (ws : List ℕ) (ce cn : ℕ) (counts : Counts) (node last n : ℕ) : Type 0 where
+  pub editable : Editable ws ce cn counts node
+  pub marked : mark-at ws ce cn node ≢ 0
+  pub front : Run (cell ws (3 * ce)) (counts .edges .bound) (first-at ws ce cn node) last n (take n (run-list ws ce cn node))
+
+-- The first n entries of the run are left, and no link is written.
+abbrev pub Shortened : (ws vs : List ℕ) (ce cn : ℕ) (counts : Counts) (node n : ℕ) → Type 0
+Shortened ws vs ce cn counts node n = Edited ws vs ce cn counts node (take n (run-list ws ce cn node)) []
+
+-- What it takes to append the live ones of n edges that are chained from `first` on: they are different, and in no run.
+pub record Appendable (ws : List ℕ) (ce cn : ℕ) (counts : Counts) (node : ℕ) (live : List ℕ) (first n : ℕ) : Type 0 where
+  pub editable : Editable ws ce cn counts node
+  pub marked : mark-at ws ce cn node ≢ 0
+  pub live-long : counts .edges .bound ≤ 64 * length live
+  pub below : (e : ℕ) → In e (chain (cell ws (3 * ce)) n first) → e < counts .edges .bound
+  pub once : distinct (chain (cell ws (3 * ce)) n first) ≡ true
+  pub new : (x e : ℕ) → x < counts .nodes .bound → In e (chain (cell ws (3 * ce)) n first) → In e (run-list ws ce cn x) → ⊥
+
+-- The live ones stand at the end of the run; only links of its entries and of the chain are written.
+abbrev pub Appended : (ws vs : List ℕ) (ce cn : ℕ) (counts : Counts) (node : ℕ) (live : List ℕ) (first n : ℕ) → Type 0
+Appended ws vs ce cn counts node live first n =
+    Edited ws vs ce cn counts node (run-list ws ce cn node ++ live-entries (live-flags live (counts .edges .bound)) (chain (cell ws (3 * ce)) n first))
+    (run-list ws ce cn node ++ chain (cell ws (3 * ce)) n first)
 
 -- What it takes to sweep the run of a node: `tombstoned` says whether some edge may be removed.
 pub record Sweepable (ws : List ℕ) (ce cn : ℕ) (counts : Counts) (node : ℕ) (live : List ℕ) (tombstoned : Bool) : Type 0 where
-  pub retainable : Retainable ws ce cn counts node live
+  pub scannable : Scannable ws ce cn counts node live
   pub all-live : tombstoned ≡ false → (e : ℕ) → e < counts .edges .bound → live-in (live-flags live (counts .edges .bound)) e ≡ true
 
--- The run is swept.
-abbrev pub Swept : (ws vs : List ℕ) (ce cn : ℕ) (counts : Counts) (node : ℕ) (live : List ℕ) → Type 0
-Swept ws vs ce cn counts node live =
-    Edited ws vs ce cn counts node (swept (live-flags live (counts .edges .bound)) (run-list ws ce cn node)) (run-list ws ce cn node)
+-- The run is swept: it holds live edges only.
+pub record Swept (ws vs : List ℕ) (ce cn : ℕ) (counts : Counts) (node : ℕ) (live : List ℕ) : Type 0 where
+  pub edited : Edited ws vs ce cn counts node (swept (live-flags live (counts .edges .bound)) (run-list ws ce cn node)) (run-list ws ce cn node)
+  pub live-only : LiveOnly (live-flags live (counts .edges .bound)) (run-list vs ce cn node)
 
 -- the entry before e in a list, NONE where there is none
 unfoldable pub before-in : ℕ → List ℕ → ℕ

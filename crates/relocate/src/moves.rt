@@ -1,32 +1,10 @@
-// Moving all live edges of a node to another node on one axis: they are gathered in the node's run, end at the other node from then on, and their run is handed
-// over whole. What a call asks and promises of the words is a record of specs/Moves.antt.
+// Moving all live edges of a node to another node on one axis: they are gathered in the node's run, which holds no other once it is prepared, end at the other
+// node from then on, and their run is handed over whole. What a call asks and promises of the words is a record of specs/Moves.antt.
 
 use crate::overlay::prepare;
-use crate::overlay::take_over;
-use crate::runs::retain;
 use plain::Counts;
 ghost use Rattle.relocate.specs.Runs.{Cuttable};
-ghost use Rattle.relocate.specs.Overlay.{Preparable};
-ghost use Rattle.relocate.specs.Moves.{Gathered, RunRelabelled, HandableOver, HandedOver, Movable, Met, Moved};
-
-// Makes the run of a node hold all its live edges and no other.
-fn gather(
-    axis: &mut [u32],
-    edges: usize,
-    nodes: usize,
-    counts: Counts,
-    node: usize,
-    live: &[u64],
-    tombstoned: bool,
-)
-    requires { ⌜ Preparable (now axis) edges nodes counts (now live) tombstoned node ⌝ }
-    ensures { λ _. ⌜ Gathered (now (axis .entry)) (now (axis .exit)) edges nodes counts (now (live .entry)) node ⌝ }
-{
-    take_over(axis, edges, nodes, counts, node, live);
-    if tombstoned {
-        retain(axis, edges, nodes, counts, node, live);
-    }
-}
+ghost use Rattle.relocate.specs.Moves.{RunRelabelled, HandableOver, HandedOver, Movable, Met, Moved};
 
 // Makes `new` the end of the edges in the run of a node, and answers how many they are.
 fn relabel(
@@ -79,7 +57,7 @@ fn hand_over(axis: &mut [u32], edges: usize, nodes: usize, counts: Counts, old: 
     axis[3 * edges + before as usize] = first;
 }
 
-// Gathers the live edges of one node in its run and prepares the run of another.
+// Prepares the runs of two nodes: that of `old` then holds the edges that move.
 fn meet(
     axis: &mut [u32],
     edges: usize,
@@ -93,7 +71,7 @@ fn meet(
     requires { ⌜ Movable (now axis) edges nodes counts (now live) tombstoned old new ⌝ }
     ensures { λ _. ⌜ Met (now (axis .entry)) (now (axis .exit)) edges nodes counts (now (live .entry)) old new ⌝ }
 {
-    gather(axis, edges, nodes, counts, old, live, tombstoned);
+    prepare(axis, edges, nodes, counts, old, live, tombstoned);
     prepare(axis, edges, nodes, counts, new, live, tombstoned);
 }
 

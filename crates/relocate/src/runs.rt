@@ -6,13 +6,12 @@ use plain::Counts;
 use plain::NONE;
 ghost use mathlib.Core.Path.{_≡_};
 ghost use mathlib.Core.List.{[], _∷_};
-ghost use Prim.Native.Nat.{_*_, _≤_};
-ghost use Rattle.plain.specs.Numbers.{LIMIT};
+ghost use Prim.Native.Nat.{_*_};
 ghost use Rattle.liveness.specs.Flags.{live-flags};
 ghost use Rattle.shape.specs.Columns.{cell};
 ghost use Rattle.shape.specs.Chains.{chain};
-ghost use Rattle.shape.specs.Steps.{live-entries, power-of-two};
-ghost use Rattle.relocate.specs.Runs.{Grown, Pushable, Keepable, Retainable, Retained, Sweepable, Swept, before-in, Searchable, Unlinkable, Cuttable, TakenOut};
+ghost use Rattle.shape.specs.Steps.{live-entries};
+ghost use Rattle.relocate.specs.Runs.{Grown, Pushable, Keepable, Scannable, Scanned, Shortenable, Shortened, Appendable, Appended, Sweepable, Swept, before-in, Searchable, Unlinkable, Cuttable, TakenOut};
 
 // Appends an edge that is in no run to the run of a node.
 pub fn push(axis: &mut [u32], edges: usize, nodes: usize, counts: Counts, node: usize, entry: u32)
@@ -53,22 +52,89 @@ pub fn keep_one(
     }
 }
 
-// Takes the dead edges out of the run of a node.
-pub fn retain(
+// A run, divided before its first dead entry: `length` entries in front of it, which are live, `last` the last of these, and `left` entries from `next` on. Where
+// there is none in front, `last` says nothing, and where none is dead, `left` is 0.
+pub struct Front {
+    pub length: u32,
+    pub last: u32,
+    pub next: u32,
+    pub left: u32,
+}
+
+// Reads the run of a node up to its first dead entry.
+fn live_front(
+    axis: &[u32],
+    edges: usize,
+    nodes: usize,
+    counts: Counts,
+    node: usize,
+    live: &[u64],
+) -> Front
+    requires { ⌜ Scannable (now axis) edges nodes counts node (now live) ⌝ }
+    ensures { λ r. ⌜ Scanned (now (axis .entry)) edges nodes counts node (now (live .entry)) r ⌝ }
+{
+    let bound = counts.edges.bound as usize;
+    let length = axis[4 * edges + 3 * nodes + node];
+    let first = axis[4 * edges + nodes + node];
+    let mut last = first;
+    let mut next = first;
+    let mut left = length;
+    while left > 0 {
+        let slot = next as usize;
+        if !is_live(live, bound, slot) {
+            return Front {
+                length: length - left,
+                last: last,
+                next: next,
+                left: left,
+            };
+        }
+        let at = 3 * edges + slot;
+        last = next;
+        next = axis[at];
+        left -= 1;
+    }
+    Front {
+        length: length,
+        last: last,
+        next: next,
+        left: 0,
+    }
+}
+
+// Makes the run of a node end after its first `length` entries, of which `last` is the last.
+fn shorten(
+    axis: &mut [u32],
+    edges: usize,
+    nodes: usize,
+    counts: Counts,
+    node: usize,
+    last: u32,
+    length: u32,
+)
+    requires { ⌜ Shortenable (now axis) edges nodes counts node last length ⌝ }
+    ensures { λ _. ⌜ Shortened (now (axis .entry)) (now (axis .exit)) edges nodes counts node length ⌝ }
+{
+    axis[4 * edges + 2 * nodes + node] = last;
+    axis[4 * edges + 3 * nodes + node] = length;
+}
+
+// Appends to the run of a node the live ones of `length` edges that are chained from `first` on and are in no run.
+fn append_live(
     axis: &mut [u32],
     edges: usize,
     nodes: usize,
     counts: Counts,
     node: usize,
     live: &[u64],
+    first: u32,
+    length: u32,
 )
-    requires { ⌜ Retainable (now axis) edges nodes counts node (now live) ⌝ }
-    ensures { λ _. ⌜ Retained (now (axis .entry)) (now (axis .exit)) edges nodes counts node (now (live .entry)) ⌝ }
+    requires { ⌜ Appendable (now axis) edges nodes counts node (now live) first length ⌝ }
+    ensures { λ _. ⌜ Appended (now (axis .entry)) (now (axis .exit)) edges nodes counts node (now (live .entry)) first length ⌝ }
 {
-    let count = 4 * edges + 3 * nodes + node;
-    let mut left = axis[count];
-    let mut next = axis[4 * edges + nodes + node];
-    axis[count] = 0;
+    let mut next = first;
+    let mut left = length;
     while left > 0 {
         let entry = next;
         let at = 3 * edges + entry as usize;
@@ -78,20 +144,7 @@ pub fn retain(
     }
 }
 
-// Whether a length is 1, 2, 4, 8, ..
-fn is_power_of_two(length: u32) -> bool
-    requires { ⌜ length ≤ LIMIT ⌝ }
-    ensures { λ r. ⌜ r ≡ power-of-two length ⌝ }
-{
-    let mut power: u32 = 1;
-    while power < length {
-        power = 2 * power;
-    }
-    power == length
-}
-
-// Takes the dead edges out of the run of a node where some edge is removed and the run's length is a power of two, so that the work is a constant for each entry
-// that the run has taken.
+// Takes the dead edges out of the run of a node. Where no edge is removed the run is not read; else it is read once, and written from its first dead entry on.
 pub fn sweep(
     axis: &mut [u32],
     edges: usize,
@@ -107,10 +160,21 @@ pub fn sweep(
     if !tombstoned {
         return;
     }
-    let count = 4 * edges + 3 * nodes + node;
-    if is_power_of_two(axis[count]) {
-        retain(axis, edges, nodes, counts, node, live);
+    let front = live_front(axis, edges, nodes, counts, node, live);
+    if front.left == 0 {
+        return;
     }
+    shorten(axis, edges, nodes, counts, node, front.last, front.length);
+    append_live(
+        axis,
+        edges,
+        nodes,
+        counts,
+        node,
+        live,
+        front.next,
+        front.left,
+    );
 }
 
 // The entry that stands before `entry` in the chain of `length` entries from `first` on, or NONE where there is none.

@@ -1,23 +1,26 @@
--- The shape's own step: what each operation does to base parts, runs and rings, as the Rust does it, so that run contents, dead entries included, are fixed.
+-- The shape's own step: what each operation does to base parts, runs and rings, so that run contents, dead entries included, are fixed.
+-- The Rust sweeps only where the length of the run is 1, 2, 4, 8, ..; in all else it does the same.
 -- L keeps the live entries, R is the run, B the base part and C the ring of a node in one direction:
 --   taken(x) = (R(x) if x has a run, else L(B(x))) ++ L(C(x)); then C(x) := []
---   sweep(r) = L(r) if the length of r is 1, 2, 4, 8, ..; else r
+--   sweep(r) = L(r)
 --   redirect e from old to new, old ≠ new: R(old) := sweep(taken(old)) without e; R(new) := sweep(taken(new)) ++ [e]
---   move old to new, walk of old not empty: m := L(taken(old)); R(old) := [] and still a run; ends of m := new; R(new) := sweep(taken(new)) ++ m
+--   move old to new, walk of old not empty: m := sweep(taken(old)); R(old) := [] and still a run; ends of m := new; R(new) := sweep(taken(new)) ++ m
 -- Removing edits no run. A removed node keeps run and ring. A move of an empty walk edits nothing.
-use Prim.Native.Nat.{ℕ, _^_}
+use Prim.Native.Nat.{ℕ}
+use mathlib.Core.Path.{_≡_}
 use mathlib.Core.Bool.{Bool, true, false, cond, _&&_, not}
 use mathlib.Core.Option.{Option, none, some}
-use mathlib.Core.List.{List, [], _∷_, _++_, map}
+use mathlib.Core.List.{List, [], _∷_, _++_}
 use lib.ListN.{length, getD, set}
 use lib.Dec.{eqb}
 use Rattle.plain.specs.declared.TraversalDirection.{TraversalDirection}
 use Rattle.plain.specs.declared.TraversalDirection.the-variants.{Outgoing, Incoming}
 use Rattle.plain.specs.declared.Operation.{Operation}
 use Rattle.plain.specs.declared.Operation.the-variants.{AddNode, AddEdge, RemoveEdge, RemoveNode, Redirect, Move, SetPayload, Unknown}
-use Rattle.plain.specs.Lists.{member, without, keep, from, set-all}
+use Rattle.plain.specs.Lists.{without, keep, set-all}
 use Rattle.plain.specs.Plain.{NodeSlot, EdgeSlot, killed-node, killed-edge, no-node, no-edge}
 use Rattle.plain.specs.Step.{Capacities, Outcome, State, step}
+use Rattle.shape.specs.Chains.{In}
 use Rattle.shape.specs.Shape.{Adjacency, Axis, Shape, live-in, walk-of, no-adjacency, axis-in, adjacency-of, node-flags-of, edge-flags-of, is-compact, plain-of}
 
 -- ---- one node
@@ -34,17 +37,23 @@ run-or-base flags (some run) base = run
 unfoldable pub taken : List Bool → Adjacency → List ℕ
 taken flags a = run-or-base flags (a .run) (a .base) ++ live-entries flags (a .ring)
 
--- whether a number is 1, 2, 4, 8, ..
-unfoldable pub power-of-two : ℕ → Bool
-power-of-two n = member n (map (λ k. 2 ^ k) (from 0 32))
-
--- "`sweep` drops dead slots only if some edge is removed and the run's length is a power of two"; where none is removed it drops nothing
-unfoldable pub swept : List Bool → List ℕ → List ℕ
-swept flags run = cond (power-of-two (length run)) (live-entries flags run) run
+-- "`sweep` now drops dead slots at every edit of a run (its making, an entry appended or taken out; removing a transfer or lot is none)"
+abbrev pub swept : List Bool → List ℕ → List ℕ
+swept flags run = live-entries flags run
 
 -- a node whose run is this, with its ring taken over
 abbrev pub with-run : List ℕ → Adjacency → Adjacency
 with-run run a = record { base = a .base; run = some run; ring = [] }
+
+-- entries that are all live
+abbrev pub LiveOnly : List Bool → List ℕ → Type 0
+LiveOnly flags l = (e : ℕ) → In e l → live-in flags e ≡ true
+
+-- a node with a run that holds live edges only
+pub record LiveRun (flags : List Bool) (a : Adjacency) : Type 0 where
+  pub entries : List ℕ
+  pub has : a .run ≡ some entries
+  pub live-only : LiveOnly flags entries
 
 -- ---- one direction
 
@@ -76,7 +85,7 @@ unfoldable pub moved-axis : List Bool → ℕ → ℕ → Axis → Axis
 moved-axis flags old new axis =
     let a = getD (axis .nodes) old no-adjacency in
     let b = getD (axis .nodes) new no-adjacency in
-    let moving = live-entries flags (taken flags a) in
+    let moving = swept flags (taken flags a) in
     record {
       ends = set-all moving new (axis .ends);
       nodes = set (set (axis .nodes) old (with-run [] a)) new (with-run (swept flags (taken flags b) ++ moving) b);
@@ -158,6 +167,18 @@ shape-step caps s operation = cond (acts operation (step caps (plain-of s) opera
 unfoldable pub shape-run : Capacities → Shape → List Operation → Shape
 shape-run caps s [] = s
 shape-run caps s (operation ∷ operations) = shape-run caps (shape-step caps s operation) operations
+
+-- "an edited run holds live edges only": both runs of a redirection and of a move from shape s to shape t; no other operation edits a run
+abbrev pub EditedLive : Operation → Shape → Shape → Type 0
+EditedLive (AddNode payload) s t = Unit
+EditedLive (AddEdge source target payload) s t = Unit
+EditedLive (RemoveEdge e) s t = Unit
+EditedLive (RemoveNode x) s t = Unit
+EditedLive (Redirect d e new) s t =
+    LiveRun (edge-flags-of t) (adjacency-of d t (getD (axis-in d s .ends) e 0)) × LiveRun (edge-flags-of t) (adjacency-of d t new)
+EditedLive (Move d old new) s t = LiveRun (edge-flags-of t) (adjacency-of d t old) × LiveRun (edge-flags-of t) (adjacency-of d t new)
+EditedLive (SetPayload e payload) s t = Unit
+EditedLive Unknown s t = Unit
 
 -- the plain lists of a shape, with the compact flag beside them
 abbrev pub state-of : Shape → State

@@ -107,6 +107,7 @@ module _ {w : Words} (pre : NodeAddable w) where
           edges = past-none (w .edges) (w .live-edges) (w .counts .edges .bound);
           axis = kept;
         };
+        live-only = tt;
         writes = record {
           nodes = λ x off. getD-set-other (w .nodes) (w .counts .nodes .bound) x payload 0 off;
           edges = λ e off. refl;
@@ -225,6 +226,7 @@ module _ {w : Words} {source target : ℕ} (pre : EdgeAddable w source target) w
           edges = record { payloads = λ i h. getD-set-other (w .edges) (w .counts .edges .bound) i payload 0 (omega arith); live = pushed-word pushed };
           axis = kept;
         };
+        live-only = tt;
         writes = record {
           nodes = λ x off. refl;
           edges = λ e off. getD-set-other (w .edges) (w .counts .edges .bound) e payload 0 off;

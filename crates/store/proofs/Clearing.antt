@@ -127,6 +127,7 @@ module _ {w : Words} (checked : Checked w) (node : ℕ) (live : getD (node-live 
           edges = record { payloads = λ i h. refl; live = retired-word gone };
           axis = kept;
         };
+        live-only = tt;
         writes = record {
           nodes = λ x off. refl;
           edges = λ e off. refl;

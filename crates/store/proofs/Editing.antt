@@ -126,6 +126,7 @@ module _ {w : Words} (checked : Checked w) (edge : ℕ) (live : getD (edge-live 
           edges = record { payloads = λ i h. refl; live = cleared-word cleared removed-below };
           axis = kept;
         };
+        live-only = tt;
         writes = record { nodes = λ x off. refl; edges = λ e off. refl; live-nodes = λ i off. refl; live-edges = cleared-other cleared; axis = written };
       }
         where
@@ -231,6 +232,7 @@ module _ {w : Words} {edge : ℕ} (pre : PayloadSettable w edge) (payload : ℕ)
       edges = record { payloads = λ i h. let low = pre .below in getD-set-other (w .edges) edge i payload 0 (omega arith); live = λ i h. refl };
       axis = kept;
     };
+    live-only = tt;
     writes = record {
       nodes = λ x off. refl;
       edges = λ e off. getD-set-other (w .edges) edge e payload 0 off;

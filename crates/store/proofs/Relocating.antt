@@ -22,12 +22,12 @@ use Rattle.plain.specs.Laws.Stepping.{Fitting}
 use Rattle.liveness.specs.FlagLaws.{length-flags}
 use Rattle.shape.specs.Columns.{end-at}
 use Rattle.shape.specs.Chains.{In}
-use Rattle.shape.specs.Shape.{Words, Axis, store, node-capacity, edge-capacity, capacities, node-live, edge-live, axis-words, axis-of, axis-in, edge-flags-of, live-in, raw, walk-of, adjacency-in, shape-of, plain-of, lists}
+use Rattle.shape.specs.Shape.{Words, Axis, store, node-capacity, edge-capacity, capacities, node-live, edge-live, axis-words, axis-of, axis-in, edge-flags-of, live-in, raw, walk-of, adjacency-in, shape-of, plain-of, lists, adjacency-of}
 use Rattle.shape.specs.Checked.{AxisChecked, Checked}
 use Rattle.shape.specs.Kept.{SameLengths, AxisKept, Kept, past-none, axis-kept-none}
 use Rattle.shape.specs.Writes.{Only, WritesAxis, Writes}
-use Rattle.shape.specs.Steps.{live-entries, acted, acts, with-axis, redirected-axis, moved-axis}
-use Rattle.shape.specs.Laws.Reading.{node-bound-is, node-flags-are, edge-flags-are, plain-end}
+use Rattle.shape.specs.Steps.{live-entries, acted, acts, with-axis, redirected-axis, moved-axis, LiveRun, EditedLive}
+use Rattle.shape.specs.Laws.Reading.{node-bound-is, node-flags-are, edge-flags-are, plain-end, axis-is, axis-end, shape-adjacency}
 use Rattle.shape.specs.Laws.Taking.{live-taken}
 use Rattle.adjacency.specs.Walk.{tombstoned-in}
 use Rattle.adjacency.specs.StoreWalks.{list-is-walk}
@@ -122,15 +122,31 @@ axis-shape w Incoming vs edit is =
     let old = axis-of (w .incoming) (edge-capacity w) (node-capacity w) (w .counts) in
     shape-ext refl refl refl refl refl (is ∙ ap (λ (f : List Bool). edit f old) (sym (edge-flags-are w)))
 
+-- a run of live edges on the axis is one of the shape
+live-run : (w : Words) (d : TraversalDirection) (vs : List ℕ) (x : ℕ) → x < w .counts .nodes .bound
+    → LiveRun (edge-live w) (adjacency-in vs (edge-capacity w) (node-capacity w) (w .counts) x)
+    → LiveRun (edge-flags-of (shape-of (with-axis-words d vs w))) (adjacency-of d (shape-of (with-axis-words d vs w)) x)
+live-run w d vs x h r = by d
+  where
+    of : (v : Words) (d : TraversalDirection) → x < v .counts .nodes .bound
+        → LiveRun (edge-live v) (adjacency-in (axis-words d v) (edge-capacity v) (node-capacity v) (v .counts) x)
+        → LiveRun (edge-flags-of (shape-of v)) (adjacency-of d (shape-of v) x)
+    of v d low live = rw (edge-flags-are v, shape-adjacency v d x low) live
+
+    by : (d : TraversalDirection) → LiveRun (edge-flags-of (shape-of (with-axis-words d vs w))) (adjacency-of d (shape-of (with-axis-words d vs w)) x)
+    by Outgoing = of (with-axis-words Outgoing vs w) Outgoing h r
+    by Incoming = of (with-axis-words Incoming vs w) Incoming h r
+
 -- an operation that edits one axis was done
 relocated-acted : {w : Words} → Checked w → (d : TraversalDirection) (vs : List ℕ) (operation : Operation) {o : Outcome}
     → step (capacities w) (lists w) operation ≡ o → acts operation o ≡ true → Fitting operation → length vs ≡ length (axis-words d w)
-    → shape-of (with-axis-words d vs w) ≡ acted operation (shape-of w)
+    → shape-of (with-axis-words d vs w) ≡ acted operation (shape-of w) → EditedLive operation (shape-of w) (shape-of (with-axis-words d vs w))
     → AxisChecked vs (edge-capacity w) (node-capacity w) (w .counts) (node-live w) (edge-live w)
     → AxisKept (axis-words d w) vs (edge-capacity w) (node-capacity w) (w .counts .nodes .bound) (w .counts .nodes .bound) (w .counts .edges .bound)
     → Only (WritesAxis operation w d) (axis-words d w) vs → Acted operation w (with-axis-words d vs w)
-relocated-acted {w} k d vs operation comes acting fits long shape axis frame words = record {
+relocated-acted {w} k d vs operation comes acting fits long shape live axis frame words = record {
   shape = shape;
+  live-only = live;
   checked = record {
     nodes = k .nodes;
     edges = k .edges;
@@ -146,6 +162,10 @@ same-words : (w : Words) (d : TraversalDirection) (vs : List ℕ) → vs ≡ axi
 same-words w Outgoing vs same = ap (λ (l : List ℕ). with-axis-words Outgoing l w) same
 same-words w Incoming vs same = ap (λ (l : List ℕ). with-axis-words Incoming l w) same
 
+-- a live node is below the bound
+node-below : (w : Words) (x : ℕ) → getD (node-live w) x false ≡ true → x < w .counts .nodes .bound
+node-below w x live = rw (← length-flags (w .live-nodes) (w .counts .nodes .bound)) (live-below (node-live w) x live)
+
 -- the edge was redirected
 pub redirecting : {w : Words} {edge new : ℕ} (pre : EdgeRedirectable w edge new) (d : TraversalDirection) (vs : List ℕ) {answer : ℕ}
     → Redirected (axis-words d w) vs (edge-capacity w) (node-capacity w) (w .counts) (w .live-edges) edge new answer → length vs ≡ length (axis-words d w)
@@ -153,12 +173,19 @@ pub redirecting : {w : Words} {edge new : ℕ} (pre : EdgeRedirectable w edge ne
 unfolding acted plain-of
 redirecting {w} {edge} {new} pre d vs done long =
     let k = pre .checked in
+    let low = alive-below (w .live-edges) (w .counts) edge (pre .alive) in
+    let ended : getD (axis-in d (shape-of w) .ends) edge 0 ≡ end-at (axis-words d w) edge =
+    ap (λ (a : Axis). getD (a .ends) edge 0) (axis-is w d) ∙ axis-end (axis-words d w) (edge-capacity w) (node-capacity w) (w .counts) edge low in
     record {
       previous = done .previous;
       acts = λ other. let moved : end-at (axis-words d w) edge ≢ new = λ q. other (done .previous ∙ q) in
-          let away : end-of d (lists w) edge ≢ new = λ q. moved (sym (plain-end w d edge (alive-below (w .live-edges) (w .counts) edge (pre .alive))) ∙ q) in
+          let away : end-of d (lists w) edge ≢ new = λ q. moved (sym (plain-end w d edge low) ∙ q) in
           relocated-acted k d vs (Redirect d edge new) (comes-to (redirect (rw (edge-flags-are w) (pre .alive)) (rw (node-flags-are w) (pre .new-live)) away))
-          (rw (ne-eqb (end-of d (lists w) edge) new away)) tt long (axis-shape w d vs (λ f a. redirected-axis f edge new a) (done .changed moved))
+          (rw (ne-eqb (end-of d (lists w) edge) new away)) tt long (axis-shape w d vs (λ f a. redirected-axis f edge new a) (done .changed moved)) (
+            subst (λ (x : ℕ). LiveRun (edge-flags-of (shape-of (with-axis-words d vs w))) (adjacency-of d (shape-of (with-axis-words d vs w)) x)) (sym ended)
+                (live-run w d vs (end-at (axis-words d w) edge) (k .axis d .ends-below edge low) (done .live-only moved .0)),
+            live-run w d vs new (node-below w new (pre .new-live)) (done .live-only moved .1),
+          )
           (done .checked (node-live w) (checked-end k d edge (pre .alive)) (pre .new-live) (k .axis d)) (done .frame)
           (λ i off. done .writes i (λ q. off (refl, inl q)) (λ l. off (refl, inr (inl (inl l)))) (λ l. off (refl, inr (inr (inl l))))
           (λ o. off (refl, inr (inl (inr o)))) (λ n. off (refl, inr (inr (inr n)))));
@@ -173,14 +200,15 @@ unfolding acted plain-of
 moving {w} {old} {new} d pre vs done long =
     let k = pre .checked in
     let adjacency = adjacency-in (axis-words d w) (edge-capacity w) (node-capacity w) (w .counts) old in
-    let below : old < w .counts .nodes .bound = rw (← length-flags (w .live-nodes) (w .counts .nodes .bound)) (live-below (node-live w) old (pre .old-live)) in
+    let old-below = node-below w old (pre .old-live) in
     let walked : list-of d (lists w) old ≡ live-entries (edge-live w) (raw adjacency) =
-    list-is-walk w d old below ∙ ap (λ (b : Bool). walk-of (edge-live w) b adjacency) (pre .old-live) in
+    list-is-walk w d old old-below ∙ ap (λ (b : Bool). walk-of (edge-live w) b adjacency) (pre .old-live) in
     record {
       counted = done .counted ∙ ap length (live-taken (edge-live w) adjacency ∙ sym walked);
-      acts = relocated-acted k d vs (Move d old new) (comes-to (move (pre .apart) (rw (node-bound-is w) below) (pre .some) (rw (node-flags-are w) (pre .new-live))))
+      acts = relocated-acted k d vs (Move d old new) (comes-to (move (pre .apart) (rw (node-bound-is w) old-below) (pre .some) (rw (node-flags-are w) (pre .new-live))))
           (rw (ne-eqb (length (list-of d (lists w) old)) 0 (λ q. pre .some (no-entries (list-of d (lists w) old) q)))) tt long
-          (axis-shape w d vs (λ f a. moved-axis f old new a) (done .axis)) (done .checked (node-live w) (pre .old-live) (pre .new-live) (k .axis d))
+          (axis-shape w d vs (λ f a. moved-axis f old new a) (done .axis))
+          (live-run w d vs old old-below (done .live-only .0), live-run w d vs new (node-below w new (pre .new-live)) (done .live-only .1)) (done .checked (node-live w) (pre .old-live) (pre .new-live) (k .axis d))
           (done .frame)
           (λ i off. done .writes i (λ q. off (refl, inl (subst (λ (l : List ℕ). In i l) (sym walked) q))) (λ l. off (refl, inr (inl (inl l))))
           (λ l. off (refl, inr (inr (inl l)))) (λ o. off (refl, inr (inl (inr o)))) (λ n. off (refl, inr (inr (inr n)))));

@@ -1,5 +1,5 @@
 -- What the operations on a checked store ask and promise, of the store at entry, w, and at exit, v. Every operation promises the same: the shape is what the
--- shape's own step makes of it, the store is checked again, and every slice is as long as it was. That the plain lists are then those of document 01 is
+-- shape's own step makes of it, a run that it edits holds live edges only, the store is checked again, and every slice is as long as it was. That the plain lists are then those of document 01 is
 -- `step-refines` of crate `shape`.
 use Prim.Native.Nat.{ℕ, _+_, _-_, _≤_, _<_}
 use mathlib.Core.Path.{_≡_}
@@ -19,11 +19,13 @@ use Rattle.shape.specs.Shape.{Words, node-capacity, edge-capacity, node-live, e
 use Rattle.shape.specs.Checked.{Checked}
 use Rattle.shape.specs.Kept.{SameLengths, Kept}
 use Rattle.shape.specs.Writes.{Writes}
-use Rattle.shape.specs.Steps.{acted}
+use Rattle.shape.specs.Steps.{EditedLive, acted}
 
 -- The operation was done.
 pub record Acted (operation : Operation) (w v : Words) : Type 0 where
   pub shape : shape-of v ≡ acted operation (shape-of w)
+  -- "an edited run holds live edges only"
+  pub live-only : EditedLive operation (shape-of w) (shape-of v)
   pub checked : Checked v
   pub lengths : SameLengths w v
   -- no index word, no word past the bounds, no spare word was written

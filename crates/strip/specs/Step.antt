@@ -17,7 +17,7 @@ use Rattle.shape.specs.Shape.{Words, capacities, node-live, edge-live, shape-of
 use Rattle.shape.specs.Checked.{Checked}
 use Rattle.shape.specs.Kept.{Kept, kept-none, SameLengths}
 use Rattle.shape.specs.Writes.{Writes, nothing-written}
-use Rattle.shape.specs.Steps.{acted, acts, shape-step, state-of}
+use Rattle.shape.specs.Steps.{EditedLive, acted, acts, shape-step, state-of}
 use Rattle.shape.specs.Laws.CheckedShape.{checked-proper, checked-based}
 use Rattle.shape.specs.Laws.Running.{step-state}
 use Rattle.shape.specs.Laws.Reading.{node-flags-are, edge-flags-are, node-bound-is, edge-bound-is}
@@ -32,6 +32,8 @@ pub record StepOf (operation : Operation) (w v : Words) (number value : ℕ) : T
   pub valued : value ≡ outcome w operation .value
   -- run contents and compactness are fixed, not only the lists
   pub shaped : shape-of v ≡ shape-step (capacities w) (shape-of w) operation
+  -- "an edited run holds live edges only"
+  pub live-only : acts operation (outcome w operation) ≡ true → EditedLive operation (shape-of w) (shape-of v)
   pub checked : Checked v
   pub lengths : SameLengths w v
   -- "A refused operation changes nothing": not a word
@@ -102,6 +104,7 @@ stays {operation} {w} c case idle =
       numbered = ap (λ (o : Outcome). o .number) (sym same);
       valued = ap (λ (o : Outcome). o .value) (sym same);
       shaped = sym (ap (λ (b : Bool). cond b (acted operation (shape-of w)) (shape-of w)) (ap (acts operation) same ∙ idle));
+      live-only = λ h. true-false h (ap (acts operation) same ∙ idle);
       checked = c;
       lengths = refl;
       refused-keeps = λ h. refl;
@@ -119,6 +122,7 @@ done {operation} {w} case busy zero a =
     record {
       numbered = ap (λ (o : Outcome). o .number) (sym same);
       valued = ap (λ (o : Outcome). o .value) (sym same);
+      live-only = λ h. a .live-only;
       shaped = a .shape ∙ sym (ap (λ (b : Bool). cond b (acted operation (shape-of w)) (shape-of w)) (ap (acts operation) same ∙ busy));
       checked = a .checked;
       lengths = a .lengths;

@@ -22,7 +22,7 @@ use Rattle.plain.specs.Laws.Operating.{edge-below}
 use Rattle.plain.specs.Laws.Stepping.{Fitting, step-well-formed}
 use Rattle.shape.specs.Chains.{In}
 use Rattle.shape.specs.Shape.{Adjacency, Shape, hiding, part, raw, live-in, no-adjacency, axis-in, adjacency-of, edge-flags-of, plain-of}
-use Rattle.shape.specs.Steps.{live-entries, run-or-base, taken, power-of-two, swept, with-run, opened, appended, redirected-axis, moved-axis, retired, walk-in, acted, acts, shape-step}
+use Rattle.shape.specs.Steps.{live-entries, run-or-base, taken, swept, with-run, opened, appended, redirected-axis, moved-axis, retired, walk-in, acted, acts, shape-step}
 use Rattle.shape.specs.Laws.Chains.{in-front, in-none}
 use Rattle.shape.specs.Laws.Refining.{Proper, getD-added}
 use Rattle.shape.specs.Laws.Stepping.{step-refines}
@@ -57,13 +57,8 @@ module _ (flags : List Bool) where
       first none k = in-keep (live-in flags) e (a .base) k
       first (some run) k = k
 
-  pub in-swept : (run : List ℕ) (e : ℕ) → In e (swept flags run) → In e run
-  unfolding swept
-  in-swept run e =
-      by-test (power-of-two (length run)) (λ h. rw h (in-keep (live-in flags) e run)) (λ h. rw h (λ m. m))
-
   pub in-edited : (a : Adjacency) (e : ℕ) → In e (swept flags (taken flags a)) → In e (raw a)
-  in-edited a e m = in-taken a e (in-swept (taken flags a) e m)
+  in-edited a e m = in-taken a e (in-keep (live-in flags) e (taken flags a) m)
 
 -- ---- entries stay edges of the store
 

@@ -1,17 +1,17 @@
 -- Laws of the live entries, and of what a run takes over and sweeps: neither changes what is walked. Callers cite these and unfold neither.
 use Prim.Native.Nat.{ℕ}
-use mathlib.Core.Path.{_≡_, refl, _∙_}
-use mathlib.Core.Bool.{Bool, true, false, _&&_}
+use mathlib.Core.Path.{_≡_, refl, sym, _∙_}
+use mathlib.Core.Bool.{Bool, true, _&&_}
 use mathlib.Core.Option.{Option, none, some}
 use mathlib.Core.List.{List, [], _∷_, _++_}
-use lib.ListN.{length}
 use lib.Dec.{eqb}
 use borrow.Author.Tests.{eq-eqb}
 use Rattle.plain.specs.Lists.{member, without, keep}
-use Rattle.plain.specs.Laws.Booleans.{by-test}
+use Rattle.plain.specs.Laws.Booleans.{by-test, and-right}
+use Rattle.plain.specs.Laws.ListLaws.{member-keep}
 use Rattle.shape.specs.Shape.{Adjacency, hiding, raw, live-in}
 use Rattle.shape.specs.Chains.{In}
-use Rattle.shape.specs.Steps.{live-entries, run-or-base, taken, power-of-two, swept}
+use Rattle.shape.specs.Steps.{live-entries, run-or-base, taken, swept, LiveOnly}
 
 -- ---- keeping
 
@@ -86,26 +86,14 @@ module _ (flags : List Bool) where
         keep-append (live-in flags) run (a .ring),
       )
 
-  -- sweeping drops dead entries alone
-  pub live-swept : (run : List ℕ) → live-entries flags (swept flags run) ≡ live-entries flags run
-  unfolding swept
-  live-swept run = by-test (power-of-two (length run)) (λ h. rw (h, keep-again (live-in flags) run)) (λ h. rw h)
+  -- a swept run holds live edges only
+  pub swept-live : (run : List ℕ) → LiveOnly flags (swept flags run)
+  swept-live run e m = and-right (member e run) (live-in flags e) (sym (member-keep (live-in flags) e run) ∙ m)
 
-  -- so a swept run that took over the ring walks as the node did
+  -- and one that holds live edges only is left
+  pub swept-all : (run : List ℕ) → LiveOnly flags run → swept flags run ≡ run
+  swept-all run alive = keep-passing (live-in flags) run alive
+
+  -- a swept run that has taken over the ring walks as the node did
   pub live-edited : (a : Adjacency) → live-entries flags (swept flags (taken flags a)) ≡ live-entries flags (raw a)
-  live-edited a = live-swept (taken flags a) ∙ live-taken a
-
-  -- a run whose length is a power of two keeps its live entries
-  pub swept-power : (run : List ℕ) → power-of-two (length run) ≡ true → swept flags run ≡ live-entries flags run
-  unfolding swept
-  swept-power run h = rw h
-
-  -- any other is left
-  pub swept-other : (run : List ℕ) → power-of-two (length run) ≡ false → swept flags run ≡ run
-  unfolding swept
-  swept-other run h = rw h
-
-  -- and so is one whose entries are all live
-  pub swept-all : (run : List ℕ) → ((e : ℕ) → In e run → live-in flags e ≡ true) → swept flags run ≡ run
-  unfolding swept
-  swept-all run alive = by-test (power-of-two (length run)) (λ h. rw (h, keep-passing (live-in flags) run alive)) (λ h. rw h)
+  live-edited a = keep-again (live-in flags) (taken flags a) ∙ live-taken a

@@ -1,14 +1,14 @@
--- `moves::meet` meets its contract, from what `gather` and `prepare` ensure.
+-- `moves::meet` meets its contract, from what `prepare` ensures of each run.
 use borrow.Author.Needs.{needs}
-use Rattle.relocate.proofs.Moving.{move-gather, move-prepare}
+use Rattle.relocate.proofs.Moving.{move-prepare-old, move-prepare-new}
 use Rattle.relocate.proofs.moves.meet.Statement.{statement}
 use Rattle.relocate.proofs.moves.meet.Tie as tie
 
-prepare-requires : tie.Need-prepare-requires
-prepare-requires c κs =
+prepare-requires-2 : tie.Need-prepare-requires-2
+prepare-requires-2 c κs =
     let w = c .before .before .before in
-    move-prepare (w .before .before .before .before .pre) (w .gather .ensures)
+    move-prepare-new (w .before .before .before .before .pre) (w .prepare .ensures)
 
 pub meet-spec : {M : Type 1} → statement M
 meet-spec =
-    tie.close (tie.spec (λ c κs. move-gather (c .before .before .before .pre)) prepare-requires (λ c. search needs) (λ c. search needs))
+    tie.close (tie.spec (λ c κs. move-prepare-old (c .before .before .before .pre)) prepare-requires-2 (λ c. search needs) (λ c. search needs))
