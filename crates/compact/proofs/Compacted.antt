@@ -29,9 +29,8 @@ use Rattle.shape.specs.Kept.{AxisRenewed, Renewed, same-nodes, same-edges, same
 use Rattle.shape.specs.Index.{Rewritten, ends-of}
 use Rattle.shape.specs.Laws.NewBase.{NewBase}
 use Rattle.shape.specs.Laws.CheckedShape.{checked-proper}
-use Rattle.shape.specs.Laws.Reading.{plain-end}
+use Rattle.shape.specs.Laws.Reading.{node-at, edge-at, plain-end}
 use Rattle.relocate.specs.Stores.{checked-end}
-use Rattle.store.specs.Reads.{node-at, edge-at}
 use Rattle.compact.specs.Holding.{based, front, Holding, reset-same, reset-word, sized-as}
 use Rattle.compact.specs.Slots.{kept-word, rewritten-through}
 use Rattle.compact.specs.ListsStore.{settled-well-formed, settled-node-flags, settled-edge-flags}
