@@ -72,10 +72,10 @@ module _ {ws : List ℕ} {ce cn : ℕ} {live : List ℕ} {bound : ℕ} {node-map
 
 module _ {w : Words} (k : Checked w) (s : Canonical w) where
   node-flags-on : node-live w ≡ replicate (w .counts .nodes .bound) true
-  node-flags-on = s .node-words .flags
+  node-flags-on = s .nodes .words-set .flags
 
   edge-flags-on : edge-live w ≡ replicate (w .counts .edges .bound) true
-  edge-flags-on = s .edge-words .flags
+  edge-flags-on = s .edges .words-set .flags
 
   every-live : AllLive (lists w)
   every-live = record {

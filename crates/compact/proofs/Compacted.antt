@@ -28,9 +28,8 @@ use Rattle.shape.specs.Shape.{Words, capacities, node-live, edge-live, axis-wor
 use Rattle.shape.specs.Kept.{AxisRenewed, Renewed, same-nodes, same-edges, same-live-nodes, same-live-edges, same-axis}
 use Rattle.shape.specs.Index.{Rewritten, ends-of}
 use Rattle.shape.specs.Laws.NewBase.{NewBase}
-use Rattle.shape.specs.Laws.Reading.{plain-node-flags, plain-edge-flags, plain-end}
+use Rattle.shape.specs.Laws.Reading.{plain-node-flags, plain-edge-flags, plain-end, node-at, edge-at}
 use Rattle.relocate.specs.Stores.{checked-end}
-use Rattle.store.specs.Reads.{node-at, edge-at}
 use Rattle.compact.specs.Holding.{based, front, Holding, reset-same, reset-word, sized-as}
 use Rattle.compact.specs.Slots.{kept-word, rewritten-through}
 use Rattle.compact.specs.Bases.{Compactable, AxisCompacted, rebuildable, rebuilt-base, rebuilt-renewed}

@@ -1,7 +1,7 @@
 -- A store that holds survivors and nothing else, which is what compaction and image reading leave: "the result equals what compaction leaves". Its shape and its
 -- plain lists are the survivors', it is checked and compact, and its words are canonical.
 use Prim.Native.Nat.{ℕ, _+_, _-_, _*_, _/_, _%_, _^_, _≤_}
-use mathlib.Core.Path.{_≡_, sym, ap, ap₂, subst, _∙_}
+use mathlib.Core.Path.{_≡_, refl, sym, ap, ap₂, subst, _∙_}
 use mathlib.Core.Bool.{Bool, true, false, cond}
 use mathlib.Core.List.{List, [], _∷_, map, map-map, _++_}
 use native.Mathlib.Omega.{arith}

@@ -15,4 +15,4 @@ module _ {w : Words} {node-map edge-map work node-map' edge-map' work' : List �
   -- nothing was removed, but an edge is not in the base
   pub compaction-leaves-no-edge-out-of-the-base : CompactOf w node-map edge-map work 0 value w node-map' edge-map' work'
       → w .counts .edges .base < w .counts .edges .bound → ⊥
-  compaction-leaves-no-edge-out-of-the-base does added = let all = does .canonical refl .edges-based in omega arith
+  compaction-leaves-no-edge-out-of-the-base does added = let all = does .canonical refl .edges .based in omega arith

@@ -107,7 +107,17 @@ pub record Renewed (w v : Words) : Type 0 where
 
 -- ---- laws
 
--- each slice is as long as it was
+-- each slice is as long as it was: the nodes, the edges, the live words of both, and both axes
+pub each-length : {a b : Lengths} → a .capacities .nodes ≡ b .capacities .nodes → a .capacities .edges ≡ b .capacities .edges → a .live-nodes ≡ b .live-nodes
+    → a .live-edges ≡ b .live-edges → a .outgoing ≡ b .outgoing → a .incoming ≡ b .incoming → a ≡ b
+each-length n e ln le out inc = λ i. record {
+  capacities = record { nodes = n i; edges = e i };
+  live-nodes = ln i;
+  live-edges = le i;
+  outgoing = out i;
+  incoming = inc i;
+}
+
 pub same-capacities : {a b : Lengths} → a ≡ b → a .capacities ≡ b .capacities
 same-capacities same = ap (λ (l : Lengths). l .capacities) same
 

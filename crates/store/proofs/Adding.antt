@@ -18,7 +18,7 @@ use Rattle.liveness.specs.Calls.{Pushed}
 use Rattle.liveness.specs.FlagLaws.{length-flags}
 use Rattle.shape.specs.Shape.{Words, node-capacity, edge-capacity, capacities, node-live, edge-live, axis-words, axis-of, shape-of, plain-of, store, lists}
 use Rattle.shape.specs.Checked.{AxisChecked}
-use Rattle.shape.specs.Kept.{SameLengths, AxisKept, same-nodes, same-edges, past-none}
+use Rattle.shape.specs.Kept.{SameLengths, AxisKept, each-length, same-nodes, same-edges, past-none}
 use Rattle.shape.specs.Writes.{WritesAxis}
 use Rattle.shape.specs.Steps.{appended, acted}
 use Rattle.shape.specs.Laws.Reading.{node-bound-is, edge-bound-is, node-flags-are}
@@ -68,15 +68,7 @@ module _ {w : Words} (pre : NodeAddable w) where
 
       -- no slice grows or shrinks
       node-lengths : SameLengths w with-node
-      node-lengths =
-          let nodes-long = length-set (w .nodes) (w .counts .nodes .bound) payload in
-          λ i. record {
-            capacities = record { nodes = nodes-long i; edges = edge-capacity w };
-            live-nodes = live-long i;
-            live-edges = length (w .live-edges);
-            outgoing = out-long i;
-            incoming = inc-long i;
-          }
+      node-lengths = each-length (length-set (w .nodes) (w .counts .nodes .bound) payload) refl live-long refl out-long inc-long
 
       -- its shape is what the operation makes of the shape
       node-shape : shape-of with-node ≡ acted (AddNode payload) (shape-of w)
@@ -184,15 +176,7 @@ module _ {w : Words} {source target : ℕ} (pre : EdgeAddable w source target) w
 
       -- no slice grows or shrinks
       edge-lengths : SameLengths w with-edge
-      edge-lengths =
-          let edges-long = length-set (w .edges) (w .counts .edges .bound) payload in
-          λ i. record {
-            capacities = record { nodes = node-capacity w; edges = edges-long i };
-            live-nodes = length (w .live-nodes);
-            live-edges = live-long i;
-            outgoing = out-long i;
-            incoming = inc-long i;
-          }
+      edge-lengths = each-length refl (length-set (w .edges) (w .counts .edges .bound) payload) refl live-long out-long inc-long
 
       -- its shape is what the operation makes of the shape
       edge-shape : shape-of with-edge ≡ acted (AddEdge source target payload) (shape-of w)

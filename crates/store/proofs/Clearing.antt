@@ -22,9 +22,9 @@ use Rattle.plain.specs.Laws.Rank.{live-below}
 use Rattle.liveness.specs.Calls.{Cleared}
 use Rattle.liveness.specs.FlagLaws.{length-flags}
 use Rattle.shape.specs.Chains.{In}
-use Rattle.shape.specs.Shape.{Words, node-capacity, edge-capacity, capacities, node-live, edge-live, node-slot-at, axis-words, axis-of, shape-of, plain-of, lists, store}
+use Rattle.shape.specs.Shape.{Words, node-capacity, edge-capacity, node-live, edge-live, node-slot-at, axis-words, axis-of, shape-of, plain-of, lists, store}
 use Rattle.shape.specs.Checked.{AxisChecked, Checked}
-use Rattle.shape.specs.Kept.{SameLengths, AxisKept, axis-kept-none}
+use Rattle.shape.specs.Kept.{SameLengths, AxisKept, each-length, axis-kept-none}
 use Rattle.shape.specs.Steps.{acted, walk-in as walk-of-shape}
 use Rattle.shape.specs.Laws.Refining.{list-is-walk}
 use Rattle.shape.specs.Laws.Keeping.{in-either}
@@ -63,15 +63,7 @@ module _ {w : Words} (checked : Checked w) (node : ℕ) (live : getD (node-live 
           store (record { nodes = fewer 1 (w .counts .nodes); edges = fewer n (w .counts .edges) }) (w .nodes) (w .edges) nodes-after edges-after (w .outgoing) (w .incoming)
 
       clear-lengths : SameLengths w without-node
-      clear-lengths =
-          let edges-long = gone .long in
-          λ i. record {
-            capacities = capacities w;
-            live-nodes = long i;
-            live-edges = edges-long i;
-            outgoing = length (w .outgoing);
-            incoming = length (w .incoming);
-          }
+      clear-lengths = each-length refl refl long (gone .long) refl refl
 
       -- another node that is dead now was dead
       was-dead : (x : ℕ) → eqb x node ≡ false → getD (node-live without-node) x false ≡ false → getD (node-live w) x false ≡ false

@@ -21,7 +21,7 @@ use Rattle.liveness.specs.Calls.{Cleared}
 use Rattle.liveness.specs.FlagLaws.{length-flags}
 use Rattle.shape.specs.Shape.{Words, node-capacity, edge-capacity, capacities, node-live, edge-live, edge-slot-at, axis-words, axis-of, shape-of, plain-of, store, lists}
 use Rattle.shape.specs.Checked.{AxisChecked, Checked}
-use Rattle.shape.specs.Kept.{SameLengths, AxisKept, same-edges, past-none, axis-kept-none}
+use Rattle.shape.specs.Kept.{SameLengths, AxisKept, each-length, same-edges, past-none, axis-kept-none}
 use Rattle.shape.specs.Steps.{retired, acted}
 use Rattle.shape.specs.Laws.Reading.{made-at, edge-bound-is, edge-flags-are}
 use Rattle.store.proofs.Keeping.{cleared-word, cleared-other}
@@ -85,13 +85,7 @@ module _ {w : Words} (checked : Checked w) (edge : ℕ) (live : getD (edge-live 
 
       -- no slice grows or shrinks
       remove-lengths : SameLengths w without-edge
-      remove-lengths = λ i. record {
-        capacities = capacities w;
-        live-nodes = length (w .live-nodes);
-        live-edges = long i;
-        outgoing = length (w .outgoing);
-        incoming = length (w .incoming);
-      }
+      remove-lengths = each-length refl refl refl long refl refl
 
       -- its shape is what the operation makes of the shape
       remove-shape : shape-of without-edge ≡ acted (RemoveEdge edge) (shape-of w)
@@ -190,15 +184,7 @@ module _ {w : Words} {edge : ℕ} (pre : PayloadSettable w edge) (payload : ℕ)
 
   -- no slice grows or shrinks
   payload-lengths : SameLengths w with-payload
-  payload-lengths =
-      let edges-long = length-set (w .edges) edge payload in
-      λ i. record {
-        capacities = record { nodes = node-capacity w; edges = edges-long i };
-        live-nodes = length (w .live-nodes);
-        live-edges = length (w .live-edges);
-        outgoing = length (w .outgoing);
-        incoming = length (w .incoming);
-      }
+  payload-lengths = each-length refl (length-set (w .edges) edge payload) refl refl refl refl
 
   -- its shape is what the operation makes of the shape
   payload-shape : shape-of with-payload ≡ acted (SetPayload edge payload) (shape-of w)

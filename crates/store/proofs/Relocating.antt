@@ -24,7 +24,7 @@ use Rattle.shape.specs.Columns.{end-at}
 use Rattle.shape.specs.Chains.{In}
 use Rattle.shape.specs.Shape.{Words, Axis, store, node-capacity, edge-capacity, capacities, node-live, edge-live, axis-words, axis-of, axis-in, edge-flags-of, live-in, raw, walk-of, adjacency-in, shape-of, plain-of, lists, adjacency-of}
 use Rattle.shape.specs.Checked.{AxisChecked, Checked}
-use Rattle.shape.specs.Kept.{SameLengths, AxisKept, Kept, past-none, axis-kept-none}
+use Rattle.shape.specs.Kept.{SameLengths, AxisKept, Kept, each-length, past-none, axis-kept-none}
 use Rattle.shape.specs.Writes.{Only, WritesAxis, Writes}
 use Rattle.shape.specs.Steps.{live-entries, acted, acts, with-axis, redirected-axis, moved-axis, LiveRun, EditedLive}
 use Rattle.shape.specs.Laws.Reading.{node-bound-is, node-flags-are, edge-flags-are, plain-end, axis-is, axis-end, shape-adjacency}
@@ -83,9 +83,7 @@ both w vs P Incoming one rest Incoming = one
 axis-lengths : (w : Words) (d : TraversalDirection) (vs : List ℕ) → length vs ≡ length (axis-words d w) → SameLengths w (with-axis-words d vs w)
 axis-lengths w d vs long =
     let axes = both w vs (λ e us. length us ≡ length (axis-words e w)) d long (λ e. refl) in
-    let out = axes Outgoing in
-    let inc = axes Incoming in
-    λ i. record { capacities = capacities w; live-nodes = length (w .live-nodes); live-edges = length (w .live-edges); outgoing = out i; incoming = inc i }
+    each-length refl refl refl refl (axes Outgoing) (axes Incoming)
 
 -- the words that an operation leaves
 axis-kept : (w : Words) (d : TraversalDirection) (vs : List ℕ)

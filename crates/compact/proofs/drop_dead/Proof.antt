@@ -4,6 +4,7 @@ use borrow.Author.Needs.{needs}
 use Rattle.plain.specs.declared.TraversalDirection.the-variants.{Outgoing, Incoming}
 use Rattle.plain.specs.declared.Slots.{Slots}
 use Rattle.plain.specs.declared.Counts.{Counts}
+use Rattle.shape.specs.Kept.{each-length}
 use Rattle.compact.specs.Dropping.{axis-compactable, from-rest, first-half, second-half, nodes-keepable, edges-keepable, nodes-resettable, edges-resettable}
 use Rattle.compact.proofs.drop_dead.Statement.{statement}
 use Rattle.compact.proofs.drop_dead.Tie as tie
@@ -59,14 +60,8 @@ returns c =
     let ins = targets nodes-moved in
     let outs = sources ins in
     record {
-      lengths = record {
-        nodes = nodes-moved .keep-live .kept .0;
-        edges = edges-moved .keep-live2 .kept .0;
-        live-nodes = nodes-cleared .reset-all-live .kept .0;
-        live-edges = cleared .reset-all-live2 .kept .0;
-        outgoing = outs .compact-axis .kept .0;
-        incoming = ins .compact-axis2 .kept .0;
-      };
+      lengths = each-length (nodes-moved .keep-live .kept .0) (edges-moved .keep-live2 .kept .0) (nodes-cleared .reset-all-live .kept .0)
+          (cleared .reset-all-live2 .kept .0) (outs .compact-axis .kept .0) (ins .compact-axis2 .kept .0);
       counts = ap₂ {C = Counts} (λ (n e : Slots). record { nodes = n; edges = e }) (c .before .all-based .ensures) (c .all-based2 .ensures);
       nodes = nodes-moved .keep-live .ensures;
       edges = edges-moved .keep-live2 .ensures;

@@ -2,7 +2,9 @@
 use Prim.Native.Nat.{_-_}
 use native.Mathlib.Omega.{arith}
 use borrow.Author.Needs.{needs}
+use Rattle.plain.specs.declared.TraversalDirection.the-variants.{Outgoing, Incoming}
 use Rattle.shape.specs.Shape.{store}
+use Rattle.shape.specs.Kept.{SameLengths, same-nodes, same-edges, same-live-nodes, same-live-edges, same-axis}
 use Rattle.strip.specs.Strip.{Running, running-start, running-turn, running-words, running-room, running-end}
 use Rattle.strip.proofs.run.Statement.{statement}
 use Rattle.strip.proofs.run.Tie as tie
@@ -52,6 +54,14 @@ loop-again c =
     let turn = decoded .before in
     running-turn (turn .before .loop .inv) (turn .loop-test .taken) (decoded .operation-at .ensures) (call .step .ensures) (answer .write-answer .ensures)
 
+-- every slice is as long as it was
+lengths : (c : tie.At-loop Inv-loop μ-loop)
+    → let l = c .loop in
+    let a = c .before .before .before .before .before .before .before .before .args in
+    SameLengths (store (a .counts) (a .nodes .now) (a .edges .now) (a .live-nodes .now) (a .live-edges .now) (a .outgoing .now) (a .incoming .now))
+    (store (l .counts) (l .nodes) (l .edges) (l .live-nodes) (l .live-edges) (l .outgoing) (l .incoming))
+lengths c = c .loop .inv .ran .lengths
+
 returns : tie.Need-returns Inv-loop μ-loop
 returns c = running-end (c .before .loop .inv) (omega arith)
 
@@ -68,11 +78,11 @@ run-spec =
     add-i
     loop-less
     loop-again
-    (λ c. search needs)
-    (λ c. search needs)
-    (λ c. search needs)
-    (λ c. search needs)
-    (λ c. search needs)
-    (λ c. search needs)
+    (λ c. same-nodes (lengths (c .before)))
+    (λ c. same-edges (lengths (c .before)))
+    (λ c. same-live-nodes (lengths (c .before)))
+    (λ c. same-live-edges (lengths (c .before)))
+    (λ c. same-axis _ _ (lengths (c .before)) Outgoing)
+    (λ c. same-axis _ _ (lengths (c .before)) Incoming)
     (λ c. search needs)
     returns)

@@ -4,6 +4,7 @@ use native.Mathlib.Omega.{arith}
 use borrow.Author.Needs.{needs}
 use Rattle.plain.specs.declared.Slots.{Slots}
 use Rattle.plain.specs.declared.Counts.{Counts}
+use Rattle.shape.specs.Kept.{each-length}
 use Rattle.compact.specs.Holding.{based}
 use Rattle.image.specs.Reading.{count-room, payloads-readable, axes-readable, payloads-of, axes-of, reset-of}
 use Rattle.image.proofs.read.place.Statement.{statement}
@@ -60,14 +61,8 @@ returns c =
     let edges = counted axes in
     let nodes = edges .before in
     record {
-      lengths = record {
-        nodes = payloads .read-payloads .kept .0;
-        edges = payloads .read-payloads .kept .1 .0;
-        live-nodes = nodes-live .reset-all-live .kept .0;
-        live-edges = edges-live .reset-all-live2 .kept .0;
-        outgoing = axes .read-axes .kept .0;
-        incoming = axes .read-axes .kept .1 .0;
-      };
+      lengths = each-length (payloads .read-payloads .kept .0) (payloads .read-payloads .kept .1 .0) (nodes-live .reset-all-live .kept .0)
+          (edges-live .reset-all-live2 .kept .0) (axes .read-axes .kept .0) (axes .read-axes .kept .1 .0);
       counts = ap₂ {C = Counts} (λ (n e : Slots). record { nodes = n; edges = e }) (c .before .all-based .ensures ∙ ap based (nodes .read-field .ensures))
           (c .all-based2 .ensures ∙ ap based (edges .read-field2 .ensures));
       payloads = payloads-of (nodes .read-field .ensures) (edges .read-field2 .ensures) (payloads .read-payloads .ensures);
