@@ -69,14 +69,6 @@ lengths : (c : tie.At-loop Inv-loop μ-loop)
     (store (l .counts) (l .nodes) (l .edges) (l .live-nodes) (l .live-edges) (l .outgoing) (l .incoming))
 lengths c = c .loop .inv .ran .lengths
 
--- every slice is as long as it was
-lengths : (c : tie.At-loop Inv-loop μ-loop)
-    → let l = c .loop in
-    let a = c .before .before .before .before .before .before .before .before .before .args in
-    SameLengths (store (a .counts) (a .nodes .now) (a .edges .now) (a .live-nodes .now) (a .live-edges .now) (a .outgoing .now) (a .incoming .now))
-    (store (l .counts) (l .nodes) (l .edges) (l .live-nodes) (l .live-edges) (l .outgoing) (l .incoming))
-lengths c = c .loop .inv .ran .lengths
-
 returns : tie.Need-returns Inv-loop μ-loop
 returns c = running-end (c .before .loop .inv) (omega arith)
 
