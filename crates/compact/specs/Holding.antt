@@ -233,5 +233,5 @@ module _ {v : Words} {s : Survivors} (h : Holding v s) where
 -- What is no field is as it was where such a store stands in place of another, but for the offset of no node.
 pub canonical-leaves : (w v : Words) → SameLengths w v → Canonical v → Renewed w v → RenewalLeaves w v
 canonical-leaves w v same c k =
-    renewed-leaves w v same (c .nodes-based, c .edges-based)
+    renewed-leaves w v same (c .nodes .based, c .edges .based)
     (λ d. c .axis d .offsets 0 (omega arith) ∙ before-zero (ends-of (axis-words d v) (v .counts .edges .bound))) k

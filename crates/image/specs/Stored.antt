@@ -28,12 +28,12 @@ use Rattle.plain.specs.Laws.Operating.{incident}
 use Rattle.plain.specs.Laws.Rank.{live-from-all-live}
 use Rattle.shape.specs.Columns.{cell, offset-at}
 use Rattle.shape.specs.Chains.{In, ring, until}
-use Rattle.shape.specs.Shape.{Words, node-capacity, edge-capacity, Shape, Adjacency, capacities, axis-words, node-slot-at, edge-slot-at, axis-in, adjacency-of, no-adjacency, base-of, ring-of, raw, part, hiding, live-in, walk-of, has-run, node-flags-of, edge-flags-of, shape-of, plain-of, lists, is-compact}
+use Rattle.shape.specs.Shape.{Words, node-capacity, edge-capacity, Shape, Adjacency, capacities, axis-words, axis-in, adjacency-of, no-adjacency, base-of, ring-of, raw, part, hiding, live-in, walk-of, has-run, node-flags-of, edge-flags-of, shape-of, plain-of, lists, is-compact}
 use Rattle.shape.specs.Checked.{Checked, Index, Indexed}
 use Rattle.shape.specs.Index.{total}
 use Rattle.shape.specs.Laws.CheckedShape.{checked-proper}
 use Rattle.shape.specs.Laws.Indexing.{parts-joined, front-range, ends-below-all}
-use Rattle.shape.specs.Laws.Reading.{made-at, made-length, node-bound-is, edge-bound-is, shape-adjacency, plain-end, axis-is, axis-nodes}
+use Rattle.shape.specs.Laws.Reading.{made-at, made-length, node-bound-is, edge-bound-is, shape-adjacency, plain-end, node-at, edge-at, axis-is, axis-nodes}
 use Rattle.shape.specs.Laws.Refining.{list-is-walk}
 use Rattle.shape.specs.Laws.Taking.{keep-passing}
 use Rattle.image.specs.Writing.{Columns, columns, record-at, records-of, length-records, column-bits}
@@ -244,14 +244,12 @@ module _ {w : Words} (k : Checked w) (compact : is-compact (shape-of w) ≡ true
 
   -- the payload of a node, of an edge
   node-payload : (x : ℕ) → x < n → getD (lists w .nodes) x no-node .payload ≡ getD (w .nodes) x 0
-  unfolding plain-of shape-of
-  node-payload x l =
-      ap (λ (s : NodeSlot). s .payload) (made-at (node-slot-at w) n x no-node l)
+  unfolding plain-of
+  node-payload x l = node-at w x l
 
   edge-payload : (e : ℕ) → e < m → getD (lists w .edges) e no-edge .payload ≡ getD (w .edges) e 0
-  unfolding plain-of shape-of
-  edge-payload e l =
-      ap (λ (s : EdgeSlot). s .payload) (made-at (edge-slot-at w) m e no-edge l)
+  unfolding plain-of
+  edge-payload e l = edge-at w e l
 
   -- so the survivors are the words
   nodes-are : survivors (lists w) .nodes ≡ take n (w .nodes)

@@ -19,9 +19,9 @@ use Rattle.shape.specs.Shape.{Words, Adjacency, Axis, node-capacity, edge-capac
 use Rattle.shape.specs.Checked.{AxisChecked, Checked}
 use Rattle.shape.specs.Steps.{opened, appended}
 use Rattle.shape.specs.Laws.Frames.{base-kept, index-kept, run-list-below, run-list-kept, run-kept, runs-kept}
-use Rattle.shape.specs.Laws.Reading.{axis-adjacency}
+use Rattle.shape.specs.Laws.Reading.{axis-adjacency, made-same}
 use Rattle.adjacency.specs.Rings.{Opened, Appended}
-use Rattle.store.proofs.Made.{made-same, made-more, made-set}
+use Rattle.store.proofs.Made.{made-more, made-set}
 use Rattle.store.specs.Operations.{one-more, with-nodes, with-edges}
 
 -- two directions with the same parts

@@ -1,4 +1,4 @@
--- Lists made of the slots below a number, as the lists of a shape are: equal ones, one more slot, one slot set.
+-- Lists made of the slots below a number, as the lists of a shape are: one more slot, one slot set.
 use Prim.Native.Nat.{ℕ, _+_, _≤_, _<_}
 use native.Mathlib.Omega.{arith}
 use mathlib.Core.Path.{_≡_, sym, ap, _∙_}
@@ -8,18 +8,13 @@ use mathlib.Core.List.{List, [], _∷_, _++_, map}
 use lib.ListN.{length, getD, set, length-append, length-set}
 use lib.Seq.{ext-getD}
 use lib.Dec.{eqb}
-use borrow.Author.Tests.{eqb-true, eqb-false, eq-eqb, ne-eqb, ltb-true}
+use borrow.Author.Tests.{eqb-true, eqb-false, eq-eqb, ne-eqb}
 use Rattle.plain.specs.Lists.{from}
 use Rattle.plain.specs.Laws.Booleans.{by-test}
-use Rattle.plain.specs.Laws.ListLaws.{map-same, member-below}
 use Rattle.plain.specs.Laws.Deleting.{getD-set, getD-snoc}
 use Rattle.shape.specs.Laws.Reading.{made-length, made-at}
 
 module _ {A : Type 0} (f g : ℕ → A) (n : ℕ) where
-  -- made by functions that agree there
-  pub made-same : ((x : ℕ) → x < n → g x ≡ f x) → map g (from 0 n) ≡ map f (from 0 n)
-  made-same same = map-same g f (from 0 n) (λ x m. same x (ltb-true x n (sym (member-below x n) ∙ m)))
-
   -- one slot more
   pub made-more : ((x : ℕ) → x < n → g x ≡ f x) → map g (from 0 (n + 1)) ≡ map f (from 0 n) ++ (g n ∷ [])
   made-more same =

@@ -35,16 +35,20 @@ drop-dead-requires c κs =
     let nodes = numbered-nodes (numbered-edges work) in
     droppable (entry nodes .pre) (nodes .write-map .ensures) (work .write-work .kept .1 .1 .1 .1 .1 .1 .1 .1 .0)
 
+-- places behind the slices
+abbrev at-drop-dead : tie.After-slice-known18 → tie.After-drop-dead
+at-drop-dead c = c .before .before .before .before .before .before .before .before .before .before .before .before
+
 same-length-7 : tie.Need-same-length-7
 same-length-7 c =
-    numbered-nodes (numbered-edges (worked (c .before .before .before .before .before .before .before .before .before .before .before .before))) .write-map .kept .1 .1 .0
+    numbered-nodes (numbered-edges (worked (at-drop-dead c))) .write-map .kept .1 .1 .0
 
 same-length-8 : tie.Need-same-length-8
-same-length-8 c = numbered-edges (worked (c .before .before .before .before .before .before .before .before .before .before .before .before)) .write-map2 .kept .1 .1 .0
+same-length-8 c = numbered-edges (worked (at-drop-dead c)) .write-map2 .kept .1 .1 .0
 
 returns : tie.Need-returns
 returns c =
-    let drop = c .before .before .before .before .before .before .before .before .before .before .before .before in
+    let drop = at-drop-dead c in
     let work = worked drop in
     let edges = numbered-edges work in
     let nodes = numbered-nodes edges in

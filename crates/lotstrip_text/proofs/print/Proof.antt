@@ -9,14 +9,18 @@ use Rattle.lotstrip_text.specs.Printing.{length-printed}
 use Rattle.lotstrip_text.proofs.print.Statement.{statement}
 use Rattle.lotstrip_text.proofs.print.Tie as tie
 
+-- places behind the slices
+abbrev at-start : tie.After-write-answers-arg → tie.Start
+at-start c = c .before .before .before .before
+
 write-answers-requires : tie.Need-write-answers-requires
 write-answers-requires c κs =
-    let a = c .before .before .before .before .args in omega (arith, length-printed (a .answers .now) (a .bytes .now))
+    let a = at-start c .args in omega (arith, length-printed (a .answers .now) (a .bytes .now))
 
 write-hex-requires : tie.Need-write-hex-requires
 write-hex-requires c κs =
     let lines = c .before .before .before in
-    let a = lines .before .before .before .before .before .args in
+    let a = at-start (lines .before) .args in
     omega (arith, length-printed (a .answers .now) (a .bytes .now), lines .write-answers .ensures .ended, put-length (lines .write-answers .ensures .put))
 
 -- the newline has its place
@@ -24,7 +28,7 @@ room : (c : tie.After-slice-known3) → c .before .before .write-hex .result < l
 room c =
     let hex = c .before .before in
     let lines = hex .before .before .before .before in
-    let a = lines .before .before .before .before .before .args in
+    let a = at-start (lines .before) .args in
     omega (
       arith,
       length-printed (a .answers .now) (a .bytes .now),

@@ -22,26 +22,33 @@ book-requires c κs =
     let short = start r .pre .short in
     (strip-whole (r .read-words .ensures) (start r .pre .whole), (search needs, search needs))
 
+-- places behind the slices
+abbrev at-book : tie.After-answers3 → tie.After-book
+at-book c = c .before .before .before .before
+
+abbrev at-book-2 : tie.After-bytes3 → tie.After-book
+at-book-2 c = c .before .before .before .before .before
+
 slice-aggregate-print : tie.Need-slice-aggregate-print
 slice-aggregate-print c =
-    let book = c .before .before .before .before in
+    let book = at-book c in
     let r = read book in sym (answers-part (r .read-words .ensures) (start r .pre .whole) (book .book .ensures))
 
 slice-aggregate-print-2 : tie.Need-slice-aggregate-print-2
 slice-aggregate-print-2 c =
-    let book = c .before .before .before .before .before in
+    let book = at-book-2 c in
     let r = read book in sym (image-part (r .read-words .ensures) (start r .pre .whole) (book .book .ensures))
 
 print-requires : tie.Need-print-requires
 print-requires c κs =
-    let book = c .before .before .before .before .before in
+    let book = at-book-2 c in
     let r = read book in
     let pre = start r .pre in print-room (r .read-words .ensures) (pre .whole) (book .book .ensures) (pre .short) (pre .room)
 
 returns : tie.Need-returns
 returns c =
     let print = c .before .before in
-    let book = print .before .before .before .before .before .before in
+    let book = at-book-2 (print .before) in
     let r = read book in run-printed (r .read-words .ensures) (start r .pre .whole) (book .book .ensures) (print .print .ensures)
 
 pub run-spec : {M : Type 1} → statement M

@@ -6,21 +6,21 @@ use native.Mathlib.Omega.{arith}
 use mathlib.Core.Path.{_≡_, sym, ap, _∙_, subst, subst₂}
 use mathlib.Core.Bool.{Bool, true, false}
 use mathlib.Core.Logic.{_⊎_, inl, inr, ⊎-elim, _≢_}
-use mathlib.Core.List.{List, [], _∷_, _++_, map}
+use mathlib.Core.List.{List, [], _∷_, _++_}
 use lib.ListN.{length, getD}
 use lib.Dec.{eqb}
-use borrow.Author.Tests.{ne-eqb, eqb-true, eqb-false, ltb-true}
+use borrow.Author.Tests.{ne-eqb, eqb-true, eqb-false}
 use Rattle.plain.specs.declared.TraversalDirection.{TraversalDirection}
 use Rattle.plain.specs.declared.TraversalDirection.the-variants.{Outgoing, Incoming}
 use Rattle.plain.specs.declared.Slots.{Slots}
 use Rattle.plain.specs.declared.Counts.{Counts}
-use Rattle.plain.specs.Lists.{member, distinct, from}
+use Rattle.plain.specs.Lists.{member, distinct}
 use Rattle.plain.specs.Plain.{NodeSlot, EdgeSlot}
 use Rattle.plain.specs.Step.{Capacities}
 use Rattle.plain.specs.Reads.{live-count}
 use Rattle.plain.specs.WellFormed.{WellFormed}
 use Rattle.plain.specs.Laws.Booleans.{by-test, true-false}
-use Rattle.plain.specs.Laws.ListLaws.{map-same, member-below, member-first, distinct-apart}
+use Rattle.plain.specs.Laws.ListLaws.{member-first, distinct-apart}
 use Rattle.liveness.specs.Flags.{live-bit, live-flags, packed}
 use Rattle.liveness.specs.FlagLaws.{flags-same}
 use Rattle.shape.specs.Columns.{cell, end-at, first-at, tail-at, count-at, mark-at}
@@ -31,10 +31,7 @@ use Rattle.shape.specs.Kept.{same-capacities, same-nodes, same-edges, sa
 use Rattle.shape.specs.Fields.{Column, ends, adjacency, next, links, last, first, tail, count, marks, offsets, begins, AxisField, node-payload, edge-payload, node-bits, edge-bits, axis-word, SameFields}
 use Rattle.shape.specs.Laws.Chains.{in-front, seg-agree, run-is, run-empty, run-line, ring-below}
 use Rattle.shape.specs.Laws.Frames.{SameRing, base-of-agree, offset-within, run-list-unmarked, run-of-unmarked, ring-agrees, rings-agree}
-
--- numbers below a bound, with functions that agree there
-made-same : {A : Type 0} (f g : ℕ → A) (n : ℕ) → ((x : ℕ) → x < n → g x ≡ f x) → map g (from 0 n) ≡ map f (from 0 n)
-made-same f g n same = map-same g f (from 0 n) (λ x m. same x (ltb-true x n (sym (member-below x n) ∙ m)))
+use Rattle.shape.specs.Laws.Reading.{made-same}
 
 -- a line asks only the links of its own entries but the last
 line-but-last : {nx : ℕ → ℕ} (mx : ℕ → ℕ) {lo hi f t : ℕ} {xs : List ℕ} → ((x : ℕ) → In x xs → x ≢ t → mx x ≡ nx x) → Line nx lo hi f t xs → Line mx lo hi f t xs

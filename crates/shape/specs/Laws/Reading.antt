@@ -5,19 +5,20 @@ use mathlib.Core.Bool.{Bool, false}
 use mathlib.Core.List.{List, map, map-map}
 use native.Mathlib.Nat.{zero-add}
 use lib.ListN.{length, getD, length-map}
+use borrow.Author.Tests.{ltb-true}
 use Rattle.plain.specs.declared.TraversalDirection.{TraversalDirection}
 use Rattle.plain.specs.declared.TraversalDirection.the-variants.{Outgoing, Incoming}
 use Rattle.plain.specs.declared.Counts.{Counts}
 use Rattle.plain.specs.Lists.{from}
 use Rattle.plain.specs.Plain.{NodeSlot, EdgeSlot, incidence, end-of, node-bound, edge-bound, node-flags, edge-flags, no-node, no-edge}
-use Rattle.plain.specs.Laws.ListLaws.{getD-map, getD-from, length-from, map-getD, map-same}
+use Rattle.plain.specs.Laws.ListLaws.{getD-map, getD-from, length-from, map-getD, map-same, member-below}
 use Rattle.liveness.specs.Flags.{live-flags}
 use Rattle.liveness.specs.FlagLaws.{length-flags}
 use Rattle.shape.specs.Columns.{end-at}
 use Rattle.shape.specs.Laws.Refining.{ends-of}
 use Rattle.shape.specs.Shape.{Axis, node-capacity, edge-capacity, plain-of, adjacency-of, Words, node-live, edge-live, node-slot-at, edge-slot-at, axis-words, adjacency-in, axis-of, shape-of, axis-in, no-adjacency, node-flags-of, edge-flags-of}
 
--- a list made of the slots below n: its length, an entry, and its flags where they are those of live words
+-- a list made of the slots below n: its length, and an entry
 module _ {A : Type 0} (f : ℕ → A) (n : ℕ) where
   pub made-length : length (map f (from 0 n)) ≡ n
   made-length = length-map (from 0 n) f ∙ length-from 0 n
@@ -25,6 +26,11 @@ module _ {A : Type 0} (f : ℕ → A) (n : ℕ) where
   pub made-at : (x : ℕ) (d : A) → x < n → getD (map f (from 0 n)) x d ≡ f x
   made-at x d l = getD-map f (from 0 n) x 0 d (rw (length-from 0 n) l) ∙ ap f (getD-from 0 n x 0 l ∙ zero-add x)
 
+-- made by functions that agree there
+pub made-same : {A : Type 0} (f g : ℕ → A) (n : ℕ) → ((x : ℕ) → x < n → g x ≡ f x) → map g (from 0 n) ≡ map f (from 0 n)
+made-same f g n same = map-same g f (from 0 n) (λ x m. same x (ltb-true x n (sym (member-below x n) ∙ m)))
+
+-- flags that are those of live words
 made-flags : {A : Type 0} (slot : ℕ → A) (live-of : A → Bool) (words : List ℕ) (n : ℕ) → ((x : ℕ) → live-of (slot x) ≡ getD (live-flags words n) x false)
     → map live-of (map slot (from 0 n)) ≡ live-flags words n
 made-flags slot live-of words n are =

@@ -18,14 +18,21 @@ abbrev μ-loop : tie.MeasureT-loop
 μ-loop nodes₀ edges₀ live-nodes₀ live-edges₀ outgoing₀ incoming₀ words answers₀ count counts₀ i₀ nodes edges live-nodes live-edges outgoing incoming answers counts i =
     count - i
 
+-- places behind the slices
+abbrev at-start : tie.After-slice-known7 Inv-loop μ-loop → tie.Start Inv-loop μ-loop
+at-start c = c .before .before .before .before .before .before .before .before
+
+abbrev at-operation-at : tie.After-step-arg6 Inv-loop μ-loop → tie.After-operation-at Inv-loop μ-loop
+at-operation-at c = c .before .before .before .before .before .before
+
 loop-holds : tie.Need-loop-holds Inv-loop μ-loop
-loop-holds c = running-start (c .before .before .before .before .before .before .before .before .pre)
+loop-holds c = running-start (at-start c .pre)
 
 operation-at-requires : tie.Need-operation-at-requires Inv-loop μ-loop
 operation-at-requires c κs = running-words (c .before .loop .inv) (omega arith)
 
 step-requires : tie.Need-step-requires Inv-loop μ-loop
-step-requires c κs = c .before .before .before .before .before .before .before .before .loop .inv .ran .checked
+step-requires c κs = at-operation-at c .before .before .loop .inv .ran .checked
 
 -- the places on the way: the turn's beginning, and the end of its step
 abbrev begun : tie.After-step Inv-loop μ-loop → tie.In-loop Inv-loop μ-loop
@@ -40,7 +47,7 @@ write-answer-requires c κs = let turn = begun (stepped (c .before)) in running-
 add-i : tie.Need-add-i Inv-loop μ-loop
 add-i c =
     let turn = begun (stepped (c .before .before .before .before .before)) in
-    let s = turn .before .before .before .before .before .before .before .before .before .before in
+    let s = at-start (turn .before .before) in
     omega (arith, turn .loop-test .taken, s .good)
 
 loop-less : tie.Need-loop-less Inv-loop μ-loop
@@ -50,14 +57,14 @@ loop-again : tie.Need-loop-again Inv-loop μ-loop
 loop-again c =
     let answer = c .before .before .before in
     let call = stepped (answer .before .before) in
-    let decoded = call .before .before .before .before .before .before .before in
+    let decoded = at-operation-at (call .before) in
     let turn = decoded .before in
     running-turn (turn .before .loop .inv) (turn .loop-test .taken) (decoded .operation-at .ensures) (call .step .ensures) (answer .write-answer .ensures)
 
 -- every slice is as long as it was
 lengths : (c : tie.At-loop Inv-loop μ-loop)
     → let l = c .loop in
-    let a = c .before .before .before .before .before .before .before .before .args in
+    let a = at-start (c .before) .args in
     SameLengths (store (a .counts) (a .nodes .now) (a .edges .now) (a .live-nodes .now) (a .live-edges .now) (a .outgoing .now) (a .incoming .now))
     (store (l .counts) (l .nodes) (l .edges) (l .live-nodes) (l .live-edges) (l .outgoing) (l .incoming))
 lengths c = c .loop .inv .ran .lengths

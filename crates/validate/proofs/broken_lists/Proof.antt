@@ -65,11 +65,15 @@ returns-5 c =
     let k = h .before .before in
     rw (six k, walks-out h, sym (walks-rule _ Incoming (passed-six k)) ∙ accepted (c .before .walks-right2 .ensures) (c .if4 .left))
 
+-- places behind the slices
+abbrev at-start : tie.After-shared-slice-known6 → tie.Start
+at-start c = c .before .before .before .before .before .before
+
 pub broken-lists-spec : {M : Type 1} → statement M
 broken-lists-spec =
     tie.close
     (tie.spec
-    (λ c κs. runs-readable (lent (c .before .before .before .before .before .before)) Outgoing (c .before .before .before .before .before .before .pre .counted .r1))
+    (λ c κs. runs-readable (lent (at-start c)) Outgoing (at-start c .pre .counted .r1))
     returns
     (λ c κs. runs-readable (lent (start (c .before))) Incoming (start (c .before) .pre .counted .r1))
     returns-2

@@ -10,17 +10,21 @@ entry c = c .before .before .before .before .before .before
 translate-requires : tie.Need-translate-requires
 translate-requires c κs = let keep = c .before .before .before in translatable (entry keep .pre) (keep .keep-live .ensures)
 
+-- places behind the slices
+abbrev at-keep-live : tie.After-translate-arg → tie.After-keep-live
+at-keep-live c = c .before .before .before
+
 rebuild-requires : tie.Need-rebuild-requires
 rebuild-requires c κs =
     let translate = c .before .before .before in
-    let keep = translate .before .before .before .before in
+    let keep = at-keep-live (translate .before) in
     rebuildable (entry keep .pre) (keep .keep-live .ensures) (translate .translate .ensures)
 
 returns : tie.Need-returns
 returns c =
     let rebuild = c .before .before in
     let translate = rebuild .before .before .before .before in
-    let keep = translate .before .before .before .before in
+    let keep = at-keep-live (translate .before) in
     compacted (entry keep .pre) (keep .keep-live .ensures) (translate .translate .ensures) (rebuild .rebuild .ensures)
 
 pub compact-axis-spec : {M : Type 1} → statement M

@@ -30,15 +30,19 @@ read-axis-requires c κs =
     let ins = c .before in
     readable-at (sources ins .edges-start .ensures) (outs ins .outs-start .ensures) (entry ins .pre .sources)
 
+-- places behind the slices
+abbrev at-read-axis : tie.After-read-axis-arg2 → tie.After-read-axis
+at-read-axis c = c .before .before .before
+
 read-axis-requires-2 : tie.Need-read-axis-requires-2
 read-axis-requires-2 c κs =
-    let ins = c .before .before .before .before .before in
+    let ins = at-read-axis c .before .before in
     readable-at (targets ins) (ins .ins-start .ensures) (entry ins .pre .targets)
 
 returns : tie.Need-returns
 returns c =
     let second = c .before .before in
-    let first = second .before .before .before .before in
+    let first = at-read-axis (second .before) in
     let ins = first .before .before in
     record {
       sources = read-at (sources ins .edges-start .ensures) (outs ins .outs-start .ensures) (first .read-axis .ensures);

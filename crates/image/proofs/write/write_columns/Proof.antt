@@ -20,10 +20,14 @@ write-lists-requires c κs =
     let widths = slots .before .before in
     lists-fit (known widths .before .pre) (widths .before .least-width .ensures) (widths .least-width2 .ensures) (slots .write-slots .ensures)
 
+-- places behind the slices
+abbrev at-write-slots : tie.After-write-lists-arg → tie.After-write-slots
+at-write-slots c = c .before .before .before
+
 write-padding-requires : tie.Need-write-padding-requires
 write-padding-requires c κs =
     let lists = c .before .before .before in
-    let slots = lists .before .before .before .before in
+    let slots = at-write-slots (lists .before) in
     let widths = slots .before .before in
     padding-fits (known widths .before .pre) (widths .before .least-width .ensures) (widths .least-width2 .ensures) (slots .write-slots .ensures)
     (lists .write-lists .ensures)
@@ -32,7 +36,7 @@ returns : tie.Need-returns
 returns c =
     let padded = c .before .before in
     let lists = padded .before .before .before .before in
-    let slots = lists .before .before .before .before in
+    let slots = at-write-slots (lists .before) in
     let widths = slots .before .before in
     wrote-image (known widths .before .pre) (widths .before .least-width .ensures) (widths .least-width2 .ensures) (slots .write-slots .ensures)
     (lists .write-lists .ensures) (padded .write-padding .ensures .1) (below-of _ (λ i l. omega (arith, known widths .slice-known .given i)))

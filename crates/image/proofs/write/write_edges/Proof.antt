@@ -20,9 +20,16 @@ Inv-loop bytes₀ position width sources targets payloads at₀ e₀ bytes at e 
 abbrev μ-loop : tie.MeasureT-loop
 μ-loop bytes₀ position width sources targets payloads at₀ e₀ bytes at e = length payloads - e
 
+-- places behind the slices
+abbrev at-start : tie.After-shared-slice-known3 Inv-loop μ-loop → tie.Start Inv-loop μ-loop
+at-start c = c .before .before .before .before
+
+abbrev at-in-loop : tie.After-shared-slice-known6 Inv-loop μ-loop → tie.In-loop Inv-loop μ-loop
+at-in-loop c = c .before .before .before .before
+
 loop-holds : tie.Need-loop-holds Inv-loop μ-loop
 loop-holds c =
-    let s = c .before .before .before .before in
+    let s = at-start c in
     let a = s .args in (
       omega arith,
       strung-none (a .bytes .now) (a .position) (record-width (a .width)) (length (a .payloads .now))
@@ -31,20 +38,20 @@ loop-holds c =
 
 write-record-requires : tie.Need-write-record-requires Inv-loop μ-loop
 write-record-requires c κs =
-    let turn = c .before .before .before .before in
-    record-room (turn .before .before .before .before .before .before .pre) (turn .before .loop .inv .1) (turn .loop-test .taken)
+    let turn = at-in-loop c in
+    record-room (at-start (turn .before .before) .pre) (turn .before .loop .inv .1) (turn .loop-test .taken)
 
 add-at-2 : tie.Need-add-at-2 Inv-loop μ-loop
 add-at-2 c =
-    let turn = c .before .before .before .before .before .before .before in
-    let fits = record-room (turn .before .before .before .before .before .before .pre) (turn .before .loop .inv .1) (turn .loop-test .taken) in
+    let turn = at-in-loop (c .before .before .before) in
+    let fits = record-room (at-start (turn .before .before) .pre) (turn .before .loop .inv .1) (turn .loop-test .taken) in
     omega (arith, fits .room .counted)
 
 loop-again : tie.Need-loop-again Inv-loop μ-loop
 loop-again c =
     let written = c .before .before in
-    let turn = written .before .before .before .before .before in
-    let a = turn .before .before .before .before .before .before .args in (
+    let turn = at-in-loop (written .before) in
+    let a = at-start (turn .before .before) .args in (
       omega (arith, turn .loop-test .taken),
       strung-more (λ e. length-record-bits (a .width) (record-at (a .sources .now) (a .targets .now) (a .payloads .now) e)) (turn .before .loop .inv .1)
           (written .write-record .ensures) (omega arith),
@@ -53,7 +60,7 @@ loop-again c =
 returns : tie.Need-returns Inv-loop μ-loop
 returns c =
     let l = c .before .loop in
-    let a = c .before .before .before .before .before .before .args in
+    let a = at-start (c .before .before) .args in
     rw (records-strung (a .width) (record-at (a .sources .now) (a .targets .now) (a .payloads .now)) (length (a .payloads .now))) at
     (strung-all (λ e. length-record-bits (a .width) (record-at (a .sources .now) (a .targets .now) (a .payloads .now) e)) (l .inv .1) (length (a .payloads .now))
     (omega (arith, c .loop-test .left)))

@@ -20,9 +20,13 @@ returns c =
     let sized = c .before in
     bytes-short (sized .image-bytes .ensures ∙ stored-size (known sized .before .pre) (small sized)) (c .if1 .taken)
 
+-- places behind the slices
+abbrev at-else1 : tie.After-write-columns-arg7 → tie.Else1
+at-else1 c = c .before .before .before .before .before .before .before
+
 write-columns-requires : tie.Need-write-columns-requires
 write-columns-requires c κs =
-    let room = c .before .before .before .before .before .before .before in
+    let room = at-else1 c in
     let sized = room .before in
     let a = known sized .before .args in
     let same : length (a .edges .now) + a .m - length (a .edges .now) ≡ a .m = omega arith in
@@ -31,7 +35,7 @@ write-columns-requires c κs =
 returns-2 : tie.Need-returns-2
 returns-2 c =
     let written = c .before .before in
-    let room = written .before .before .before .before .before .before .before .before in
+    let room = at-else1 (written .before) in
     let sized = room .before in
     let a = known sized .before .args in
     let same : length (a .edges .now) + a .m - length (a .edges .now) ≡ a .m = omega arith in

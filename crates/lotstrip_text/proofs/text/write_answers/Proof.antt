@@ -18,15 +18,19 @@ Inv-loop text₀ at answers count to₀ position₀ text to position =
 abbrev μ-loop : tie.MeasureT-loop
 μ-loop text₀ at answers count to₀ position₀ text to position = count - position
 
+-- places behind the slices
+abbrev at-in-loop : tie.After-shared-slice-known3 Inv-loop μ-loop → tie.In-loop Inv-loop μ-loop
+at-in-loop c = c .before .before .before
+
 write-line-requires : tie.Need-write-line-requires Inv-loop μ-loop
 write-line-requires c κs =
-    let l = c .before .before .before .before in
+    let l = at-in-loop c .before in
     writing-room (l .loop .inv .1) (lines-next (l .before .before .before .args .answers .now) (l .loop .position) (omega arith))
 
 loop-again : tie.Need-loop-again Inv-loop μ-loop
 loop-again c =
     let call = c .before .before in
-    let l = call .before .before .before .before .before in
+    let l = at-in-loop (call .before) .before in
     (refl, writing-more (l .loop .inv .1) (lines-next (l .before .before .before .args .answers .now) (l .loop .position) (omega arith)) (call .write-line .ensures))
 
 returns : tie.Need-returns Inv-loop μ-loop

@@ -28,15 +28,19 @@ abbrev μ-loop : tie.MeasureT-loop
 loop-holds : tie.Need-loop-holds Inv-loop μ-loop
 loop-holds c = (follow-start _ _ _, refl)
 
+-- places behind the slices
+abbrev at-start : tie.After-slice-known Inv-loop μ-loop → tie.Start Inv-loop μ-loop
+at-start c = c .before .before .before
+
 -- the entry passes
 right : (c : tie.Else1 Inv-loop μ-loop)
     → let s = c .before .before .before in
-    let a = s .before .before .before .before .args in
+    let a = at-start (s .before) .args in
     entry-test (a .bound) (a .live) (live-flags (a .words .now) (a .bound)) (s .loop .e) ≡ true
 right c = accepted (c .before .entry-right .ensures) (c .if1 .left)
 
 below : (c : tie.Else1 Inv-loop μ-loop)
-    → let s = c .before .before .before in s .loop .e < s .before .before .before .before .args .bound
+    → let s = c .before .before .before in s .loop .e < at-start (s .before) .args .bound
 below c = entry-below _ _ _ _ (right c)
 
 returns : tie.Need-returns Inv-loop μ-loop

@@ -5,10 +5,14 @@ use Rattle.adjacency.specs.WalkLaws.{next-length, given-seekable, given-walk}
 use Rattle.validate.proofs.walks.walk_right.Statement.{statement}
 use Rattle.validate.proofs.walks.walk_right.Tie as tie
 
+-- places behind the slices
+abbrev at-start : tie.After-slice-known → tie.Start
+at-start c = c .before .before .before
+
 list-right-requires : tie.Need-list-right-requires
 list-right-requires c κs =
     let s = c .before .before .before .before .before in
-    let pre = s .before .before .before .before .pre in
+    let pre = at-start (s .before) .pre in
     let next = c .before .before .next-of .ensures in
     record {
       seekable = given-seekable (pre .walkable) (s .start .ensures) (c .before .before .before .entries-of .ensures) next;
@@ -22,7 +26,7 @@ returns c =
     let t = v .before .before in
     let s = t .before .before .before .before in
     rw
-    (given-walk (s .before .before .before .before .pre .walkable) (s .start .ensures) (t .before .before .entries-of .ensures) (t .before .next-of .ensures)
+    (given-walk (at-start (s .before) .pre .walkable) (s .start .ensures) (t .before .before .entries-of .ensures) (t .before .next-of .ensures)
     (t .tombstoned .ensures)) at
     (v .list-right .ensures)
 

@@ -10,9 +10,13 @@ use Rattle.validate.proofs.Flattening.{flat-readable, some-node, walks-
 use Rattle.validate.proofs.walks.walks_flat.Statement.{statement}
 use Rattle.validate.proofs.walks.walks_flat.Tie as tie
 
+-- places behind the slices
+abbrev at-start : tie.After-shared-slice-known3 → tie.Start
+at-start c = c .before .before .before
+
 -- what can be read past the tests of the nodes
-pre : (c : tie.Else3) → let a = c .before .before .before .before .before .before .before .before .before .args in FlatReadable (a .axis .now) (a .edges) (a .nodes) (a .counts)
-pre c = let n = c .before .before .before .before .before in flat-readable (n .before .before .before .before .pre) (some-node (n .if1 .left))
+pre : (c : tie.Else3) → let a = at-start (c .before .before .before .before .before .before) .args in FlatReadable (a .axis .now) (a .edges) (a .nodes) (a .counts)
+pre c = let n = c .before .before .before .before .before in flat-readable (at-start (n .before) .pre) (some-node (n .if1 .left))
 
 words-below-requires : tie.Need-words-below-requires
 words-below-requires c κs = let r = pre c .readable in omega (arith, r .sized .room, r .nodes .bound-within)
@@ -30,7 +34,7 @@ returns-6 c =
     let l = w .before .before in
     let s = l .before .before in
     let n = s .before .before in
-    λ h. walks-are-right (n .before .before .before .before .pre) (some-node (n .if1 .left)) (s .if2 .left)
+    λ h. walks-are-right (at-start (n .before) .pre) (some-node (n .if1 .left)) (s .if2 .left)
     (live-sound _ _ (sym (l .live-right .ensures) ∙ not-false _ (w .before .if3 .left))) (sym (w .words-below .ensures) ∙ not-false _ (b .before .if4 .left))
     (b .base-flat .ensures (not-false _ (c .before .if5 .left))) (c .delta-flat .ensures h)
 

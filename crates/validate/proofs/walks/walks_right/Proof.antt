@@ -20,10 +20,14 @@ abbrev μ-loop : tie.MeasureT-loop
 loop-holds : tie.Need-loop-holds Inv-loop μ-loop
 loop-holds c = walking-start _ _ _ _ _ _ (replicate 512 0) (clear-map 512) refl
 
+-- places behind the slices
+abbrev at-start : tie.After-struct-known Inv-loop μ-loop → tie.Start Inv-loop μ-loop
+at-start c = c .before .before .before .before
+
 walk-right-requires : tie.Need-walk-right-requires Inv-loop μ-loop
 walk-right-requires c κs =
     let k = c .before .before in
-    let s = k .before .before .before .before .before .before .before .before in
+    let s = at-start (k .before .before .before .before) in
     record { walkable = s .pre .walkable _ (k .loop-test .taken); marks-long = omega (arith, k .before .loop .inv .long) }
 
 -- the walks are flat
@@ -46,7 +50,7 @@ loop-again c =
 returns-3 : tie.Need-returns-3 Inv-loop μ-loop
 returns-3 c =
     let k = c .before .before in
-    c .live-marked .ensures ∙ walking-done _ _ _ _ _ _ (k .before .loop .inv) (k .loop-test .left) (k .before .before .before .before .before .before .before .before .pre .ends-below)
+    c .live-marked .ensures ∙ walking-done _ _ _ _ _ _ (k .before .loop .inv) (k .loop-test .left) (at-start (k .before .before .before .before) .pre .ends-below)
 
 pub walks-right-spec : {M : Type 1} → statement M
 walks-right-spec =
