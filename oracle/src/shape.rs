@@ -203,6 +203,7 @@ impl Shape {
             .collect()
     }
 
+    #[cfg(ported)]
     pub fn part(&self, direction: TraversalDirection, node: usize) -> &Part {
         &self.sides[side_of(direction)].parts[node]
     }
