@@ -118,7 +118,8 @@ lot_changed lot_fresh(LOT_STORE_READ);
 lot_changed lot_strip(lot_counts counts, LOT_STORE_WRITTEN, const uint32_t *words, size_t words_length, uint32_t *answers, size_t answers_length);
 
 /* Compaction: drops the removed slots and numbers the live ones from 0 in slot order; the bounds are then their counts. Writes to `node_map` and `edge_map` the
- * new slot of every slot before, LOT_NONE where it was removed, and to `work` the out-lists of all nodes, joined, and then the in-lists, by the new numbers.
+ * new slot of every slot before, LOT_NONE where it was removed, and to `work` the out-lists of all nodes, joined, and then the in-lists, by the new numbers
+ * and each in its order.
  *
  * Answers 0, with the counts afterwards, which the next call takes. Refuses 1, then 2: `node_map` (the node bound), `edge_map` (the edge bound), `work` (twice the
  * live edges); then the counts are those given. Leaves the words of the three slices past what is needed. */

@@ -60,7 +60,7 @@ things! {
         "A short second map gives NONE.";
     Work: "work slices",
         "Work then holds the new out adjacency, then the in adjacency";
-    RustOrder: "work slices of the Rust in another order than the walks, where it is no yardstick",
+    RustOrder: "work slices of the Rust by its own order, where it is no yardstick",
         "the other stores are named in the differences file";
     Again: "second compactions",
         "Compaction drops the dead slots; an identity map holds i at each i below the bound";

@@ -270,7 +270,8 @@ impl LotBook {
     }
 
     /// Drops the removed slots and numbers the live ones from 0 in slot order.
-    /// Answers the maps from old slots to new ones, and the lists by new numbers.
+    /// Answers the maps from old slots to new ones, and the lists by new numbers,
+    /// each in its order.
     ///
     /// # Errors
     /// 1 (the first broken rule).

@@ -1,7 +1,6 @@
 -- DEMAND 3, one theorem about two whole lists of calls. Document 01, sentence by sentence:
 -- "It is one claim about two whole lists of calls, not one for each call." `demand-3`: of any two runs, in any memory, with whatever is lent, each from a fresh
--- store on (`history`), or from an image read into memory that may hold anything. Its image half is the case of runs of `checked-images`, which is of any two checked
--- stores.
+-- store on (`history`), from an image read into memory that may hold anything, or from a store from elsewhere that passes the check.
 -- "Every number answered in them follows from the plain lists and the calls' arguments, lengths included, never from the store's counts or words": `answers` and
 -- `numbers` of `Follows`; of the closing calls `Compacts` and `Writes`.
 -- "a refused call or operation leaves the plain lists and the store as they were": `refusals` of `Follows`.
@@ -46,9 +45,9 @@ pub record Demand3 (origin₁ origin₂ : Origin) (w₁ w₂ : Words) (requests�
   pub images : Done c₁ → Done c₂
       → (image-of c₁ ≡ image-of c₂) ↔ (survivors (history-of origin₁ w₁ requests₁ .lists) ≡ survivors (history-of origin₂ w₂ requests₂ .lists))
 
--- The image half, of any two checked stores, wherever they come from, ring order included. Document 02, No. 9: "compaction, joining and the image keep every walk
--- of every store that passes the check, ring order included. So equality of images now covers all checked stores and not only those built by operations." Where the
--- closing calls answer 0, the images are equal exactly when what survives of the plain lists is equal.
+-- The image half, of any two checked stores, wherever they come from. Document 02, No. 9: "compaction, joining and the image keep every walk of every store that
+-- passes the check, ring order included. So equality of images now covers all checked stores and not only those built by operations." Where the closing calls answer 0,
+-- the images are equal exactly when what survives of the plain lists is equal. `images` of demand 3 is its case of runs.
 pub checked-images : {w₁ w₂ : Words} → Checked w₁ → Checked w₂ → (c₁ : Closing w₁) (c₂ : Closing w₂) → Done c₁ → Done c₂
     → (image-of c₁ ≡ image-of c₂) ↔ (survivors (lists w₁) ≡ survivors (lists w₂))
 checked-images {w₁} {w₂} k₁ k₂ c₁ c₂ d₁ d₂ =

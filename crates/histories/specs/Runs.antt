@@ -1,12 +1,15 @@
--- Runs: calls made one after the other on one store's memory, from a fresh store on or from an image read into any memory. What a call came to is what its
--- entry's contract says and nothing else: the records `FreshOf`, `StripOf`, `CompactOf` and `ReadOf` are those that the contracts cite.
+-- Runs: calls made one after the other on one store's memory, from a fresh store on, from an image read into any memory, or from any store that passes the check.
+-- What a call came to is what its entry's contract says and nothing else: the records `FreshOf`, `StripOf`, `CompactOf` and `ReadOf` are those that the contracts
+-- cite.
 use Prim.Native.Nat.{ℕ}
 use mathlib.Core.List.{List, [], _∷_}
 use lib.ListN.{length}
 use Rattle.plain.specs.Step.{State}
 use Rattle.plain.specs.Calls.{fresh-state, read-state}
 use Rattle.plain.specs.History.{Call, Strip, Compaction, Reading}
-use Rattle.shape.specs.Shape.{Words}
+use Rattle.shape.specs.Shape.{Words, shape-of}
+use Rattle.shape.specs.Checked.{Checked}
+use Rattle.shape.specs.Steps.{state-of}
 use Rattle.strip.specs.Fresh.{FreshOf}
 use Rattle.strip.specs.Strip.{StripOf}
 use Rattle.compact.specs.Calls.{CompactOf}
@@ -61,25 +64,28 @@ pub data Turns : Words → List Request → List Turn → Type 0 where
   turn : {w : Words} {request : Request} {t : Turn} {requests : List Request} {turns : List Turn} → Turned w request t → Turns (t .store) requests turns
       → Turns w (request ∷ requests) (t ∷ turns)
 
--- What a run starts from. Only "in a checked store that neither a fresh one nor an image led to" may compaction change the order of a list, so that the claim is
--- due of stores that came from either.
+-- What a run starts from.
 pub data Origin : Type 0 where
   -- a fresh store
   FreshStore : Origin
   -- an image's bytes, read into memory that may hold anything
   ImageOf : List ℕ → Origin
+  -- a store from elsewhere that passes the check: its plain lists, and whether it is compact
+  StoreOf : State → Origin
 
--- the state that it has then: of the bytes alone, never of what the memory held
+-- the state that it has then: of an image by the bytes alone, never by what the memory held
 abbrev pub first-state : Origin → State
 first-state FreshStore = fresh-state
 first-state (ImageOf bytes) = read-state bytes
+first-state (StoreOf s) = s
 
--- Store w is made so: the entry answered 0.
+-- Store w is made so: the entry answered 0, or it passes the check.
 pub data Made (w : Words) : Origin → Type 0 where
   made-fresh : FreshOf w 0 0 → Made w FreshStore
   made-by-reading : {memory : Words} {bytes : List ℕ} {value : ℕ} → ReadOf memory bytes 0 value w → Made w (ImageOf bytes)
+  made-elsewhere : Checked w → Made w (StoreOf (state-of (shape-of w)))
 
--- A run: a store w is made, and calls on it come to these.
+-- A run: a store w is there, and calls on it come to these.
 pub record Ran (origin : Origin) (w : Words) (requests : List Request) (turns : List Turn) : Type 0 where
   pub made : Made w origin
   pub went : Turns w requests turns

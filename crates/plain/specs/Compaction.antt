@@ -1,7 +1,7 @@
 -- Survivors, and compaction of the plain lists. Document 01, "Plain lists": "Compaction drops the dead slots, numbers the live ones from 0 in slot order,
 -- makes their counts the bounds and renumbers ends and lists, each list in its order."
--- "Only in a checked store that neither a fresh one nor an image led to, a list whose base part or run ascends (its dead entries read too) comes out in slot
--- order, as in the Rust": that speaks of the words of a store and not of its lists alone, and stands with the store's shape.
+-- The sentence after it, of stores that neither a fresh one nor an image led to, is superseded by document 02, No. 9: "For us the walk is the record: compaction,
+-- joining and the image keep every walk of every store that passes the check, ring order included."
 use Prim.Native.Nat.{ℕ, zero, suc, _+_}
 use mathlib.Core.Bool.{Bool, true, false, cond}
 use mathlib.Core.List.{List, [], _∷_, _++_, map}

@@ -3,7 +3,7 @@
 use Prim.Native.Nat.{ℕ, suc, _-_, _*_}
 use mathlib.Core.Bool.{Bool, true, false, cond, _&&_, not}
 use mathlib.Core.Option.{Option, none, some}
-use mathlib.Core.List.{List, [], _∷_, _++_, map}
+use mathlib.Core.List.{List, [], _++_, map}
 use lib.ListN.{length, getD}
 use lib.Dec.{eqb, ltb}
 use Rattle.plain.specs.declared.TraversalDirection.{TraversalDirection}

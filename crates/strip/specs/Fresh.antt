@@ -1,5 +1,5 @@
 -- What making a store comes to. "A fresh store is empty with bounds 0." "Fresh: 13, nodes before edges, then 2."
-use Prim.Native.Nat.{ℕ, _+_, _*_, _≤_, _<_}
+use Prim.Native.Nat.{ℕ, _≤_}
 use mathlib.Core.Path.{_≡_, refl, sym, ap, subst, _∙_}
 use mathlib.Core.List.{List}
 use mathlib.Core.Logic.{inl}

@@ -21,7 +21,7 @@ use Rattle.shape.specs.Laws.Judging.{checked-sound}
 use Rattle.strip.specs.Strip.{StripOf, stripped, same-capacities}
 use Rattle.compact.specs.Calls.{compacting-of, CompactOf}
 use Rattle.image.specs.Calls.{ReadOf}
-use Rattle.histories.specs.Runs.{Request, StripInto, CompactionInto, ReadingOf, call-of, Heard, Turn, Turned, stripped as by-strip, compacted as by-compaction, read as by-reading, Turns, no-turn, turn, Origin, first-state, Made, made-fresh, made-by-reading, Ran}
+use Rattle.histories.specs.Runs.{Request, StripInto, CompactionInto, ReadingOf, call-of, Heard, Turn, Turned, stripped as by-strip, compacted as by-compaction, read as by-reading, Turns, no-turn, turn, Origin, first-state, Made, made-fresh, made-by-reading, made-elsewhere, Ran}
 use Rattle.histories.specs.Follows.{told, CanAnswer, no-answer, one-answer, RefusalKeeps, no-refusal, one-kept, Follows}
 use Rattle.histories.specs.Laws.Calling.{roomy-read, checked-long, call-numbers}
 
@@ -170,6 +170,7 @@ follows-from {caps} {s} at (turn {request = request} one rest) =
 made-stands : {origin : Origin} {w : Words} → Made w origin → Stands (capacities w) (first-state origin) w
 made-stands (made-fresh of) = record { checked = of .checked refl; sized = refl; state = of .state }
 made-stands (made-by-reading of) = record { checked = of .checked refl; sized = refl; state = of .state refl }
+made-stands (made-elsewhere k) = record { checked = k; sized = refl; state = refl }
 
 pub run-follows : {origin : Origin} {w : Words} {requests : List Request} {turns : List Turn} → Ran origin w requests turns
     → Follows (capacities w) (first-state origin) w requests turns
