@@ -150,7 +150,8 @@ impl Trio {
     /// Compacts, compares all that a compaction leaves, and gives it.
     pub fn compact(&mut self, tally: &mut Tally) -> Result<Compaction, Difference> {
         let place = || "compaction".to_string();
-        let in_rust_order = (!self.shape.in_order()).then(|| self.in_rust_order().compaction());
+        let in_order = Shape::of(&self.rust.graph).in_order();
+        let in_rust_order = (!in_order).then(|| self.in_rust_order().compaction());
         let expected = self.model.compact();
         let given = self.rust.graph.compact();
         let maps = [expected.node_map.clone(), expected.edge_map.clone()];
@@ -188,13 +189,14 @@ impl Trio {
     }
 
     /// The lists in the order in which the Rust's compaction takes them: it puts
-    /// some in slot order, and the shape tells which.
+    /// some in slot order, and its own shape tells which.
     pub fn in_rust_order(&self) -> Plain {
+        let shape = Shape::of(&self.rust.graph);
         let mut plain = self.model.plain.clone();
         let sides = [&mut plain.outgoing, &mut plain.incoming];
         for (direction, incidence) in DIRECTIONS.into_iter().zip(sides) {
             for (node, list) in (0..).zip(&mut incidence.lists) {
-                *list = self.shape.rust_order(direction, node);
+                *list = shape.rust_order(direction, node);
             }
         }
         plain
@@ -253,7 +255,7 @@ impl Trio {
         tally.same(Thing::LiveList, place, plain.live_nodes(), nodes)?;
         tally.same(Thing::LiveList, place, plain.live_edges(), edges)?;
         let shape = Shape::of(&self.rust.graph);
-        tally.same(Thing::Parts, place, &self.shape, &shape)?;
+        tally.same(Thing::Parts, place, self.shape.struck(), shape.struck())?;
         if !self.foreign {
             tally.same(Thing::Reached, place, None, shape.not_reached())?;
         }

@@ -27,13 +27,13 @@ mod words;
 use crate::calls::{self, Lots};
 use crate::compare::Touched;
 use crate::generate::Step;
-use crate::graph::store::Renumbering;
+use crate::graph::store::{Graph, Renumbering};
 #[cfg(feature = "serde")]
 use crate::lots::LotBook;
 use crate::model::{Answer, Capacities, DIRECTIONS, Model, NONE, Operation};
 use crate::rust_store::{self, RustStore, edge, node, record};
 use crate::sequences::{self, Same, Sides};
-use crate::shape::side_of;
+use crate::shape::{Shape, side_of};
 use crate::tally::{Difference, Tally, Thing};
 use exports::{Counts, Slots};
 use live::Live;
@@ -69,6 +69,7 @@ trait Port {
 /// strip or each of its operations is refused, every word of the memory stays.
 fn compare_strip(
     model: &mut Model,
+    shape: &mut Shape,
     rust: &mut RustStore,
     port: &mut impl Port,
     words: &[u32],
@@ -88,6 +89,11 @@ fn compare_strip(
         tally.answered(operation, answer);
         refused &= answer.number != 0;
         *pair = [answer.number, answer.value as u32];
+        if let Some(operation) = Operation::decode(operation)
+            && answer.number == 0
+        {
+            shape.operation(operation, answer.value);
+        }
     }
     let before = refused.then(|| port.words());
     let expected = (answered.err().unwrap_or(Answer::done(0)), expected);
@@ -102,6 +108,8 @@ fn compare_strip(
 #[derive(Clone)]
 pub struct Ported {
     model: Model,
+    /// What the port's runs hold, dead entries included.
+    shape: Shape,
     rust: RustStore,
     memory: Memory,
     /// The latest compaction's maps.
@@ -114,6 +122,7 @@ impl Sides for Ported {
     fn fresh(capacities: Capacities) -> Self {
         Self {
             model: Lots::fresh(capacities),
+            shape: Shape::of(&Graph::new()),
             rust: RustStore::fresh(capacities),
             memory: Memory::fresh(capacities),
             renumbering: None,
@@ -155,6 +164,7 @@ impl Ported {
     pub fn foreign(model: Model, rust: RustStore) -> Self {
         Self {
             memory: Memory::of(&rust),
+            shape: Shape::of(&rust.graph),
             model,
             rust,
             renumbering: None,
@@ -164,16 +174,18 @@ impl Ported {
     fn strip(&mut self, words: &[u32], length: usize, tally: &mut Tally) -> Same {
         let Self {
             model,
+            shape,
             rust,
             memory,
             ..
         } = self;
-        compare_strip(model, rust, memory, words, length, tally)
+        compare_strip(model, shape, rust, memory, words, length, tally)
     }
 
     fn compact(&mut self, tally: &mut Tally) -> Same {
         let kept = self.model.compact().plain;
         let (renumbering, _) = self.rust.compact_as(&kept);
+        self.shape = Shape::compacted(&kept);
         maps::compare_lookups(&renumbering, tally)?;
         if let Some(earlier) = &self.renumbering {
             maps::compare_composed(earlier, &renumbering, tally)?;
@@ -187,6 +199,7 @@ impl Ported {
         let read = calls::read_image(nodes.into(), edges.into(), bytes);
         self.model = read.expect("a written image can be read");
         self.rust.put(&self.model.plain);
+        self.shape = Shape::compacted(&self.model.plain);
         self.renumbering = None;
         self.rebuild(tally)
     }
@@ -280,11 +293,17 @@ impl Ported {
 
     /// Base parts, runs and rings of every node, as the columns hold them.
     fn compare_parts(&self, reader: &Reader, tally: &mut Tally) -> Same {
+        let graph = &self.rust.graph;
         for (side, direction) in reader.sides.iter().zip(DIRECTIONS) {
-            for (node, part) in self.rust.graph.parts(direction).iter().enumerate() {
+            for (node, part) in graph.parts(direction).into_iter().enumerate() {
                 let place = || format!("node {node}, {direction:?}");
-                tally.ran(part.run.as_ref().map_or(0, Vec::len));
-                tally.same(Thing::PortPart, place, part, &side.part(node))?;
+                let given = side.part(node);
+                tally.ran(given.run.as_ref().map_or(0, Vec::len));
+                let held = self.shape.part(direction, node);
+                tally.same(Thing::PortRun, place, held, &given)?;
+                let live = |slot| graph.contains_edge(edge(slot));
+                let [part, given] = [part, given].map(|part| part.struck(live));
+                tally.same(Thing::PortPart, place, &part, &given)?;
                 let ends = [part.ring.first(), part.ring.last()];
                 let expected = ends.map(|end| end.copied().unwrap_or(NONE));
                 let given = side.ring_ends(node);

@@ -1,9 +1,12 @@
-//! What the Rust holds in its vectors, as lists of edge numbers: for every node
-//! and direction a base part, a run or none, and a ring, dead entries included.
+//! What a store holds below its plain lists, as lists of edge numbers: for every
+//! node and direction a base part, a run or none, and a ring, dead entries
+//! included.
 //!
 //! This is the level between the store's words and the plain lists. Its rules
-//! for redirecting and moving are those that the port is proved against, so they
-//! are compared with the Rust's own run contents after every operation.
+//! for redirecting and moving are those that the port is proved against. The port
+//! is compared with it as it is, dead entries included. With what the Rust holds
+//! it is compared, as the port is, after the dead entries of runs are struck from
+//! both sides: the Rust keeps those of a run whose length is no power of two.
 
 use crate::graph::store::Graph;
 use crate::graph::traverse::TraversalDirection;
@@ -22,6 +25,15 @@ impl Part {
     /// What is read before the ring: a run hides the base, an empty one too.
     pub fn front(&self) -> &[u32] {
         self.run.as_deref().unwrap_or(&self.base)
+    }
+
+    /// "run contents are from now on matched after dead entries are struck from
+    /// both sides."
+    pub fn struck(mut self, live: impl Fn(u32) -> bool) -> Self {
+        if let Some(run) = &mut self.run {
+            run.retain(|&edge| live(edge));
+        }
+        self
     }
 
     /// What keeps the Rust from being the yardstick of a compaction, or nothing:
@@ -62,12 +74,9 @@ pub const fn side_of(direction: TraversalDirection) -> usize {
     }
 }
 
-/// "`sweep` drops dead slots only if some edge is removed and the run's length
-/// is a power of two."
+/// "`sweep` now drops dead slots at every edit of a run".
 fn sweep(run: &mut Vec<u32>, live: &[bool]) {
-    if run.len().is_power_of_two() {
-        run.retain(|&edge| live[edge as usize]);
-    }
+    run.retain(|&edge| live[edge as usize]);
 }
 
 impl Side {
@@ -98,7 +107,7 @@ impl Side {
 
     fn shift(&mut self, old: u32, new: u32, live: &[bool]) {
         let mut moved = self.taken(old, live);
-        moved.retain(|&edge| live[edge as usize]);
+        sweep(&mut moved, live);
         self.parts[old as usize].run = Some(Vec::new());
         for &edge in &moved {
             self.ends[edge as usize] = new;
@@ -192,6 +201,20 @@ impl Shape {
         entries
             .filter(|&edge| self.live_edges[edge as usize])
             .collect()
+    }
+
+    #[cfg(ported)]
+    pub fn part(&self, direction: TraversalDirection, node: usize) -> &Part {
+        &self.sides[side_of(direction)].parts[node]
+    }
+
+    /// With the dead entries struck from every run.
+    pub fn struck(&self) -> Self {
+        let mut struck = self.clone();
+        for part in struck.sides.iter_mut().flat_map(|side| &mut side.parts) {
+            *part = std::mem::take(part).struck(|edge| self.live_edges[edge as usize]);
+        }
+        struck
     }
 
     /// Whether the Rust is the yardstick of this store's compaction.

@@ -47,7 +47,7 @@ things! {
     Compact: "yes or no: compact",
         "M1 fresh: bounds 0, compact. M4 redirect to the same end on a compact store: still compact.";
     Parts: "base parts, runs and rings of all nodes",
-        "`sweep` drops dead slots only if some edge is removed and the run's length is a power of two.";
+        "Against the Rust, run contents are from now on matched after dead entries are struck from both sides.";
     Reached: "orders and ends of base parts, runs and rings",
         "An edge is in at most one run per direction";
     Map: "maps of a compaction",
@@ -99,7 +99,9 @@ things! {
     PortCheck: "port: the check, of stores that steps led to and of damaged ones",
         "The first broken rule is the value of answer 1.";
     PortPart: "port: base parts, runs and rings",
-        "`sweep` drops dead slots only if some edge is removed and the run's length is a power of two.";
+        "Against the Rust, run contents are from now on matched after dead entries are struck from both sides.";
+    PortRun: "port: base parts, runs and rings, dead entries included, by the model",
+        "`sweep` now drops dead slots at every edit of a run";
     PortRingEnds: "port: ends of rings",
         "Adding an edge appends it to its source's out-list and target's in-list.";
     PortIndex: "port: offsets and joined lists",
@@ -139,7 +141,9 @@ things! {
     BookFind: "book: found edges",
         "Finding now gives the earliest in the source lot's out-list.";
     BookPart: "book: base parts, runs and rings in its memory",
-        "`sweep` drops dead slots only if some edge is removed and the run's length is a power of two.";
+        "Against the Rust, run contents are from now on matched after dead entries are struck from both sides.";
+    BookRun: "book: base parts, runs and rings, dead entries included, by the model",
+        "`sweep` now drops dead slots at every edit of a run";
     BookRefused: "book: calls on damaged stores that are refused, and the words afterwards",
         "words are no store | 1 | rule 1 to 7 | everything";
     Vectors: "recorded sequences",

@@ -298,6 +298,48 @@ fn shuffled(rng: &mut Rng) -> Vec<u32> {
     slots
 }
 
+/// Edits of a hub's run where one edge is removed, so that the port reads the run
+/// at every edit: node 0 has all edges, and of these the last is removed. Its run
+/// is there before the first operation that is timed.
+fn compare_one_removed(hub: Pair, rng: &mut Rng) {
+    const EDITS: usize = 4096;
+    let after = |pair: &Pair, operations: &[[u32; 4]]| {
+        let mut pair = pair.clone();
+        let mut answers = vec![0; 2 * operations.len()];
+        for &words in operations {
+            pair.rust.operation(words);
+        }
+        pair.book
+            .strip_words(operations.as_flattened(), &mut answers)
+            .expect("a store");
+        pair
+    };
+    let last = SLOTS - 1;
+    let hub = after(&hub, &[[5, 0, 1, 0], [5, 0, 0, 0], [3, last, 0, 0]]);
+    let away = |edge: u32| [5, edge, 1 + edge % (SLOTS - 1), 0];
+    let in_order: Vec<[u32; 4]> = (1..).map(away).take(EDITS).collect();
+    let mut any = shuffled(rng);
+    any.retain(|&edge| edge != last);
+    let any: Vec<[u32; 4]> = any.into_iter().map(away).take(EDITS).collect();
+    let name = "a hub with one removed edge";
+    hub.compare(
+        &format!("redirects away from {name}, in its order"),
+        &in_order,
+        &[EDITS],
+    );
+    hub.compare(
+        &format!("redirects away from {name}, in any order"),
+        &any,
+        &[EDITS],
+    );
+    let to: Vec<[u32; 4]> = any.iter().map(|&[_, edge, ..]| [5, edge, 0, 0]).collect();
+    after(&hub, &any).compare(&format!("redirects to {name}"), &to, &[EDITS]);
+    let moves: Vec<[u32; 4]> = (0..EDITS as u32)
+        .map(|node| [7, node, node + 1, 0])
+        .collect();
+    hub.compare(&format!("moves of {name}"), &moves, &[EDITS]);
+}
+
 fn compare_operations(rng: &mut Rng) {
     let nodes = (0..SLOTS).map(|payload| [1, 0, 0, payload]);
     let edges: Vec<[u32; 4]> = (0..SLOTS)
@@ -340,6 +382,8 @@ fn compare_operations(rng: &mut Rng) {
         capacities,
     });
     turned.compare_compaction("compaction of a hub, its ring of all edges in any order");
+
+    compare_one_removed(hub, rng);
 
     let moves: Vec<[u32; 4]> = (0..SLOTS)
         .map(|_| {

@@ -15,6 +15,7 @@ use super::{Port, compare_strip, kept, lent};
 use crate::calls::{self, Lots};
 use crate::checked::read;
 use crate::generate::{Generator, MEDIUM, MIXES, Mix, SHORT, Size, compact_lists};
+use crate::graph::store::Graph;
 use crate::graph::traverse::TraversalDirection;
 use crate::image;
 use crate::lots::{EdgeRecord, LotBook, Refused, maps};
@@ -23,6 +24,7 @@ use crate::record::spoiled_image;
 use crate::rng::Rng;
 use crate::rust_store::{self, RustStore};
 use crate::sequences::{Same, guarded};
+use crate::shape::Shape;
 use crate::tally::{Difference, Tally, Thing};
 
 impl Port for LotBook {
@@ -83,6 +85,8 @@ fn compare_list(
 struct Shelf {
     /// What operations are chosen by.
     model: Model,
+    /// What the book's runs hold, dead entries included.
+    shape: Shape,
     rust: RustStore,
     book: LotBook,
     /// Whether neither a fresh store nor an image led to this one.
@@ -94,6 +98,7 @@ impl Shelf {
     fn fresh(capacities: Capacities) -> Self {
         Self {
             model: Lots::fresh(capacities),
+            shape: Shape::of(&Graph::new()),
             rust: RustStore::fresh(capacities),
             book: LotBook::from_memory(Memory::fresh(capacities).words()),
             foreign: false,
@@ -108,6 +113,7 @@ impl Shelf {
         };
         Self {
             model,
+            shape: Shape::of(&rust.graph),
             rust,
             book: LotBook::from_memory(memory),
             foreign: true,
@@ -125,9 +131,13 @@ impl Shelf {
         let words = operations(most, &self.model, generator);
         let length = words.len() / 2 + generator.rng.below(3);
         let Self {
-            model, rust, book, ..
+            model,
+            shape,
+            rust,
+            book,
+            ..
         } = self;
-        compare_strip(model, rust, book, &words, length, tally)?;
+        compare_strip(model, shape, rust, book, &words, length, tally)?;
         self.compare_reads(generator.rng, tally)?;
         Ok(words.len() as u64 / 4)
     }
@@ -158,6 +168,7 @@ impl Shelf {
         let given = given.map(|()| slices.map(kept)).map_err(Answer::from);
         let kept = self.model.compact().plain;
         let (renumbering, in_order) = self.rust.compact_as(&kept);
+        self.shape = Shape::compacted(&kept);
         let [node_map, edge_map] = rust_store::maps(&renumbering);
         let [(_, outgoing), (_, incoming)] = self.rust.graph.compressed_base();
         let expected = Ok([node_map, edge_map, [outgoing, incoming].concat()]);
@@ -216,6 +227,7 @@ impl Shelf {
             Ok(model) => {
                 tally.same(Thing::BookReading, place, Ok(()), given)?;
                 self.rust.put(&model.plain);
+                self.shape = Shape::compacted(&model.plain);
                 self.model = model;
                 self.foreign = false;
                 self.compare_reads(rng, tally)?;
@@ -298,12 +310,17 @@ impl Shelf {
     /// Base parts, runs and rings, through the memory itself.
     fn compare_parts(&self, tally: &mut Tally) -> Same {
         let memory = self.book.memory();
+        let graph = &self.rust.graph;
         for (side, direction) in memory.sides().iter().zip(DIRECTIONS) {
-            for (node, part) in self.rust.graph.parts(direction).iter().enumerate() {
+            for (node, part) in graph.parts(direction).into_iter().enumerate() {
                 let place = || format!("node {node}, {direction:?}");
-                tally.ran(part.run.as_ref().map_or(0, Vec::len));
                 let given = side.part(memory.counts, node);
-                tally.same(Thing::BookPart, place, part, &given)?;
+                tally.ran(given.run.as_ref().map_or(0, Vec::len));
+                let held = self.shape.part(direction, node);
+                tally.same(Thing::BookRun, place, held, &given)?;
+                let live = |slot| graph.contains_edge(rust_store::edge(slot));
+                let [part, given] = [part, given].map(|part| part.struck(live));
+                tally.same(Thing::BookPart, place, part, given)?;
             }
         }
         Ok(())
