@@ -12,7 +12,7 @@ use Rattle.plain.specs.Numbers.{LIMIT}
 use Rattle.plain.specs.Lists.{from}
 use Rattle.plain.specs.Bits.{fields-at, least-width}
 use Rattle.plain.specs.Compaction.{EdgeRecord, source-of, target-of}
-use Rattle.plain.specs.Image.{record-width, nodes-in, edges-in, edges-start, outs-start, ins-start, image-size, cut, list-lengths, parsed, broken-image}
+use Rattle.plain.specs.Image.{count-width, node-payload-width, edge-payload-width, record-width, nodes-in, edges-in, nodes-start, edges-start, outs-start, ins-start, image-size, cut, list-lengths, parsed, broken-image}
 use Rattle.plain.specs.Memory.{Lengths, axis-words}
 use Rattle.plain.specs.Calls.{limits}
 use Rattle.plain.specs.Laws.Bits.{length-fields-at}
@@ -51,15 +51,15 @@ pub record Accepted (l : Lengths) (bytes : List ℕ) : Type 0 where
 
 -- the payloads of n nodes, and of m edges out of their records
 abbrev pub node-payload : List ℕ → ℕ → ℕ
-node-payload bytes = spread bytes 32 32 32
+node-payload bytes = spread bytes nodes-start node-payload-width node-payload-width
 
 abbrev pub edge-payload : List ℕ → ℕ → ℕ → ℕ
-edge-payload bytes n = spread bytes (edges-start n + (least-width n + least-width n)) (record-width (least-width n)) 32
+edge-payload bytes n = spread bytes (edges-start n + (least-width n + least-width n)) (record-width (least-width n)) edge-payload-width
 
 pub record PayloadsReadable (nodes edges bytes : List ℕ) (n m : ℕ) : Type 0 where
   pub few : n ≤ LIMIT
-  pub nodes-there : SpreadFits bytes 32 32 32 nodes 0 n
-  pub edges-there : SpreadFits bytes (edges-start n + (least-width n + least-width n)) (record-width (least-width n)) 32 edges 0 m
+  pub nodes-there : SpreadFits bytes nodes-start node-payload-width node-payload-width nodes 0 n
+  pub edges-there : SpreadFits bytes (edges-start n + (least-width n + least-width n)) (record-width (least-width n)) edge-payload-width edges 0 m
 
 pub record PayloadsRead (nodes edges bytes : List ℕ) (n m : ℕ) (nodes' edges' : List ℕ) : Type 0 where
   pub nodes-read : Rewritten nodes nodes' 0 n (node-payload bytes)
@@ -99,7 +99,7 @@ pub record Placed (w : Words) (bytes : List ℕ) (v : Words) : Type 0 where
 -- ---- what the calls ask
 
 -- the counts are there to be read
-pub count-room : (bytes : List ℕ) → broken-image bytes ≡ 0 → (position : ℕ) → position ≤ 16 → Room bytes position 16
+pub count-room : (bytes : List ℕ) → broken-image bytes ≡ 0 → (position : ℕ) → position ≤ count-width → Room bytes position count-width
 count-room bytes image position h =
     let four = readable bytes image .ended .padded .sized .counted .four in
     record { narrow = omega arith; within = omega arith; counted = omega arith }
@@ -122,14 +122,14 @@ module _ {l : Lengths} {bytes : List ℕ} (a : Accepted l bytes) where
   whole = let long = rules .ended .padded .sized .length-right in omega arith
 
   -- and small
-  small : image-size n m + 96 < 2 ^ 64
+  small : image-size n m + (64 + edge-payload-width) < 2 ^ 64
   small = omega (arith, counted .nodes-within, counted .edges-within, records-small n m, entries-small m)
 
   pub payloads-readable : (nodes edges : List ℕ) → n ≤ length nodes → m ≤ length edges → PayloadsReadable nodes edges bytes n m
   payloads-readable nodes edges nodes-room edges-room = record {
     few = omega (arith, a .nodes-room, a .roomy .few-nodes);
-    nodes-there = spread-in 32 0 32 32 32 n refl (omega arith) (omega arith) (omega (arith, whole)) (omega (arith, small)) (omega arith);
-    edges-there = spread-in (edges-start n) (least-width n + least-width n) (edges-start n + (least-width n + least-width n)) (record-width (least-width n)) 32 m refl
+    nodes-there = spread-in nodes-start 0 nodes-start node-payload-width node-payload-width n refl (omega arith) (omega arith) (omega (arith, whole)) (omega (arith, small)) (omega arith);
+    edges-there = spread-in (edges-start n) (least-width n + least-width n) (edges-start n + (least-width n + least-width n)) (record-width (least-width n)) edge-payload-width m refl
         (omega arith) (omega arith) (omega (arith, whole)) (omega (arith, small, width-most n)) (omega arith);
   }
 
@@ -226,7 +226,7 @@ module _ {w : Words} {bytes : List ℕ} {v : Words} (a : Accepted (lengths-of w)
         live-nodes-long = rw (same .nodes, same .live-nodes) (a .roomy .live-nodes-room);
         live-edges-long = rw (same .edges, same .live-edges) (a .roomy .live-edges-room);
         sized = sized-again;
-        nodes = ap (front (v .nodes)) many-nodes ∙ rewritten-range (r .payloads .nodes-read) ∙ fields-spread bytes 32 32 (nodes-in bytes);
+        nodes = ap (front (v .nodes)) many-nodes ∙ rewritten-range (r .payloads .nodes-read) ∙ fields-spread bytes nodes-start node-payload-width (nodes-in bytes);
         edges = ap (front (v .edges)) many-edges ∙ rewritten-range (r .payloads .edges-read)
             ∙ payloads-spread bytes (least-width (nodes-in bytes)) (edges-start (nodes-in bytes)) (edges-in bytes);
         live-nodes = subst (λ (k : ℕ). Reset (v .live-nodes) k (v .live-nodes)) (sym many-nodes) (reset-same (r .live-nodes));

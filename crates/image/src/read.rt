@@ -112,8 +112,24 @@ fn read_payloads(
     let width = bits::least_width(count_nodes) as usize;
     let stride = places::record_width(count_nodes);
     let payloads = places::edges_start(count_nodes) + (width + width);
-    read_fields(bytes, 32, 32, 32, nodes, 0, count_nodes as usize);
-    read_fields(bytes, payloads, stride, 32, edges, 0, count_edges as usize);
+    read_fields(
+        bytes,
+        places::NODES_START,
+        places::NODE_PAYLOAD_WIDTH as usize,
+        places::NODE_PAYLOAD_WIDTH,
+        nodes,
+        0,
+        count_nodes as usize,
+    );
+    read_fields(
+        bytes,
+        payloads,
+        stride,
+        places::EDGE_PAYLOAD_WIDTH,
+        edges,
+        0,
+        count_edges as usize,
+    );
 }
 
 // Reads both directions. `edges` and `nodes` are the capacities.
@@ -171,8 +187,8 @@ fn place(
         (now (bytes .entry))
         (at-exit r nodes edges «live_nodes» «live_edges» outgoing incoming) ⌝ }
 {
-    let count_nodes = bits::read_field(bytes, 0, 16);
-    let count_edges = bits::read_field(bytes, 16, 16);
+    let count_nodes = bits::read_field(bytes, 0, places::COUNT_WIDTH);
+    let count_edges = bits::read_field(bytes, places::EDGE_COUNT_START, places::COUNT_WIDTH);
     read_axes(
         outgoing,
         incoming,
@@ -199,8 +215,8 @@ fn answer(lengths: Lengths, bytes: &[u8]) -> Answer
     if rule != 0 {
         return memory::reading_answer(Limits::BOX, lengths, rule, 0, 0);
     }
-    let count_nodes = bits::read_field(bytes, 0, 16);
-    let count_edges = bits::read_field(bytes, 16, 16);
+    let count_nodes = bits::read_field(bytes, 0, places::COUNT_WIDTH);
+    let count_edges = bits::read_field(bytes, places::EDGE_COUNT_START, places::COUNT_WIDTH);
     memory::reading_answer(Limits::BOX, lengths, rule, count_nodes, count_edges)
 }
 
