@@ -13,7 +13,7 @@ use Rattle.shape.specs.Shape.{Words, store, lengths-of, axis-words}
 use Rattle.shape.specs.Kept.{AxisRenewed, Renewed, nothing-spared, renewed-none, renewed-spared}
 use Rattle.store.specs.Operations.{same-lengths}
 use Rattle.compact.specs.Holding.{holding-shape, holding-state, holding-reached, holding-checked, holding-canonical}
-use Rattle.image.specs.Reading.{Accepted, Placed, placed-holding, placed-renewed}
+use Rattle.image.specs.Reading.{Accepted, ImagePlaced, placed-holding, placed-renewed}
 use Rattle.image.proofs.Answering.{read-accepted}
 use Rattle.image.specs.Calls.{ReadOf}
 
@@ -38,7 +38,7 @@ module _ (w : Words) (bytes : List ℕ) (answer : Answer) (told : answer ≡ rea
     accepted = read-accepted (lengths-of w) bytes (ap (λ (a : Answer). a .number) (sym told) ∙ done)
 
     -- "the result equals what compaction leaves"
-    pub read-done : (counts : Counts) {v : Words} → Placed (store counts (w .nodes) (w .edges) (w .live-nodes) (w .live-edges) (w .outgoing) (w .incoming)) bytes v
+    pub read-done : (counts : Counts) {v : Words} → ImagePlaced (store counts (w .nodes) (w .edges) (w .live-nodes) (w .live-edges) (w .outgoing) (w .incoming)) bytes v
         → ReadOf w bytes (answer .number) (answer .value) v
     read-done counts {v} placed =
         let holding = placed-holding accepted placed in
@@ -72,7 +72,7 @@ module _ (w : Words) (bytes : List ℕ) (answer : Answer) (told : answer ≡ rea
               renewed-spared (omega (arith, c .nodes .bound-within, same .nodes)) (omega (arith, c .edges .bound-within, same .edges)) renewed;
         }
       where
-        axis-left : {v : Words} → Placed (store counts (w .nodes) (w .edges) (w .live-nodes) (w .live-edges) (w .outgoing) (w .incoming)) bytes v → (d : TraversalDirection)
+        axis-left : {v : Words} → ImagePlaced (store counts (w .nodes) (w .edges) (w .live-nodes) (w .live-edges) (w .outgoing) (w .incoming)) bytes v → (d : TraversalDirection)
             → AxisRenewed (axis-words d w) (axis-words d v) (length (w .edges)) (length (w .nodes)) (v .counts .nodes .bound) (v .counts .edges .bound)
         axis-left placed Outgoing = placed-renewed accepted placed .axis Outgoing
         axis-left placed Incoming = placed-renewed accepted placed .axis Incoming

@@ -13,7 +13,7 @@ use Rattle.plain.specs.Lists.{from}
 use Rattle.plain.specs.Bits.{fields-at, least-width}
 use Rattle.plain.specs.Compaction.{EdgeRecord, source-of, target-of}
 use Rattle.plain.specs.Image.{count-width, node-payload-width, edge-payload-width, record-width, nodes-in, edges-in, nodes-start, edges-start, outs-start, ins-start, image-size, cut, list-lengths, parsed, broken-image}
-use Rattle.plain.specs.Memory.{Lengths, axis-words}
+use Rattle.plain.specs.Memory.{Lengths, axis-length}
 use Rattle.plain.specs.Calls.{limits}
 use Rattle.plain.specs.Laws.Bits.{length-fields-at}
 use Rattle.plain.specs.Laws.Below.{below-of}
@@ -88,7 +88,7 @@ pub reset-of : {entry exit : List ℕ} {n n' : ℕ} → n ≡ n' → Reset entry
 reset-of {entry} {exit} a r = subst (λ (n : ℕ). Reset entry n exit) a r
 
 -- What the bytes hold is in place.
-pub record Placed (w : Words) (bytes : List ℕ) (v : Words) : Type 0 where
+pub record ImagePlaced (w : Words) (bytes : List ℕ) (v : Words) : Type 0 where
   pub lengths : SameLengths w v
   pub counts : v .counts ≡ record { nodes = based (nodes-in bytes); edges = based (edges-in bytes) }
   pub payloads : PayloadsRead (w .nodes) (w .edges) bytes (nodes-in bytes) (edges-in bytes) (v .nodes) (v .edges)
@@ -138,7 +138,7 @@ module _ {l : Lengths} {bytes : List ℕ} (a : Accepted l bytes) where
   end-below f are below e h = subst (λ (z : ℕ). z < n) (spread-at f m are e h) (below e h)
 
   -- one direction: of each record the field of a node's number at bit k, and the entries from bit `lists` on
-  axis-readable : (ws : List ℕ) (k ends lists : ℕ) → axis-words (l .capacities) ≤ length ws → ends ≡ edges-start n + k → k ≤ least-width n
+  axis-readable : (ws : List ℕ) (k ends lists : ℕ) → axis-length (l .capacities) ≤ length ws → ends ≡ edges-start n + k → k ≤ least-width n
       → lists + least-width m * m ≤ image-size n m → ((e : ℕ) → e < m → spread bytes ends (record-width (least-width n)) (least-width n) e < n)
       → AxisReadable ws (l .capacities .edges) (l .capacities .nodes) n m bytes ends lists
   axis-readable ws k ends lists room is low inside below = record {
@@ -152,7 +152,7 @@ module _ {l : Lengths} {bytes : List ℕ} (a : Accepted l bytes) where
         (omega (arith, small, width-most m)) (omega (arith, a .edges-room));
   }
 
-  pub axes-readable : (outgoing incoming : List ℕ) → axis-words (l .capacities) ≤ length outgoing → axis-words (l .capacities) ≤ length incoming
+  pub axes-readable : (outgoing incoming : List ℕ) → axis-length (l .capacities) ≤ length outgoing → axis-length (l .capacities) ≤ length incoming
       → AxesReadable outgoing incoming (l .capacities .edges) (l .capacities .nodes) bytes n m
   unfolding parsed
   axes-readable outgoing incoming out-room in-room = record {
@@ -166,7 +166,7 @@ module _ {l : Lengths} {bytes : List ℕ} (a : Accepted l bytes) where
 
 -- ---- the store afterwards
 
-module _ {w : Words} {bytes : List ℕ} {v : Words} (a : Accepted (lengths-of w) bytes) (r : Placed w bytes v) where
+module _ {w : Words} {bytes : List ℕ} {v : Words} (a : Accepted (lengths-of w) bytes) (r : ImagePlaced w bytes v) where
   -- the lists that begin at a bit, by these ends
   abbrev lists-at : ℕ → List ℕ → List (List ℕ)
   lists-at position ends = cut (list-lengths (nodes-in bytes) ends) (fields-at bytes position (least-width (edges-in bytes)) (edges-in bytes))

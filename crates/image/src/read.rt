@@ -23,7 +23,7 @@ ghost use Rattle.compact.specs.Bases.{Rebuilt};
 ghost use Rattle.image.specs.Spread.{spread, SpreadFits};
 ghost use Rattle.image.specs.Directions.{BaseReadable, AxisReadable, AxisRead};
 ghost use Rattle.image.specs.Calls.{ReadOf};
-ghost use Rattle.image.specs.Reading.{Accepted, PayloadsReadable, PayloadsRead, AxesReadable, AxesRead, Placed};
+ghost use Rattle.image.specs.Reading.{Accepted, PayloadsReadable, PayloadsRead, AxesReadable, AxesRead, ImagePlaced};
 
 // Reads `count` fields of `width` bits, the first at bit `position` and each `stride` bits further, into words from `at` on.
 fn read_fields(
@@ -182,7 +182,7 @@ fn place(
     bytes: &[u8],
 ) -> Counts
     requires { ⌜ Accepted (lengths (length (now nodes)) (length (now edges)) (length (now «live_nodes»)) (length (now «live_edges»)) (length (now outgoing)) (length (now incoming))) (now bytes) ⌝ }
-    ensures { λ r. ⌜ Placed
+    ensures { λ r. ⌜ ImagePlaced
         (at-entry r nodes edges «live_nodes» «live_edges» outgoing incoming)
         (now (bytes .entry))
         (at-exit r nodes edges «live_nodes» «live_edges» outgoing incoming) ⌝ }

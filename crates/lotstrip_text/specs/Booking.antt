@@ -17,7 +17,7 @@ use Rattle.plain.specs.Step.{Capacities, State, run, answers}
 use Rattle.plain.specs.Compaction.{survivors, compacted}
 use Rattle.plain.specs.Bits.{least-width}
 use Rattle.plain.specs.Image.{image, record-width, edges-start}
-use Rattle.plain.specs.Memory.{Lengths, first-short, live-words, axis-words, exact}
+use Rattle.plain.specs.Memory.{Lengths, first-short, live-words, axis-length, exact}
 use Rattle.plain.specs.Calls.{Stripped, Compacted, strip, judged-strip, judged-compaction, judged-reply, compaction, compacting, fresh-state, within, fresh-within, fresh}
 use Rattle.plain.specs.Lotstrip.{lotstrip-capacities}
 use Rattle.plain.specs.Laws.WellFormed.{WellFormed}
@@ -71,8 +71,8 @@ pub record Bookable (nodes edges live-nodes live-edges outgoing incoming words a
   pub edges-long : length edges ≡ lotstrip-capacities .edges
   pub live-nodes-long : length live-nodes ≡ live-words (lotstrip-capacities .nodes)
   pub live-edges-long : length live-edges ≡ live-words (lotstrip-capacities .edges)
-  pub outgoing-long : length outgoing ≡ axis-words lotstrip-capacities
-  pub incoming-long : length incoming ≡ axis-words lotstrip-capacities
+  pub outgoing-long : length outgoing ≡ axis-length lotstrip-capacities
+  pub incoming-long : length incoming ≡ axis-length lotstrip-capacities
   pub whole : length words % operation-words ≡ 0
   pub room : 2 * (length words / operation-words) ≤ length answers
 
