@@ -2,6 +2,7 @@
 // walk is cleared as it is read, with no memory for it: a removed edge stays an entry of its lists, so what the cursor has still to read does not change, and
 // entries that are dead, before or by now, are passed over.
 
+ghost use mathlib.Core.Bool.{true};
 ghost use mathlib.Core.List.{[], _∷_};
 ghost use Prim.Native.Nat.{_*_, _≤_};
 ghost use lib.ListN.{length};
@@ -55,7 +56,7 @@ fn clear_left(
     }
 }
 
-// Makes every edge of a node's walk dead. Answers how many were live.
+// Makes every edge of the walk of a live node dead. Answers how many were live.
 pub fn clear_adjacency(
     axis: &[u32],
     edges: usize,
@@ -63,12 +64,11 @@ pub fn clear_adjacency(
     counts: Counts,
     live_edges: &mut [u64],
     node: usize,
-    live: bool,
 ) -> u32
     requires { ⌜ Clearable (now axis) edges nodes counts (now «live_edges») node ⌝ }
-    ensures { λ r. ⌜ Retired (counts .edges .bound) (walk-in (now (axis .entry)) edges nodes counts (now («live_edges» .entry)) node live) (now («live_edges» .entry)) (now («live_edges» .exit)) r ⌝ }
+    ensures { λ r. ⌜ Retired (counts .edges .bound) (walk-in (now (axis .entry)) edges nodes counts (now («live_edges» .entry)) node true) (now («live_edges» .entry)) (now («live_edges» .exit)) r ⌝ }
 {
-    let start = walk::start(axis, edges, nodes, counts, node, live);
+    let start = walk::start(axis, edges, nodes, counts, node, true);
     let slots = counts.edges.bound as usize;
     clear_left(
         start.cursor,

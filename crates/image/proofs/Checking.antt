@@ -160,15 +160,15 @@ module _ {p s t o i : Bool} {rule : ℕ} (d : Decides p s t o i rule) where
   pub all-right : p ≡ true → s ≡ true → t ≡ true → o ≡ true → i ≡ true → 0 ≡ rule
   all-right a b c e f = rw (a, b, c, e, f) at (d .first)
 
--- What the check of rules 4 to 6 reads, by the two counts, the two widths, the start of the out-lists and the size of one direction's: each part stands in the
--- bytes, and the five tests decide.
-pub record Standing (bytes : List ℕ) (n m w v outs size : ℕ) : Type 0 where
+-- What the check of rules 4 to 6 reads, by the two counts, the two widths, the starts of the records and of the out-lists, and the size of one direction's: each
+-- part stands in the bytes, and the five tests decide.
+pub record Standing (bytes : List ℕ) (n m w v records outs size : ℕ) : Type 0 where
   pub filled : Filled bytes (outs + size + size)
-  pub out-entries : Entries bytes (edges-start n) w outs v m
-  pub in-entries : Entries bytes (edges-start n + w) w (outs + size) v m
+  pub out-entries : Entries bytes records w outs v m
+  pub in-entries : Entries bytes (records + w) w (outs + size) v m
   pub decides : Decides (eqb (field-at bytes (outs + size + size) (8 * length bytes - (outs + size + size))) 0)
-      (ends-within bytes (edges-start n) w n m) (ends-within bytes (edges-start n + w) w n m)
-      (ordered (end-in bytes (edges-start n) w) m (fields-at bytes outs v m)) (ordered (end-in bytes (edges-start n + w) w) m (fields-at bytes (outs + size) v m))
+      (ends-within bytes records w n m) (ends-within bytes (records + w) w n m)
+      (ordered (end-in bytes records w) m (fields-at bytes outs v m)) (ordered (end-in bytes (records + w) w) m (fields-at bytes (outs + size) v m))
       (broken-image bytes)
 
 -- the widths and places that the counts of bytes give
@@ -250,7 +250,7 @@ module _ (bytes : List ℕ) (s : Sized bytes) where
       record { first = rw (p, a) (sym (refused-5 bytes (padded p) (found .0) (found .1) (inl (found .2)))) }))
       (λ p. record { first = rw p (sym (refused-4 bytes s (eqb-false (padding-in bytes) 0 p))) })
 
-  stands : Standing bytes (nodes-in bytes) (edges-in bytes) (node-width bytes) (edge-width bytes) (outs-in bytes) (size-of bytes)
+  stands : Standing bytes (nodes-in bytes) (edges-in bytes) (node-width bytes) (edge-width bytes) (edges-start (nodes-in bytes)) (outs-in bytes) (size-of bytes)
   unfolding source-test target-test out-test in-test
   stands = record {
     filled = record { long = s .length-right; small = bounded .size };
@@ -270,6 +270,6 @@ module _ (bytes : List ℕ) (s : Sized bytes) where
   }
 
 -- the same, where the counts, the widths and the places are answers
-pub standing : {bytes : List ℕ} {n m w v outs size : ℕ} → Whole bytes n m → w ≡ least-width n → v ≡ least-width m → size ≡ least-width m * m → outs ≡ outs-start n m
-    → Standing bytes n m w v outs size
-standing {bytes} k a b c d = rw (a, b, c, d, k .nodes, k .edges) (stands bytes (k .sized))
+pub standing : {bytes : List ℕ} {n m w v records outs size : ℕ} → Whole bytes n m → w ≡ least-width n → v ≡ least-width m → records ≡ edges-start n
+    → size ≡ least-width m * m → outs ≡ outs-start n m → Standing bytes n m w v records outs size
+standing {bytes} k a b s c d = rw (a, b, s, c, d, k .nodes, k .edges) (stands bytes (k .sized))

@@ -12,7 +12,7 @@ use Rattle.plain.specs.Calls.{read-image}
 use Rattle.shape.specs.Shape.{Words, store, lengths-of, axis-words, node-capacity, edge-capacity}
 use Rattle.shape.specs.Kept.{AxisRenewed, Renewed, nothing-spared, renewed-none, renewed-spared, same-nodes, same-edges}
 use Rattle.compact.specs.Holding.{holding-shape, holding-state, holding-checked, holding-canonical, canonical-leaves}
-use Rattle.image.specs.Reading.{Accepted, Placed, placed-holding, placed-renewed}
+use Rattle.image.specs.Reading.{Accepted, placed-holding, placed-renewed, ImagePlaced}
 use Rattle.image.proofs.Answering.{read-accepted}
 use Rattle.image.specs.Calls.{ReadOf}
 
@@ -37,7 +37,7 @@ module _ (w : Words) (bytes : List ℕ) (answer : Answer) (told : answer ≡ rea
     accepted = read-accepted (lengths-of w) bytes (ap (λ (a : Answer). a .number) (sym told) ∙ done)
 
     -- "the result equals what compaction leaves"
-    pub read-done : (counts : Counts) {v : Words} → Placed (store counts (w .nodes) (w .edges) (w .live-nodes) (w .live-edges) (w .outgoing) (w .incoming)) bytes v
+    pub read-done : (counts : Counts) {v : Words} → ImagePlaced (store counts (w .nodes) (w .edges) (w .live-nodes) (w .live-edges) (w .outgoing) (w .incoming)) bytes v
         → ReadOf w bytes (answer .number) (answer .value) v
     read-done counts {v} placed =
         let holding = placed-holding accepted placed in
@@ -58,7 +58,7 @@ module _ (w : Words) (bytes : List ℕ) (answer : Answer) (told : answer ≡ rea
           leaves = canonical-leaves w v same (holding-canonical holding) renewed;
         }
       where
-        axis-left : {v : Words} → Placed (store counts (w .nodes) (w .edges) (w .live-nodes) (w .live-edges) (w .outgoing) (w .incoming)) bytes v → (d : TraversalDirection)
+        axis-left : {v : Words} → ImagePlaced (store counts (w .nodes) (w .edges) (w .live-nodes) (w .live-edges) (w .outgoing) (w .incoming)) bytes v → (d : TraversalDirection)
             → AxisRenewed (axis-words d w) (axis-words d v) (edge-capacity w) (node-capacity w) (v .counts .nodes .bound) (v .counts .edges .bound)
         axis-left placed Outgoing = placed-renewed accepted placed .axis Outgoing
         axis-left placed Incoming = placed-renewed accepted placed .axis Incoming

@@ -12,8 +12,8 @@ use Rattle.plain.specs.Numbers.{LIMIT}
 use Rattle.plain.specs.Lists.{from}
 use Rattle.plain.specs.Bits.{fields-at, least-width}
 use Rattle.plain.specs.Compaction.{EdgeRecord, source-of, target-of}
-use Rattle.plain.specs.Image.{record-width, nodes-in, edges-in, edges-start, outs-start, ins-start, image-size, cut, list-lengths, parsed, broken-image}
-use Rattle.plain.specs.Memory.{Lengths, axis-words}
+use Rattle.plain.specs.Image.{count-width, node-payload-width, edge-payload-width, record-width, nodes-in, edges-in, nodes-start, edges-start, outs-start, ins-start, image-size, cut, list-lengths, parsed, broken-image}
+use Rattle.plain.specs.Memory.{Lengths, axis-length}
 use Rattle.plain.specs.Calls.{limits}
 use Rattle.plain.specs.WellFormed.{Fitted, Sound}
 use Rattle.plain.specs.Laws.Bits.{length-fields-at}
@@ -50,15 +50,15 @@ pub record Accepted (l : Lengths) (bytes : List ℕ) : Type 0 where
 
 -- the payloads of n nodes, and of m edges out of their records
 abbrev pub node-payload : List ℕ → ℕ → ℕ
-node-payload bytes = spread bytes 32 32 32
+node-payload bytes = spread bytes nodes-start node-payload-width node-payload-width
 
 abbrev pub edge-payload : List ℕ → ℕ → ℕ → ℕ
-edge-payload bytes n = spread bytes (edges-start n + (least-width n + least-width n)) (record-width (least-width n)) 32
+edge-payload bytes n = spread bytes (edges-start n + (least-width n + least-width n)) (record-width (least-width n)) edge-payload-width
 
 pub record PayloadsReadable (nodes edges bytes : List ℕ) (n m : ℕ) : Type 0 where
   pub few : n ≤ LIMIT
-  pub nodes-there : SpreadFits bytes 32 32 32 nodes 0 n
-  pub edges-there : SpreadFits bytes (edges-start n + (least-width n + least-width n)) (record-width (least-width n)) 32 edges 0 m
+  pub nodes-there : SpreadFits bytes nodes-start node-payload-width node-payload-width nodes 0 n
+  pub edges-there : SpreadFits bytes (edges-start n + (least-width n + least-width n)) (record-width (least-width n)) edge-payload-width edges 0 m
 
 pub record PayloadsRead (nodes edges bytes : List ℕ) (n m : ℕ) (nodes' edges' : List ℕ) : Type 0 where
   pub nodes-read : Rewritten nodes nodes' 0 n (node-payload bytes)
@@ -87,7 +87,7 @@ pub reset-of : {entry exit : List ℕ} {n n' : ℕ} → n ≡ n' → Reset entry
 reset-of {entry} {exit} a r = subst (λ (n : ℕ). Reset entry n exit) a r
 
 -- What the bytes hold is in place.
-pub record Placed (w : Words) (bytes : List ℕ) (v : Words) : Type 0 where
+pub record ImagePlaced (w : Words) (bytes : List ℕ) (v : Words) : Type 0 where
   pub lengths : SameLengths w v
   pub counts : v .counts ≡ record { nodes = based (nodes-in bytes); edges = based (edges-in bytes) }
   pub payloads : PayloadsRead (w .nodes) (w .edges) bytes (nodes-in bytes) (edges-in bytes) (v .nodes) (v .edges)
@@ -98,7 +98,7 @@ pub record Placed (w : Words) (bytes : List ℕ) (v : Words) : Type 0 where
 -- ---- what the calls ask
 
 -- the counts are there to be read
-pub count-room : (bytes : List ℕ) → broken-image bytes ≡ 0 → (position : ℕ) → position ≤ 16 → Room bytes position 16
+pub count-room : (bytes : List ℕ) → broken-image bytes ≡ 0 → (position : ℕ) → position ≤ count-width → Room bytes position count-width
 count-room bytes image position h =
     let four = readable bytes image .ended .padded .sized .counted .four in
     record { narrow = omega arith; within = omega arith; counted = omega arith }
@@ -121,14 +121,14 @@ module _ {l : Lengths} {bytes : List ℕ} (a : Accepted l bytes) where
   whole = let long = rules .ended .padded .sized .length-right in omega arith
 
   -- and small
-  small : image-size n m + 96 < 2 ^ 64
+  small : image-size n m + (64 + edge-payload-width) < 2 ^ 64
   small = omega (arith, counted .nodes-within, counted .edges-within, records-small n m, entries-small m)
 
   pub payloads-readable : (nodes edges : List ℕ) → n ≤ length nodes → m ≤ length edges → PayloadsReadable nodes edges bytes n m
   payloads-readable nodes edges nodes-room edges-room = record {
     few = omega (arith, a .nodes-room, a .roomy .few-nodes);
-    nodes-there = spread-in 32 0 32 32 32 n refl (omega arith) (omega arith) (omega (arith, whole)) (omega (arith, small)) (omega arith);
-    edges-there = spread-in (edges-start n) (least-width n + least-width n) (edges-start n + (least-width n + least-width n)) (record-width (least-width n)) 32 m refl
+    nodes-there = spread-in nodes-start 0 nodes-start node-payload-width node-payload-width n refl (omega arith) (omega arith) (omega (arith, whole)) (omega (arith, small)) (omega arith);
+    edges-there = spread-in (edges-start n) (least-width n + least-width n) (edges-start n + (least-width n + least-width n)) (record-width (least-width n)) edge-payload-width m refl
         (omega arith) (omega arith) (omega (arith, whole)) (omega (arith, small, width-most n)) (omega arith);
   }
 
@@ -137,7 +137,7 @@ module _ {l : Lengths} {bytes : List ℕ} (a : Accepted l bytes) where
   end-below f are below e h = subst (λ (z : ℕ). z < n) (spread-at f m are e h) (below e h)
 
   -- one direction: of each record the field of a node's number at bit k, and the entries from bit `lists` on
-  axis-readable : (ws : List ℕ) (k ends lists : ℕ) → axis-words (l .capacities) ≤ length ws → ends ≡ edges-start n + k → k ≤ least-width n
+  axis-readable : (ws : List ℕ) (k ends lists : ℕ) → axis-length (l .capacities) ≤ length ws → ends ≡ edges-start n + k → k ≤ least-width n
       → lists + least-width m * m ≤ image-size n m → ((e : ℕ) → e < m → spread bytes ends (record-width (least-width n)) (least-width n) e < n)
       → AxisReadable ws (l .capacities .edges) (l .capacities .nodes) n m bytes ends lists
   axis-readable ws k ends lists room is low inside below = record {
@@ -151,7 +151,7 @@ module _ {l : Lengths} {bytes : List ℕ} (a : Accepted l bytes) where
         (omega (arith, small, width-most m)) (omega (arith, a .edges-room));
   }
 
-  pub axes-readable : (outgoing incoming : List ℕ) → axis-words (l .capacities) ≤ length outgoing → axis-words (l .capacities) ≤ length incoming
+  pub axes-readable : (outgoing incoming : List ℕ) → axis-length (l .capacities) ≤ length outgoing → axis-length (l .capacities) ≤ length incoming
       → AxesReadable outgoing incoming (l .capacities .edges) (l .capacities .nodes) bytes n m
   unfolding parsed
   axes-readable outgoing incoming out-room in-room = record {
@@ -165,7 +165,7 @@ module _ {l : Lengths} {bytes : List ℕ} (a : Accepted l bytes) where
 
 -- ---- the store afterwards
 
-module _ {w : Words} {bytes : List ℕ} {v : Words} (a : Accepted (lengths-of w) bytes) (r : Placed w bytes v) where
+module _ {w : Words} {bytes : List ℕ} {v : Words} (a : Accepted (lengths-of w) bytes) (r : ImagePlaced w bytes v) where
   -- the lists that begin at a bit, by these ends
   abbrev lists-at : ℕ → List ℕ → List (List ℕ)
   lists-at position ends = cut (list-lengths (nodes-in bytes) ends) (fields-at bytes position (least-width (edges-in bytes)) (edges-in bytes))
@@ -225,7 +225,7 @@ module _ {w : Words} {bytes : List ℕ} {v : Words} (a : Accepted (lengths-of w)
         live-nodes-long = rw (same-nodes same, same-live-nodes same) (a .roomy .live-nodes-room);
         live-edges-long = rw (same-edges same, same-live-edges same) (a .roomy .live-edges-room);
         sized = sized-again;
-        nodes = ap (front (v .nodes)) many-nodes ∙ rewritten-range (r .payloads .nodes-read) ∙ fields-spread bytes 32 32 (nodes-in bytes);
+        nodes = ap (front (v .nodes)) many-nodes ∙ rewritten-range (r .payloads .nodes-read) ∙ fields-spread bytes nodes-start node-payload-width (nodes-in bytes);
         edges = ap (front (v .edges)) many-edges ∙ rewritten-range (r .payloads .edges-read)
             ∙ payloads-spread bytes (least-width (nodes-in bytes)) (edges-start (nodes-in bytes)) (edges-in bytes);
         live-nodes = subst (λ (k : ℕ). Reset (v .live-nodes) k (v .live-nodes)) (sym many-nodes) (reset-same (r .live-nodes));

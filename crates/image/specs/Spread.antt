@@ -8,7 +8,7 @@ use lib.ListN.{length, getD}
 use Rattle.plain.specs.Lists.{from}
 use Rattle.plain.specs.Bits.{field-at, fields-at}
 use Rattle.plain.specs.Compaction.{EdgeRecord, source-of, target-of}
-use Rattle.plain.specs.Image.{record-width, payload-at, records-at}
+use Rattle.plain.specs.Image.{edge-payload-width, payload-at, record-width, records-at}
 use Rattle.plain.specs.Laws.ListLaws.{length-from, getD-from, getD-map, from-suc}
 use Rattle.plain.specs.Laws.ImageBits.{payload-of}
 use Rattle.shape.specs.Laws.Indexing.{map-from-same}
@@ -106,5 +106,5 @@ sources-spread bytes w p m =
 pub targets-spread : (bytes : List ℕ) (w p m : ℕ) → map (spread bytes (p + w) (record-width w) w) (from 0 m) ≡ map target-of (records-at bytes p w m)
 targets-spread bytes w p m = records-spread target-of w w bytes w (λ p. refl) p m
 
-pub payloads-spread : (bytes : List ℕ) (w p m : ℕ) → map (spread bytes (p + (w + w)) (record-width w) 32) (from 0 m) ≡ map payload-of (records-at bytes p w m)
-payloads-spread bytes w p m = records-spread payload-of (w + w) 32 bytes w (λ p. refl) p m
+pub payloads-spread : (bytes : List ℕ) (w p m : ℕ) → map (spread bytes (p + (w + w)) (record-width w) edge-payload-width) (from 0 m) ≡ map payload-of (records-at bytes p w m)
+payloads-spread bytes w p m = records-spread payload-of (w + w) edge-payload-width bytes w (λ p. refl) p m

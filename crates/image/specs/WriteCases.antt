@@ -11,7 +11,7 @@ use Rattle.plain.specs.Numbers.{NONE}
 use Rattle.plain.specs.Lists.{written}
 use Rattle.plain.specs.Reads.{listing}
 use Rattle.plain.specs.Bits.{pack, bytes-for}
-use Rattle.plain.specs.Image.{image-size}
+use Rattle.plain.specs.Image.{node-payload-width, image-size}
 use Rattle.plain.specs.Laws.Below.{Below, below-take}
 use Rattle.plain.specs.Laws.CallCases.{lent-short, lent-done, write-not-compact, write-compact}
 use Rattle.plain.specs.Laws.Packing.{length-pack}
@@ -43,7 +43,7 @@ module _ {bytes entry : List ℕ} {n : ℕ} (size : n ≡ length bytes) where
 
 -- ---- the columns of a compact store
 
-module _ {n m : ℕ} {nodes edges outgoing incoming : List ℕ} (h : Stored n m nodes edges outgoing incoming) (small : Below (2 ^ 32) nodes) where
+module _ {n m : ℕ} {nodes edges outgoing incoming : List ℕ} (h : Stored n m nodes edges outgoing incoming) (small : Below (2 ^ node-payload-width) nodes) where
   nodes-long : length (take n nodes) ≡ n
   nodes-long = length-take-le n nodes (h .nodes-there)
 

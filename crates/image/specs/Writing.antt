@@ -10,7 +10,7 @@ use Rattle.plain.specs.Numbers.{LIMIT}
 use Rattle.plain.specs.Lists.{from, written}
 use Rattle.plain.specs.Compaction.{EdgeRecord}
 use Rattle.plain.specs.Bits.{bits-of, row, padding, pack, bytes-for, least-width}
-use Rattle.plain.specs.Image.{payload-bits, edge-bits, record-width, edges-start, image-size}
+use Rattle.plain.specs.Image.{payload-bits, edge-bits, record-width, edges-start, image-size, count-width, node-payload-width, edge-payload-width, nodes-start}
 use Rattle.plain.specs.Laws.Below.{Below, below-mono, below-append, below-within}
 use Rattle.plain.specs.Laws.Bits.{length-bits-of, below-bits-of, length-row, below-row}
 use Rattle.plain.specs.Laws.ListLaws.{length-from}
@@ -104,32 +104,32 @@ pub record SlotsFit (s : List ℕ) (w : ℕ) (nodes sources targets payloads : L
   pub edges-within : length payloads ≤ LIMIT
   pub sources-long : length sources ≡ length payloads
   pub targets-long : length targets ≡ length payloads
-  pub small-nodes : Below (2 ^ 32) nodes
+  pub small-nodes : Below (2 ^ node-payload-width) nodes
   pub small-sources : Below (2 ^ w) sources
   pub small-targets : Below (2 ^ w) targets
   pub room : edges-start (length nodes) + record-width w * length payloads ≤ 8 * length s
 
 -- "node count n and edge count m (16 bits each)"
 abbrev pub count-bits : ℕ → ℕ → List ℕ
-count-bits n m = bits-of 16 n ++ bits-of 16 m
+count-bits n m = bits-of count-width n ++ bits-of count-width m
 
 -- "n payloads (32); per edge source, target (w bits each), payload (32)"
 abbrev pub slot-bits : ℕ → List ℕ → List EdgeRecord → List ℕ
-slot-bits w nodes edges = count-bits (length nodes) (length edges) ++ (row 32 nodes ++ edge-bits w edges)
+slot-bits w nodes edges = count-bits (length nodes) (length edges) ++ (row node-payload-width nodes ++ edge-bits w edges)
 
 -- as many records as payloads
 pub length-records : (sources targets payloads : List ℕ) → length (records-in sources targets payloads) ≡ length payloads
 length-records sources targets payloads = length-map (from 0 (length payloads)) (record-at sources targets payloads) ∙ length-from 0 (length payloads)
 
 -- the bits of the records are few
-few-records : (w m : ℕ) → w ≤ 32 → m ≤ LIMIT → record-width w * m ≤ 96 * LIMIT
-few-records w m narrow h = let most : record-width w ≤ 96 = omega arith in mul-le-mul most h
+few-records : (w m : ℕ) → w ≤ 32 → m ≤ LIMIT → record-width w * m ≤ (64 + edge-payload-width) * LIMIT
+few-records w m narrow h = let most : record-width w ≤ 64 + edge-payload-width = omega arith in mul-le-mul most h
 
 module _ {s : List ℕ} {w : ℕ} {nodes sources targets payloads : List ℕ} (h : SlotsFit s w nodes sources targets payloads) where
   -- after the nodes the edges have room
-  pub edges-fit : {t u : List ℕ} {q : ℕ} → length t ≡ length s → WroteTo t 32 (row 32 nodes) u q → EdgesFit u q w sources targets payloads
+  pub edges-fit : {t u : List ℕ} {q : ℕ} → length t ≡ length s → WroteTo t nodes-start (row node-payload-width nodes) u q → EdgesFit u q w sources targets payloads
   edges-fit long a =
-      let place = a .next ∙ ap (λ (n : ℕ). 32 + n) (length-row 32 nodes) in
+      let place = a .next ∙ ap (λ (n : ℕ). nodes-start + n) (length-row node-payload-width nodes) in
       let few = few-records w (length payloads) (h .narrow) (h .edges-within) in
       record {
         narrow = h .narrow;
@@ -141,10 +141,10 @@ module _ {s : List ℕ} {w : ℕ} {nodes sources targets payloads : List ℕ} (h
       }
 
   -- the three parts follow each other
-  pub wrote-slots : {t u v : List ℕ} {q r : ℕ} → Wrote s 0 (count-bits (length nodes) (length payloads)) t → WroteTo t 32 (row 32 nodes) u q
+  pub wrote-slots : {t u v : List ℕ} {q r : ℕ} → Wrote s 0 (count-bits (length nodes) (length payloads)) t → WroteTo t nodes-start (row node-payload-width nodes) u q
       → WroteTo u q (edge-bits w (records-in sources targets payloads)) v r → WroteTo s 0 (slot-bits w nodes (records-in sources targets payloads)) v r
   wrote-slots {t} {u} {v} {q} {r} a b c =
-      let counts : WroteTo s 0 (count-bits (length nodes) (length payloads)) t 32 = record { wrote = a; next = sym (simp (length-append, length-bits-of)) } in
+      let counts : WroteTo s 0 (count-bits (length nodes) (length payloads)) t nodes-start = record { wrote = a; next = sym (simp (length-append, length-bits-of)) } in
       rw (length-records sources targets payloads) (wrote-on counts (wrote-on b c))
 
 -- the lists of both directions, at width v for an entry
@@ -179,7 +179,7 @@ pub record Proper (c : Columns) : Type 0 where
   pub targets-long : length (c .targets) ≡ length (c .payloads)
   pub outs-long : length (c .outs) ≡ length (c .payloads)
   pub ins-long : length (c .ins) ≡ length (c .payloads)
-  pub small-nodes : Below (2 ^ 32) (c .nodes)
+  pub small-nodes : Below (2 ^ node-payload-width) (c .nodes)
   pub sources-below : Below (length (c .nodes)) (c .sources)
   pub targets-below : Below (length (c .nodes)) (c .targets)
   pub outs-below : Below (length (c .payloads)) (c .outs)
@@ -213,8 +213,8 @@ below-column-bits c =
     let w = least-width (length (c .nodes)) in
     let v = least-width (length (c .payloads)) in
     below-append
-    (below-append (below-append (below-bits-of 16 (length (c .nodes))) (below-bits-of 16 (length (records-of c))))
-    (below-append (below-row 32 (c .nodes)) (below-edge-bits w (records-of c))))
+    (below-append (below-append (below-bits-of count-width (length (c .nodes))) (below-bits-of count-width (length (records-of c))))
+    (below-append (below-row node-payload-width (c .nodes)) (below-edge-bits w (records-of c))))
     (below-append (below-row v (c .outs)) (below-row v (c .ins)))
 
 -- how many come before the lists

@@ -2,6 +2,10 @@
 // entries of a direction: they are right exactly when they are below m, none comes twice, and their ends do not descend. As in document 01, w is the width of a
 // node's number and v that of an edge's.
 
+use crate::places::COUNT_WIDTH;
+use crate::places::EDGE_COUNT_START;
+use crate::places::EDGE_PAYLOAD_WIDTH;
+use crate::places::edges_start;
 use crate::places::image_bytes;
 use crate::places::lists_size;
 use crate::places::outs_start;
@@ -30,7 +34,11 @@ fn end_of(bytes: &[u8], at: usize, w: u32, edge: u32) -> u32
     requires { ⌜ Ends (now bytes) at w (edge + 1) ⌝ }
     ensures { λ r. ⌜ r ≡ end-in (now (bytes .entry)) at w edge ⌝ }
 {
-    read_field(bytes, at + (2 * w as usize + 32) * edge as usize, w)
+    read_field(
+        bytes,
+        at + (2 * w as usize + EDGE_PAYLOAD_WIDTH as usize) * edge as usize,
+        w,
+    )
 }
 
 // Rule 5 of one direction: the ends of the m edges are below n.
@@ -83,7 +91,7 @@ fn broken_content(bytes: &[u8], n: u32, m: u32) -> u32
 {
     let w = least_width(n);
     let v = least_width(m);
-    let sources = 32 + 32 * n as usize;
+    let sources = edges_start(n);
     let targets = sources + w as usize;
     let size = lists_size(m);
     let outs = outs_start(n, m);
@@ -113,8 +121,8 @@ pub fn first_broken(bytes: &[u8]) -> u32
     if bytes.len() < 4 {
         return 1;
     }
-    let n = read_field(bytes, 0, 16);
-    let m = read_field(bytes, 16, 16);
+    let n = read_field(bytes, 0, COUNT_WIDTH);
+    let m = read_field(bytes, EDGE_COUNT_START, COUNT_WIDTH);
     if n > LIMIT {
         return 2;
     }

@@ -7,20 +7,35 @@ ghost use Rattle.plain.specs.Numbers.{LIMIT};
 ghost use Rattle.plain.specs.Bits.{bytes-for, least-width};
 ghost use Rattle.plain.specs.Image.{record-width, edges-start, outs-start, ins-start, image-size};
 
+// The bits of a count.
+pub const COUNT_WIDTH: u32 = 16;
+
+// The bits of a node's payload.
+pub const NODE_PAYLOAD_WIDTH: u32 = 32;
+
+// The bits of an edge's payload.
+pub const EDGE_PAYLOAD_WIDTH: u32 = 32;
+
+// Where the edge count stands, after the node count.
+pub const EDGE_COUNT_START: usize = COUNT_WIDTH as usize;
+
+// Where the nodes' payloads begin, after both counts.
+pub const NODES_START: usize = 2 * EDGE_COUNT_START;
+
 // The bits of one edge's record.
 pub fn record_width(nodes: u32) -> usize
     requires { ⌜ nodes ≤ LIMIT ⌝ }
     ensures { λ r. ⌜ r ≡ record-width (least-width nodes) ⌝ }
 {
     let width = bits::least_width(nodes) as usize;
-    width + (width + 32)
+    width + (width + EDGE_PAYLOAD_WIDTH as usize)
 }
 
 // Where the edges' records begin.
 pub fn edges_start(nodes: u32) -> usize
     ensures { λ r. ⌜ r ≡ edges-start nodes ⌝ }
 {
-    32 + 32 * nodes as usize
+    NODES_START + NODE_PAYLOAD_WIDTH as usize * nodes as usize
 }
 
 // Where the joined out-lists begin.

@@ -23,7 +23,7 @@ ghost use Rattle.compact.specs.Bases.{Rebuilt};
 ghost use Rattle.image.specs.Spread.{spread, SpreadFits};
 ghost use Rattle.image.specs.Directions.{BaseReadable, AxisReadable, AxisRead};
 ghost use Rattle.image.specs.Calls.{ReadOf};
-ghost use Rattle.image.specs.Reading.{Accepted, PayloadsReadable, PayloadsRead, AxesReadable, AxesRead, Placed};
+ghost use Rattle.image.specs.Reading.{Accepted, PayloadsReadable, PayloadsRead, AxesReadable, AxesRead, ImagePlaced};
 
 // Reads `count` fields of `width` bits, the first at bit `position` and each `stride` bits further, into words from `at` on.
 fn read_fields(
@@ -112,8 +112,24 @@ fn read_payloads(
     let width = bits::least_width(count_nodes) as usize;
     let stride = places::record_width(count_nodes);
     let payloads = places::edges_start(count_nodes) + (width + width);
-    read_fields(bytes, 32, 32, 32, nodes, 0, count_nodes as usize);
-    read_fields(bytes, payloads, stride, 32, edges, 0, count_edges as usize);
+    read_fields(
+        bytes,
+        places::NODES_START,
+        places::NODE_PAYLOAD_WIDTH as usize,
+        places::NODE_PAYLOAD_WIDTH,
+        nodes,
+        0,
+        count_nodes as usize,
+    );
+    read_fields(
+        bytes,
+        payloads,
+        stride,
+        places::EDGE_PAYLOAD_WIDTH,
+        edges,
+        0,
+        count_edges as usize,
+    );
 }
 
 // Reads both directions. `edges` and `nodes` are the capacities.
@@ -166,13 +182,13 @@ fn place(
     bytes: &[u8],
 ) -> Counts
     requires { ⌜ Accepted (lengths (length (now nodes)) (length (now edges)) (length (now «live_nodes»)) (length (now «live_edges»)) (length (now outgoing)) (length (now incoming))) (now bytes) ⌝ }
-    ensures { λ r. ⌜ Placed
+    ensures { λ r. ⌜ ImagePlaced
         (at-entry r nodes edges «live_nodes» «live_edges» outgoing incoming)
         (now (bytes .entry))
         (at-exit r nodes edges «live_nodes» «live_edges» outgoing incoming) ⌝ }
 {
-    let count_nodes = bits::read_field(bytes, 0, 16);
-    let count_edges = bits::read_field(bytes, 16, 16);
+    let count_nodes = bits::read_field(bytes, 0, places::COUNT_WIDTH);
+    let count_edges = bits::read_field(bytes, places::EDGE_COUNT_START, places::COUNT_WIDTH);
     read_axes(
         outgoing,
         incoming,
@@ -199,8 +215,8 @@ fn answer(lengths: Lengths, bytes: &[u8]) -> Answer
     if rule != 0 {
         return memory::reading_answer(Limits::BOX, lengths, rule, 0, 0);
     }
-    let count_nodes = bits::read_field(bytes, 0, 16);
-    let count_edges = bits::read_field(bytes, 16, 16);
+    let count_nodes = bits::read_field(bytes, 0, places::COUNT_WIDTH);
+    let count_edges = bits::read_field(bytes, places::EDGE_COUNT_START, places::COUNT_WIDTH);
     memory::reading_answer(Limits::BOX, lengths, rule, count_nodes, count_edges)
 }
 

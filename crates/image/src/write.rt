@@ -1,5 +1,10 @@
 // Writing an image: rows of words and records of edges as bits, the image of columns of words, and the image of a store. Document 01, "The image".
 
+use crate::places::COUNT_WIDTH;
+use crate::places::EDGE_COUNT_START;
+use crate::places::EDGE_PAYLOAD_WIDTH;
+use crate::places::NODE_PAYLOAD_WIDTH;
+use crate::places::NODES_START;
 use crate::places::image_bytes;
 use bits::least_width;
 use bits::write_field;
@@ -59,7 +64,7 @@ fn write_record(
     let second = position + width as usize;
     write_field(bytes, position, width, source);
     write_field(bytes, second, width, target);
-    write_field(bytes, second + width as usize, 32, payload);
+    write_field(bytes, second + width as usize, EDGE_PAYLOAD_WIDTH, payload);
 }
 
 // Writes the records of edges, one after the other, and answers the bit after them. Internal.
@@ -79,7 +84,7 @@ fn write_edges(
     let mut e: usize = 0;
     while e < payloads.len() {
         write_record(bytes, at, width, sources[e], targets[e], payloads[e]);
-        at += 2 * width as usize + 32;
+        at += 2 * width as usize + EDGE_PAYLOAD_WIDTH as usize;
         e += 1;
     }
     at
@@ -90,8 +95,8 @@ fn write_counts(bytes: &mut [u8], nodes: usize, edges: usize)
     requires { ⌜ (4 ≤ length (now bytes)) × ((nodes ≤ LIMIT) × (edges ≤ LIMIT)) ⌝ }
     ensures { λ _. ⌜ Wrote (now (bytes .entry)) 0 (count-bits nodes edges) (now (bytes .exit)) ⌝ }
 {
-    write_field(bytes, 0, 16, nodes as u32);
-    write_field(bytes, 16, 16, edges as u32);
+    write_field(bytes, 0, COUNT_WIDTH, nodes as u32);
+    write_field(bytes, EDGE_COUNT_START, COUNT_WIDTH, edges as u32);
 }
 
 // Writes the counts, the nodes' payloads and the edges' records, a node in `width` bits, and answers the bit after them. Internal.
@@ -108,7 +113,7 @@ fn write_slots(
         (slot-bits width (now (nodes .entry)) (records-in (now (sources .entry)) (now (targets .entry)) (now (payloads .entry)))) (now (bytes .exit)) r ⌝ }
 {
     write_counts(bytes, nodes.len(), payloads.len());
-    let at = write_row(bytes, 32, 32, nodes);
+    let at = write_row(bytes, NODES_START, NODE_PAYLOAD_WIDTH, nodes);
     write_edges(bytes, at, width, sources, targets, payloads)
 }
 

@@ -1,5 +1,5 @@
 -- A strip on a fresh store of lotstrip's capacities, its compaction and its image: none of the calls is refused, and what they leave is that of the plain lists.
-use Prim.Native.Nat.{ℕ, _*_, _/_, _%_, _≤_}
+use Prim.Native.Nat.{ℕ, _+_, _*_, _/_, _%_, _≤_}
 use mathlib.Core.Path.{_≡_, refl, ap, ap₂, subst, _∙_}
 use mathlib.Core.Bool.{true}
 use mathlib.Core.Option.{none}
@@ -10,14 +10,14 @@ use lib.ListN.{length, length-map}
 use Rattle.plain.specs.declared.Counts.{Counts}
 use Rattle.plain.specs.declared.Answer.{Answer}
 use Rattle.plain.specs.Lists.{written}
-use Rattle.plain.specs.Operations.{operations}
+use Rattle.plain.specs.Operations.{operation-words, operations}
 use Rattle.plain.specs.Plain.{Plain, EdgeSlot, edge-flags}
 use Rattle.plain.specs.Reads.{Reply, live-edges}
 use Rattle.plain.specs.Step.{Capacities, State, run, answers}
 use Rattle.plain.specs.Compaction.{survivors, compacted}
 use Rattle.plain.specs.Bits.{least-width}
-use Rattle.plain.specs.Image.{image, record-width}
-use Rattle.plain.specs.Memory.{Lengths, first-short, exact}
+use Rattle.plain.specs.Image.{image, record-width, edges-start}
+use Rattle.plain.specs.Memory.{Lengths, first-short, live-words, axis-length, exact}
 use Rattle.plain.specs.Calls.{Stripped, Compacted, strip, judged-strip, judged-compaction, judged-reply, compaction, compacting, fresh-state, within, fresh-within, fresh}
 use Rattle.plain.specs.Lotstrip.{lotstrip-capacities}
 use Rattle.plain.specs.WellFormed.{WellFormed}
@@ -50,22 +50,30 @@ booking-answers words = answers lotstrip-capacities fresh-state (operations word
 abbrev pub closing : List ℕ → List ℕ
 closing words = image (survivors (booked words .lists))
 
--- Bytes that hold any such image: two counts, 512 payloads, 1,024 records of 9, 9 and 32 bits, and twice 1,024 entries of 10 bits.
+-- the least widths of so many nodes and edges
+abbrev node-width : ℕ
+node-width = 9
+
+abbrev edge-width : ℕ
+edge-width = 10
+
+-- Bytes that hold any such image: the counts and the nodes' payloads, the edges' records, and an entry of each edge in either direction.
 abbrev pub image-room : ℕ
-image-room = 11_012
+image-room =
+    (edges-start (lotstrip-capacities .nodes) + record-width node-width * lotstrip-capacities .edges + 2 * (edge-width * lotstrip-capacities .edges)) / 8
 
 -- ---- the strip
 
 -- The memory lent has no word to spare, the strip is whole, and its answers have room.
 pub record Bookable (nodes edges live-nodes live-edges outgoing incoming words answers : List ℕ) : Type 0 where
-  pub nodes-long : length nodes ≡ 512
-  pub edges-long : length edges ≡ 1024
-  pub live-nodes-long : length live-nodes ≡ 8
-  pub live-edges-long : length live-edges ≡ 16
-  pub outgoing-long : length outgoing ≡ 7169
-  pub incoming-long : length incoming ≡ 7169
-  pub whole : length words % 4 ≡ 0
-  pub room : length words / 2 ≤ length answers
+  pub nodes-long : length nodes ≡ lotstrip-capacities .nodes
+  pub edges-long : length edges ≡ lotstrip-capacities .edges
+  pub live-nodes-long : length live-nodes ≡ live-words (lotstrip-capacities .nodes)
+  pub live-edges-long : length live-edges ≡ live-words (lotstrip-capacities .edges)
+  pub outgoing-long : length outgoing ≡ axis-length lotstrip-capacities
+  pub incoming-long : length incoming ≡ axis-length lotstrip-capacities
+  pub whole : length words % operation-words ≡ 0
+  pub room : 2 * (length words / operation-words) ≤ length answers
 
 -- A store that a strip led to.
 pub record Held (w : Words) : Type 0 where
@@ -130,10 +138,10 @@ module _ {w : Words} (h : Held w) where
   well : WellFormed lotstrip-capacities plain
   well = subst (λ (caps : Capacities). WellFormed caps plain) (h .sized) (h .checked .walks)
 
-  compacting-is : (node-map edge-map work : ℕ) → 512 ≤ node-map → 1024 ≤ edge-map → 2048 ≤ work
+  compacting-is : (node-map edge-map work : ℕ) → lotstrip-capacities .nodes ≤ node-map → lotstrip-capacities .edges ≤ edge-map → 2 * lotstrip-capacities .edges ≤ work
       → compacting-of w node-map edge-map work ≡ compacting none (state-of (shape-of w))
   compacting-is node-map edge-map work a b c =
-      let few : live-edges plain ≤ 1024 = omega (arith, count-length (λ f. f) (edge-flags plain), length-map (plain .edges) (λ (e : EdgeSlot). e .live), well .edges-within) in
+      let few : live-edges plain ≤ lotstrip-capacities .edges = omega (arith, count-length (λ f. f) (edge-flags plain), length-map (plain .edges) (λ (e : EdgeSlot). e .live), well .edges-within) in
       let s = state-of (shape-of w) in
       ap (λ (rule : ℕ). judged-compaction rule s (compaction s node-map edge-map work)) (checked-sound w (h .checked))
       ∙ compaction-done s node-map edge-map work
@@ -141,7 +149,7 @@ module _ {w : Words} (h : Held w) where
 
   pub closes : {node-map edge-map work node-map' edge-map' work' : List ℕ} {number value : ℕ} {v : Words}
       → CompactOf w node-map edge-map work number value v node-map' edge-map' work'
-      → 512 ≤ length node-map → 1024 ≤ length edge-map → 2048 ≤ length work → Closed w v
+      → lotstrip-capacities .nodes ≤ length node-map → lotstrip-capacities .edges ≤ length edge-map → 2 * lotstrip-capacities .edges ≤ length work → Closed w v
   unfolding compacted
   closes {node-map} {edge-map} {work} done a b c =
       let is = compacting-is (length node-map) (length edge-map) (length work) a b c in
@@ -158,13 +166,13 @@ module _ {w : Words} (h : Held w) where
   pub image-short : length (image (survivors plain)) ≤ image-room
   image-short =
       let s = survivors plain in
-      let nodes : length (s .nodes) ≤ 512 = omega (arith, surviving-nodes-within plain, well .nodes-within) in
-      let edges : length (s .edges) ≤ 1024 = omega (arith, surviving-edges-within plain, well .edges-within) in
-      let narrow = width-least (length (s .nodes)) 9 nodes in
-      let wide = width-least (length (s .edges)) 10 edges in
-      let across : record-width (least-width (length (s .nodes))) ≤ 50 = omega arith in
-      let records : record-width (least-width (length (s .nodes))) * length (s .edges) ≤ 50 * 1024 = mul-le-mul across edges in
-      let entries : least-width (length (s .edges)) * length (s .edges) ≤ 10 * 1024 = mul-le-mul wide edges in
+      let nodes : length (s .nodes) ≤ lotstrip-capacities .nodes = omega (arith, surviving-nodes-within plain, well .nodes-within) in
+      let edges : length (s .edges) ≤ lotstrip-capacities .edges = omega (arith, surviving-edges-within plain, well .edges-within) in
+      let narrow = width-least (length (s .nodes)) node-width nodes in
+      let wide = width-least (length (s .edges)) edge-width edges in
+      let across : record-width (least-width (length (s .nodes))) ≤ record-width node-width = omega arith in
+      let records : record-width (least-width (length (s .nodes))) * length (s .edges) ≤ record-width node-width * lotstrip-capacities .edges = mul-le-mul across edges in
+      let entries : least-width (length (s .edges)) * length (s .edges) ≤ edge-width * lotstrip-capacities .edges = mul-le-mul wide edges in
       omega (arith, image-length s (survivors-sound lotstrip-capacities plain well (omega arith) (omega arith)))
 
 -- ---- the image

@@ -80,11 +80,14 @@ pub length-line : (i number value : ℕ) → length (line i number value) ≡ le
 unfolding line
 length-line i number value = simp length-append (omega arith)
 
-line-most : (i number value : ℕ) → length (line i number value) ≤ 63
+-- the bytes of any line: three numbers of twenty digits, each with a byte behind it
+abbrev pub line-room : ℕ
+line-room = 63
+
+line-most : (i number value : ℕ) → length (line i number value) ≤ line-room
 line-most i number value = omega (arith, length-line i number value, decimal-most i, decimal-most number, decimal-most value)
 
--- a line is at most three numbers of twenty digits, each with a byte behind it
-pub lines-most : (i : ℕ) (answers : List ℕ) → length (answer-lines i answers) ≤ 63 * (length answers / 2)
+pub lines-most : (i : ℕ) (answers : List ℕ) → length (answer-lines i answers) ≤ line-room * (length answers / 2)
 unfolding answer-lines
 lines-most i [] = omega arith
 lines-most i (a ∷ []) = omega arith

@@ -1,5 +1,5 @@
 -- What the program prints: the pieces are those of its definition, and the text lent has room for any of it.
-use Prim.Native.Nat.{ℕ, _+_, _/_, _%_, _≤_, _<_}
+use Prim.Native.Nat.{ℕ, _+_, _*_, _/_, _%_, _≤_, _<_}
 use mathlib.Core.Path.{_≡_, sym, ap, subst, _∙_}
 use mathlib.Core.List.{List, [], _∷_, _++_}
 use native.Mathlib.Omega.{arith}
@@ -7,15 +7,15 @@ use lib.ListN.{length, take, drop, length-append}
 use lib.Seq.{take-at}
 use borrow.Author.Tests.{lt-ltb, le-ltb, eq-eqb, ne-eqb}
 use Rattle.plain.specs.Lists.{written}
-use Rattle.plain.specs.Operations.{operations}
+use Rattle.plain.specs.Operations.{operation-words, operations}
 use Rattle.plain.specs.Calls.{fresh-state}
-use Rattle.plain.specs.Lotstrip.{lotstrip-capacities, words-of, codes, newline, answer-lines, hexadecimal, lotstrip-run, lotstrip}
+use Rattle.plain.specs.Lotstrip.{lotstrip-capacities, words-of, codes, newline, answer-lines, hexadecimal, word-bytes, operation-bytes, input-limit, lotstrip-run, lotstrip}
 use Rattle.plain.specs.Laws.Strips.{length-operations, length-answers}
 use Rattle.bits.specs.Put.{put-length, put-written}
 use Rattle.lotstrip_text.specs.Appending.{Appended}
-use Rattle.lotstrip_text.specs.Lines.{lines-most, length-hex}
+use Rattle.lotstrip_text.specs.Lines.{line-room, lines-most, length-hex}
 use Rattle.lotstrip_text.specs.Input.{WordsRead, length-words}
-use Rattle.lotstrip_text.specs.Booking.{booking-answers, closing, Closing}
+use Rattle.lotstrip_text.specs.Booking.{booking-answers, closing, image-room, Closing}
 
 -- What the program's function comes to: how long the text is, and the text.
 pub record LotstripOf (input entry : List ℕ) (size : ℕ) (exit : List ℕ) : Type 0 where
@@ -30,14 +30,14 @@ printed answers bytes = answer-lines 0 answers ++ (hexadecimal bytes ++ (newline
 pub length-printed : (answers bytes : List ℕ) → length (printed answers bytes) ≡ length (answer-lines 0 answers) + length (hexadecimal bytes) + 1
 length-printed answers bytes = simp length-append (omega arith)
 
--- Bytes that hold any text: 4,096 lines of 63 bytes, two digits for each of the `image-room` bytes of an image, and a newline.
+-- Bytes that hold any text: a line for each operation, two digits for each byte of an image, and a newline.
 abbrev pub text-room : ℕ
-text-room = 280_073
+text-room = line-room * (input-limit / operation-bytes) + 2 * image-room + 1
 
 -- An input that is run: no longer than a strip may be, and whole operations.
 pub record Runnable (input text : List ℕ) : Type 0 where
-  pub short : length input ≤ 65_536
-  pub whole : length input % 16 ≡ 0
+  pub short : length input ≤ input-limit
+  pub whole : length input % operation-bytes ≡ 0
   pub room : text-room ≤ length text
 
 -- ---- the ways that it ends
@@ -49,19 +49,19 @@ told {input} {entry} {exit} {text} {size} a is =
 
 module _ (input : List ℕ) where
   -- "more prints only `strip 2`"
-  pub too-long : 65_536 < length input → codes "strip 2\n" ≡ lotstrip input
+  pub too-long : input-limit < length input → codes "strip 2\n" ≡ lotstrip input
   unfolding lotstrip
-  too-long h = sym (rw (lt-ltb 65_536 (length input) h))
+  too-long h = sym (rw (lt-ltb input-limit (length input) h))
 
-  module _ (h : length input ≤ 65_536) where
+  module _ (h : length input ≤ input-limit) where
     -- "up to there a length not a multiple of 16 prints only `strip 3`"
-    pub ragged : (length input % 16 ≡ 0 → ⊥) → codes "strip 3\n" ≡ lotstrip input
+    pub ragged : (length input % operation-bytes ≡ 0 → ⊥) → codes "strip 3\n" ≡ lotstrip input
     unfolding lotstrip
-    ragged k = sym (rw (le-ltb 65_536 (length input) h, ne-eqb (length input % 16) 0 k))
+    ragged k = sym (rw (le-ltb input-limit (length input) h, ne-eqb (length input % operation-bytes) 0 k))
 
-    pub runs : length input % 16 ≡ 0 → lotstrip-run fresh-state (words-of input) ≡ lotstrip input
+    pub runs : length input % operation-bytes ≡ 0 → lotstrip-run fresh-state (words-of input) ≡ lotstrip input
     unfolding lotstrip
-    runs k = sym (rw (le-ltb 65_536 (length input) h, eq-eqb (length input % 16) 0 k))
+    runs k = sym (rw (le-ltb input-limit (length input) h, eq-eqb (length input % operation-bytes) 0 k))
 
 -- ---- a run
 
@@ -69,19 +69,19 @@ module _ (input : List ℕ) where
 front : (xs entry : List ℕ) {slice : List ℕ} (n : ℕ) → slice ≡ written xs entry → length xs ≡ n → take n slice ≡ xs
 front xs entry n is long = rw is (take-at xs (drop (length xs) entry) n long)
 
-module _ {input zeros words : List ℕ} (read : WordsRead input zeros words) (whole : length input % 16 ≡ 0) where
+module _ {input zeros words : List ℕ} (read : WordsRead input zeros words) (whole : length input % operation-bytes ≡ 0) where
   -- the strip is the part of the words that was read
-  strip-read : take (length input / 4) words ≡ words-of input
-  strip-read = front (words-of input) zeros (length input / 4) (read .words) (length-words input)
+  strip-read : take (length input / word-bytes) words ≡ words-of input
+  strip-read = front (words-of input) zeros (length input / word-bytes) (read .words) (length-words input)
 
-  pub strip-length : length (take (length input / 4) words) ≡ length input / 4
+  pub strip-length : length (take (length input / word-bytes) words) ≡ length input / word-bytes
   strip-length = ap length strip-read ∙ length-words input
 
-  pub strip-whole : length (take (length input / 4) words) % 4 ≡ 0
+  pub strip-whole : length (take (length input / word-bytes) words) % operation-words ≡ 0
   strip-whole = omega (arith, strip-length)
 
   -- two words of answer an operation
-  answers-length : length (booking-answers (words-of input)) ≡ length input / 4 / 2
+  answers-length : length (booking-answers (words-of input)) ≡ 2 * (length input / word-bytes / operation-words)
   answers-length =
       omega (
         arith,
@@ -90,31 +90,31 @@ module _ {input zeros words : List ℕ} (read : WordsRead input zeros words) (wh
         length-words input,
       )
 
-  module _ {answers bytes answers' bytes' : List ℕ} {size : ℕ} (closed : Closing (take (length input / 4) words) answers bytes answers' size bytes') where
+  module _ {answers bytes answers' bytes' : List ℕ} {size : ℕ} (closed : Closing (take (length input / word-bytes) words) answers bytes answers' size bytes') where
     comes : Closing (words-of input) answers bytes answers' size bytes'
     comes = subst (λ (l : List ℕ). Closing l answers bytes answers' size bytes') strip-read closed
 
     -- the parts that are printed are what the strip comes to
-    answers-are : take (length input / 4 / 2) answers' ≡ booking-answers (words-of input)
-    answers-are = front (booking-answers (words-of input)) answers (length input / 4 / 2) (comes .answered) answers-length
+    answers-are : take (2 * (length input / word-bytes / operation-words)) answers' ≡ booking-answers (words-of input)
+    answers-are = front (booking-answers (words-of input)) answers (2 * (length input / word-bytes / operation-words)) (comes .answered) answers-length
 
     image-is : take size bytes' ≡ closing (words-of input)
     image-is = front (closing (words-of input)) bytes size (comes .printed) (sym (comes .sized))
 
-    pub answers-part : length (take (length input / 4 / 2) answers') ≡ length input / 4 / 2
+    pub answers-part : length (take (2 * (length input / word-bytes / operation-words)) answers') ≡ 2 * (length input / word-bytes / operation-words)
     answers-part = ap length answers-are ∙ answers-length
 
     pub image-part : length (take size bytes') ≡ size
     image-part = ap length image-is ∙ sym (comes .sized)
 
-    pub print-room : {room : ℕ} → length input ≤ 65_536 → text-room ≤ room → length (printed (take (length input / 4 / 2) answers') (take size bytes')) ≤ room
+    pub print-room : {room : ℕ} → length input ≤ input-limit → text-room ≤ room → length (printed (take (2 * (length input / word-bytes / operation-words)) answers') (take size bytes')) ≤ room
     print-room h k =
         let booked = booking-answers (words-of input) in
         let left = closing (words-of input) in
         rw (answers-are, image-is)
         (omega (arith, length-printed booked left, lines-most 0 booked, answers-length, length-hex left, comes .short))
 
-    pub run-printed : {entry exit : List ℕ} {end : ℕ} → Appended entry 0 (printed (take (length input / 4 / 2) answers') (take size bytes')) exit end
+    pub run-printed : {entry exit : List ℕ} {end : ℕ} → Appended entry 0 (printed (take (2 * (length input / word-bytes / operation-words)) answers') (take size bytes')) exit end
         → Appended entry 0 (lotstrip-run fresh-state (words-of input)) exit end
     unfolding lotstrip-run
     run-printed a = rw (answers-are, image-is) at a

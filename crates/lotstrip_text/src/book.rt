@@ -1,13 +1,20 @@
-// A strip booked on a fresh store of 512 nodes and 1,024 edges, the closing compaction, and its image. All functions are internal: the room is required, so that no
+// A strip booked on a fresh store of lotstrip's capacities, the closing compaction, and its image. All functions are internal: the room is required, so that no
 // call is refused.
 
+use crate::rooms::AXIS;
+use crate::rooms::EDGES;
+use crate::rooms::LIVE_EDGES;
+use crate::rooms::LIVE_NODES;
+use crate::rooms::NODES;
+use crate::rooms::WORK;
 use compact;
 use image;
 use plain::Counts;
 use strip;
-ghost use Prim.Native.Nat.{_≤_, _%_, _/_};
+ghost use Prim.Native.Nat.{_*_, _≤_, _%_, _/_};
 ghost use mathlib.Core.Path.{_≡_};
 ghost use lib.ListN.{length};
+ghost use Rattle.plain.specs.Operations.{operation-words};
 ghost use Rattle.shape.specs.Lent.{lent, at-entry, at-exit};
 ghost use Rattle.lotstrip_text.specs.Booking.{image-room, Bookable, Booked, Held, Closed, Printable, Printed, Closing};
 
@@ -57,9 +64,9 @@ fn close(
         (at-entry counts nodes edges «live_nodes» «live_edges» outgoing incoming)
         (at-exit r nodes edges «live_nodes» «live_edges» outgoing incoming) ⌝ }
 {
-    let mut node_map: [u32; 512] = [0; 512];
-    let mut edge_map: [u32; 1024] = [0; 1024];
-    let mut work: [u32; 2048] = [0; 2048];
+    let mut node_map: [u32; NODES] = [0; NODES];
+    let mut edge_map: [u32; EDGES] = [0; EDGES];
+    let mut work: [u32; WORK] = [0; WORK];
     let done = compact::compact(
         counts,
         nodes,
@@ -106,15 +113,15 @@ fn print_image(
 
 // Books a strip: its answers to the start of `answers`, the image of what survives it to the start of `bytes`. Answers how many bytes the image has.
 pub fn book(words: &[u32], answers: &mut [u32], bytes: &mut [u8]) -> usize
-    requires { ⌜ (length (now words) % 4 ≡ 0) × ((length (now words) / 2 ≤ length (now answers)) × (image-room ≤ length (now bytes))) ⌝ }
+    requires { ⌜ (length (now words) % operation-words ≡ 0) × ((2 * (length (now words) / operation-words) ≤ length (now answers)) × (image-room ≤ length (now bytes))) ⌝ }
     ensures { λ r. ⌜ Closing (now (words .entry)) (now (answers .entry)) (now (bytes .entry)) (now (answers .exit)) r (now (bytes .exit)) ⌝ }
 {
-    let mut nodes: [u32; 512] = [0; 512];
-    let mut edges: [u32; 1024] = [0; 1024];
-    let mut live_nodes: [u64; 8] = [0; 8];
-    let mut live_edges: [u64; 16] = [0; 16];
-    let mut outgoing: [u32; 7169] = [0; 7169];
-    let mut incoming: [u32; 7169] = [0; 7169];
+    let mut nodes: [u32; NODES] = [0; NODES];
+    let mut edges: [u32; EDGES] = [0; EDGES];
+    let mut live_nodes: [u64; LIVE_NODES] = [0; LIVE_NODES];
+    let mut live_edges: [u64; LIVE_EDGES] = [0; LIVE_EDGES];
+    let mut outgoing: [u32; AXIS] = [0; AXIS];
+    let mut incoming: [u32; AXIS] = [0; AXIS];
     let counts = run_strip(
         &mut nodes,
         &mut edges,

@@ -9,7 +9,7 @@ use borrow.Author.Tests.{le-leb}
 use Rattle.plain.specs.declared.Answer.{Answer}
 use Rattle.plain.specs.Step.{Capacities}
 use Rattle.plain.specs.Image.{broken-image, nodes-in, edges-in}
-use Rattle.plain.specs.Memory.{Slice, Lengths, first-short, other-slices, live-words, axis-words}
+use Rattle.plain.specs.Memory.{Slice, Lengths, first-short, other-slices, live-words, axis-length}
 use Rattle.plain.specs.Calls.{short-answer, readable, reading-slices, fresh-within, read-within}
 use Rattle.plain.specs.Laws.Booleans.{by-test, below-or-not}
 use Rattle.plain.specs.Laws.CallCases.{LongEnough, slice-fits, no-slice, FirstShort, one-short, long-or-short, nodes-above, edges-above, within-limits}
@@ -24,18 +24,18 @@ unfolding lacking first-short
 then-lacking needs has slices is judged = judged ∙ by-test (leb needs has) (λ q. rw (q, is)) (λ q. rw q)
 
 -- every slice but the payloads
-pub others-lacking : (l : Lengths) {axis edge-words node-words : ℕ} {incoming outgoing live-edges live-nodes : Answer} → axis ≡ axis-words (l .capacities)
+pub others-lacking : (l : Lengths) {axis edge-words node-words : ℕ} {incoming outgoing live-edges live-nodes : Answer} → axis ≡ axis-length (l .capacities)
     → edge-words ≡ live-words (l .capacities .edges) → node-words ≡ live-words (l .capacities .nodes) → incoming ≡ lacking axis (l .incoming) (record { number = 0; value = 0 })
     → outgoing ≡ lacking axis (l .outgoing) incoming → live-edges ≡ lacking edge-words (l .live-edges) outgoing → live-nodes ≡ lacking node-words (l .live-nodes) live-edges
     → live-nodes ≡ short-answer (first-short (other-slices l))
 unfolding first-short
 others-lacking l {incoming = incoming} {outgoing} {live-edges} axis-is edges-are nodes-are a b c d =
-    let ins : List Slice = record { needs = axis-words (l .capacities); has = l .incoming } ∷ [] in
-    let outs : List Slice = record { needs = axis-words (l .capacities); has = l .outgoing } ∷ ins in
+    let ins : List Slice = record { needs = axis-length (l .capacities); has = l .incoming } ∷ [] in
+    let outs : List Slice = record { needs = axis-length (l .capacities); has = l .outgoing } ∷ ins in
     let edges : List Slice = record { needs = live-words (l .capacities .edges); has = l .live-edges } ∷ outs in
     then-lacking (live-words (l .capacities .nodes)) (l .live-nodes) edges
     (then-lacking (live-words (l .capacities .edges)) (l .live-edges) outs
-    (then-lacking (axis-words (l .capacities)) (l .outgoing) ins (then-lacking (axis-words (l .capacities)) (l .incoming) [] refl (a ∙ ap (λ (n : ℕ). lacking n (l .incoming) (record { number = 0; value = 0 })) axis-is))
+    (then-lacking (axis-length (l .capacities)) (l .outgoing) ins (then-lacking (axis-length (l .capacities)) (l .incoming) [] refl (a ∙ ap (λ (n : ℕ). lacking n (l .incoming) (record { number = 0; value = 0 })) axis-is))
     (b ∙ ap (λ (n : ℕ). lacking n (l .outgoing) incoming) axis-is))
     (c ∙ ap (λ (n : ℕ). lacking n (l .live-edges) outgoing) edges-are))
     (d ∙ ap (λ (n : ℕ). lacking n (l .live-nodes) live-edges) nodes-are)
@@ -93,8 +93,8 @@ pub record Roomy (most : Capacities) (l : Lengths) : Type 0 where
   pub few-edges : l .capacities .edges ≤ most .edges
   pub live-nodes-room : live-words (l .capacities .nodes) ≤ l .live-nodes
   pub live-edges-room : live-words (l .capacities .edges) ≤ l .live-edges
-  pub outgoing-room : axis-words (l .capacities) ≤ l .outgoing
-  pub incoming-room : axis-words (l .capacities) ≤ l .incoming
+  pub outgoing-room : axis-length (l .capacities) ≤ l .outgoing
+  pub incoming-room : axis-length (l .capacities) ≤ l .incoming
 
 -- The same for an image that is not broken, whose counts are within the capacities.
 pub record RoomyFor (most : Capacities) (l : Lengths) (rule n m : ℕ) : Type 0 where

@@ -5,7 +5,7 @@ use plain::Answer;
 use plain::LIMIT;
 use plain::numbers;
 ghost use mathlib.Core.Path.{_≡_};
-ghost use Rattle.plain.specs.Memory.{first-short, other-slices, live-words, axis-words};
+ghost use Rattle.plain.specs.Memory.{first-short, other-slices, live-words, axis-length};
 ghost use Rattle.plain.specs.Calls.{fresh-within, short-answer};
 ghost use Rattle.memory.specs.Lengths.{caps, measured, limits-of, lacking as lacking-of, Few, FewSlots, reading-within};
 
@@ -44,9 +44,9 @@ pub fn live_words(slots: usize) -> usize
 }
 
 // The words of an axis.
-pub fn axis_words(nodes: usize, edges: usize) -> usize
+pub fn axis_length(nodes: usize, edges: usize) -> usize
     requires { ⌜ Few nodes edges ⌝ }
-    ensures { λ r. ⌜ r ≡ axis-words (caps nodes edges) ⌝ }
+    ensures { λ r. ⌜ r ≡ axis-length (caps nodes edges) ⌝ }
 {
     4 * edges + 6 * nodes + 1
 }
@@ -73,7 +73,7 @@ fn others(lengths: Lengths) -> Answer
         number: numbers::DONE,
         value: 0,
     };
-    let axis = axis_words(lengths.nodes, lengths.edges);
+    let axis = axis_length(lengths.nodes, lengths.edges);
     let incoming = lacking(axis, lengths.incoming, done);
     let outgoing = lacking(axis, lengths.outgoing, incoming);
     let live = lacking(live_words(lengths.edges), lengths.live_edges, outgoing);

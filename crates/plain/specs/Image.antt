@@ -10,16 +10,26 @@ use Rattle.plain.specs.Plain.{EdgePayload}
 use Rattle.plain.specs.Compaction.{EdgeRecord, Survivors, source-of, target-of}
 use Rattle.plain.specs.Bits.{bits-of, field-at, fields-at, row, pack, bytes-for, least-width}
 
--- ---- the payload of an edge in bits
+-- ---- the widths of the fields that every image has, in bits
 
-abbrev pub payload-width : ℕ
-payload-width = 32
+-- "node count n and edge count m (16 bits each)"
+abbrev pub count-width : ℕ
+count-width = 16
 
+-- "n payloads (32)"
+abbrev pub node-payload-width : ℕ
+node-payload-width = 32
+
+-- "per edge source, target (w bits each), payload (32)"
+abbrev pub edge-payload-width : ℕ
+edge-payload-width = 32
+
+-- the payload of an edge as bits, and as it is read from bit p on
 abbrev pub payload-bits : EdgePayload → List ℕ
-payload-bits payload = bits-of 32 payload
+payload-bits payload = bits-of edge-payload-width payload
 
 abbrev pub payload-at : List ℕ → ℕ → EdgePayload
-payload-at bytes p = field-at bytes p 32
+payload-at bytes p = field-at bytes p edge-payload-width
 
 -- ---- writing
 
@@ -32,7 +42,7 @@ edge-bits w (e ∷ es) = bits-of w (e .source) ++ (bits-of w (e .target) ++ (pay
 -- joined, then the in-lists (v bits an entry)"
 unfoldable pub image-bits : ℕ → ℕ → Survivors → List ℕ
 image-bits w v s =
-    bits-of 16 (length (s .nodes)) ++ (bits-of 16 (length (s .edges)) ++ (row 32 (s .nodes)
+    bits-of count-width (length (s .nodes)) ++ (bits-of count-width (length (s .edges)) ++ (row node-payload-width (s .nodes)
     ++ (edge-bits w (s .edges) ++ (row v (joined (s .outs)) ++ row v (joined (s .ins))))))
 
 -- "w is the least width holding n−1, 0 if n is at most 1; v likewise for m"; "zero bits to a byte"
@@ -41,19 +51,22 @@ image s = pack (image-bits (least-width (length (s .nodes))) (least-width (lengt
 
 -- ---- reading
 
--- the two counts, the widths and the places of an image's parts, all from its first 32 bits
+-- the two counts; the widths and the places of an image's parts come from them alone
 abbrev pub nodes-in : List ℕ → ℕ
-nodes-in bytes = field-at bytes 0 16
+nodes-in bytes = field-at bytes 0 count-width
 
 abbrev pub edges-in : List ℕ → ℕ
-edges-in bytes = field-at bytes 16 16
+edges-in bytes = field-at bytes count-width count-width
 
 -- the bits of one edge's record, at width w for a node
 abbrev pub record-width : ℕ → ℕ
-record-width w = w + (w + payload-width)
+record-width w = w + (w + edge-payload-width)
+
+abbrev pub nodes-start : ℕ
+nodes-start = count-width + count-width
 
 abbrev pub edges-start : ℕ → ℕ
-edges-start n = 32 + 32 * n
+edges-start n = nodes-start + node-payload-width * n
 
 abbrev pub outs-start : ℕ → ℕ → ℕ
 outs-start n m = edges-start n + record-width (least-width n) * m
@@ -88,7 +101,7 @@ parsed bytes =
     let m = edges-in bytes in
     let records = records-at bytes (edges-start n) (least-width n) m in
     record {
-      nodes = fields-at bytes 32 32 n;
+      nodes = fields-at bytes nodes-start node-payload-width n;
       edges = records;
       outs = cut (list-lengths n (map source-of records)) (fields-at bytes (outs-start n m) (least-width m) m);
       ins = cut (list-lengths n (map target-of records)) (fields-at bytes (ins-start n m) (least-width m) m);

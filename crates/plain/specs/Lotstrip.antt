@@ -64,9 +64,16 @@ answer-lines i (number ∷ value ∷ rest) =
 
 -- ---- the program
 
--- the bytes of one operation
+-- the bytes of a word, and of one operation
+abbrev pub word-bytes : ℕ
+word-bytes = 4
+
 abbrev pub operation-bytes : ℕ
-operation-bytes = 4 * operation-words
+operation-bytes = word-bytes * operation-words
+
+-- "at most 65,536 bytes"
+abbrev pub input-limit : ℕ
+input-limit = 65_536
 
 -- "It prints a line per operation .., compacts, and prints the image on one line."
 unfoldable pub lotstrip-run : State → List ℕ → List ℕ
@@ -78,5 +85,5 @@ lotstrip-run s words =
 -- "at most 65,536 bytes (more prints only `strip 2`; up to there a length not a multiple of 16 prints only `strip 3`)"
 unfoldable pub lotstrip : List ℕ → List ℕ
 lotstrip input =
-    cond (ltb 65_536 (length input)) (codes "strip 2\n")
+    cond (ltb input-limit (length input)) (codes "strip 2\n")
     (cond (not (eqb (length input % operation-bytes) 0)) (codes "strip 3\n") (lotstrip-run fresh-state (words-of input)))

@@ -22,8 +22,8 @@ abbrev pub live-words : ℕ → ℕ
 live-words n = (n + 63) / 64
 
 -- the words of an axis: four columns an edge, five a node, and the offsets
-abbrev pub axis-words : Capacities → ℕ
-axis-words caps = 4 * caps .edges + 6 * caps .nodes + 1
+abbrev pub axis-length : Capacities → ℕ
+axis-length caps = 4 * caps .edges + 6 * caps .nodes + 1
 
 -- The lengths of a store's slices. "The capacities are the lengths of the two payload slices."
 pub record Lengths : Type 0 where
@@ -38,7 +38,7 @@ abbrev pub other-slices : Lengths → List Slice
 other-slices l =
     record { needs = live-words (l .capacities .nodes); has = l .live-nodes }
     ∷ record { needs = live-words (l .capacities .edges); has = l .live-edges }
-    ∷ record { needs = axis-words (l .capacities); has = l .outgoing } ∷ record { needs = axis-words (l .capacities); has = l .incoming } ∷ []
+    ∷ record { needs = axis-length (l .capacities); has = l .outgoing } ∷ record { needs = axis-length (l .capacities); has = l .incoming } ∷ []
 
 -- a store's memory with no word to spare
 abbrev pub exact : Capacities → Lengths
@@ -46,6 +46,6 @@ exact caps = record {
   capacities = caps;
   live-nodes = live-words (caps .nodes);
   live-edges = live-words (caps .edges);
-  outgoing = axis-words caps;
-  incoming = axis-words caps;
+  outgoing = axis-length caps;
+  incoming = axis-length caps;
 }

@@ -4,7 +4,7 @@
 pub mod numbers;
 
 ghost use mathlib.Core.Path.{_≡_};
-ghost use Rattle.plain.specs.Operations.{decoded, unused};
+ghost use Rattle.plain.specs.Operations.{decoded, unused as unused-of};
 
 // "None" where the Rust has an `Option<Id>`.
 pub const NONE: u32 = 4294967295;
@@ -100,8 +100,8 @@ pub struct Record {
 }
 
 // The operation, unless one of its unused words `a` and `b` is not 0.
-fn sparing(a: u32, b: u32, operation: Operation) -> Operation
-    ensures { λ r. ⌜ r ≡ unused a b operation ⌝ }
+fn unused(a: u32, b: u32, operation: Operation) -> Operation
+    ensures { λ r. ⌜ r ≡ unused-of a b operation ⌝ }
 {
     if a == 0 {
         if b == 0 {
@@ -117,15 +117,15 @@ impl Operation {
         ensures { λ r. ⌜ r ≡ decoded code first second payload ⌝ }
     {
         match code {
-            1 => sparing(first, second, Operation::AddNode { payload }),
+            1 => unused(first, second, Operation::AddNode { payload }),
             2 => Operation::AddEdge {
                 source: first,
                 target: second,
                 payload,
             },
-            3 => sparing(second, payload, Operation::RemoveEdge { edge: first }),
-            4 => sparing(second, payload, Operation::RemoveNode { node: first }),
-            5 => sparing(
+            3 => unused(second, payload, Operation::RemoveEdge { edge: first }),
+            4 => unused(second, payload, Operation::RemoveNode { node: first }),
+            5 => unused(
                 payload,
                 0,
                 Operation::Redirect {
@@ -134,7 +134,7 @@ impl Operation {
                     node: second,
                 },
             ),
-            6 => sparing(
+            6 => unused(
                 payload,
                 0,
                 Operation::Redirect {
@@ -143,7 +143,7 @@ impl Operation {
                     node: second,
                 },
             ),
-            7 => sparing(
+            7 => unused(
                 payload,
                 0,
                 Operation::Move {
@@ -152,7 +152,7 @@ impl Operation {
                     new: second,
                 },
             ),
-            8 => sparing(
+            8 => unused(
                 payload,
                 0,
                 Operation::Move {
@@ -161,7 +161,7 @@ impl Operation {
                     new: second,
                 },
             ),
-            9 => sparing(
+            9 => unused(
                 second,
                 0,
                 Operation::SetPayload {

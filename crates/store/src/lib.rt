@@ -198,7 +198,6 @@ pub fn remove_node(
             counts,
             live_edges,
             at,
-            true,
         );
         let back = clear::clear_adjacency(
             incoming,
@@ -207,7 +206,6 @@ pub fn remove_node(
             counts,
             live_edges,
             at,
-            true,
         );
         let less = fewer(slots, 1);
         let rest = fewer(others, out + back);

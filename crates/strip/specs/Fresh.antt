@@ -14,7 +14,7 @@ use Rattle.plain.specs.Numbers.{above-limit}
 use Rattle.plain.specs.Lists.{all, from, count}
 use Rattle.plain.specs.Plain.{Plain}
 use Rattle.plain.specs.Step.{State}
-use Rattle.plain.specs.Memory.{live-words, axis-words as axis-room}
+use Rattle.plain.specs.Memory.{live-words, axis-length as axis-room}
 use Rattle.plain.specs.Calls.{fresh-state, limits, fresh-within, fresh}
 use Rattle.plain.specs.WellFormed.{WellFormed}
 use Rattle.plain.specs.Laws.Operating.{empty-well-formed}

@@ -29,13 +29,13 @@ use Rattle.validate.specs.Marks.{marked, Marked, passes, fresh}
 use Rattle.validate.specs.Fresh.{clear-map, fresh-clear}
 use Rattle.validate.specs.Climbs.{Linked}
 use Rattle.adjacency.specs.Walk.{Readable}
-use Rattle.validate.specs.Flat.{Placed, BaseFlat, DeltaFlat, FlatReadable}
+use Rattle.validate.specs.Flat.{EntryPlaced, BaseFlat, DeltaFlat, FlatReadable}
 use Rattle.validate.specs.Walks.{WalksReadable, node-walk, walk-test, listed-test, walks-test}
 use Rattle.validate.proofs.Following.{Following, follow-start, follow-done, follow-more}
 
 -- a place by the three tests
 pub place-tested : {ws : List ℕ} {ce cn bn i e : ℕ} → end-at ws e < bn → cell ws (4 * ce + 5 * cn) (end-at ws e) ≤ i
-    → i < getD ws (4 * ce + 5 * cn + end-at ws e + 1) 0 → Placed ws ce cn bn i e
+    → i < getD ws (4 * ce + 5 * cn + end-at ws e + 1) 0 → EntryPlaced ws ce cn bn i e
 place-tested {ws} {ce} {cn} {bn} {i} {e} low least most = record {
   end-below = low;
   least = least;
@@ -114,11 +114,11 @@ index-entry (inr x) i l = x .entries i l
 
 -- the base is flat, and the delta
 pub base-done : (ws : List ℕ) (ce cn bn be : ℕ) {i : ℕ} {seen : List ℕ}
-    → Marking (adjacency-at ws ce) (λ k. Placed ws ce cn bn k (adjacency-at ws ce k)) 0 be i seen → be ≤ i → BaseFlat ws ce cn bn be
+    → Marking (adjacency-at ws ce) (λ k. EntryPlaced ws ce cn bn k (adjacency-at ws ce k)) 0 be i seen → be ≤ i → BaseFlat ws ce cn bn be
 base-done ws ce cn bn be w l = record {
   placed = λ k h. w .holds k (omega arith) (omega arith);
   once = let q : be - 0 ≡ be = omega arith in
-      ap (λ (n : ℕ). distinct (map (adjacency-at ws ce) (from 0 n))) (sym q) ∙ marking-done (adjacency-at ws ce) (λ k. Placed ws ce cn bn k (adjacency-at ws ce k)) 0 be w l;
+      ap (λ (n : ℕ). distinct (map (adjacency-at ws ce) (from 0 n))) (sym q) ∙ marking-done (adjacency-at ws ce) (λ k. EntryPlaced ws ce cn bn k (adjacency-at ws ce k)) 0 be w l;
 }
 
 pub delta-done : (ws : List ℕ) (ce be eb : ℕ) {e : ℕ} {seen : List ℕ} → Marking (next-at ws ce) (Linked ws ce be eb) be eb e seen → eb ≤ e → DeltaFlat ws ce be eb
@@ -223,8 +223,8 @@ module _ {ws : List ℕ} {ce cn bn be : ℕ} (index : Index ws ce cn bn be) (f :
       s : Stands ws ce cn bn be x e
       s = stands x e m
 
-      p : Placed ws ce cn bn (s .i) e
-      p = subst (λ (z : ℕ). Placed ws ce cn bn (s .i) z) (s .at) (f .placed (s .i) (s .below))
+      p : EntryPlaced ws ce cn bn (s .i) e
+      p = subst (λ (z : ℕ). EntryPlaced ws ce cn bn (s .i) z) (s .at) (f .placed (s .i) (s .below))
 
       apart : Index ws ce cn bn be → end-at ws e ≡ x
       apart (inl none) = absurd (omega (arith, none .0, s .node-below))
@@ -280,8 +280,8 @@ module _ {ws : List ℕ} {ce cn bn be : ℕ} (index : Index ws ce cn bn be) (f :
       at : adjacency-at ws ce i ≡ e
       at = s .3
 
-      p : Placed ws ce cn bn i e
-      p = subst (λ (z : ℕ). Placed ws ce cn bn i z) at (f .placed i (s .2))
+      p : EntryPlaced ws ce cn bn i e
+      p = subst (λ (z : ℕ). EntryPlaced ws ce cn bn i z) at (f .placed i (s .2))
 
       a : ℕ
       a = offset-at ws ce cn (end-at ws e)

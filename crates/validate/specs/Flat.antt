@@ -16,14 +16,14 @@ pub record PlaceReadable (ws : List ℕ) (ce cn bn e : ℕ) : Type 0 where
   pub below : e < ce
 
 -- Place i of the compressed index is in the part of the end of edge e.
-pub record Placed (ws : List ℕ) (ce cn bn i e : ℕ) : Type 0 where
+pub record EntryPlaced (ws : List ℕ) (ce cn bn i e : ℕ) : Type 0 where
   pub end-below : end-at ws e < bn
   pub least : offset-at ws ce cn (end-at ws e) ≤ i
   pub most : i < offset-at ws ce cn (suc (end-at ws e))
 
 -- Every entry is in the part of its end, and none comes twice.
 pub record BaseFlat (ws : List ℕ) (ce cn bn be : ℕ) : Type 0 where
-  pub placed : (i : ℕ) → i < be → Placed ws ce cn bn i (adjacency-at ws ce i)
+  pub placed : (i : ℕ) → i < be → EntryPlaced ws ce cn bn i (adjacency-at ws ce i)
   pub once : distinct (map (adjacency-at ws ce) (from 0 be)) ≡ true
 
 -- Every edge of the delta is linked, and none is linked to twice.

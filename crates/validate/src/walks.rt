@@ -23,7 +23,7 @@ ghost use Rattle.shape.specs.Columns.{end-at};
 ghost use Rattle.adjacency.specs.Cursor.{listed, listed-left};
 ghost use Rattle.adjacency.specs.Walk.{walk-in};
 ghost use Rattle.validate.specs.Marks.{Entered, Followed};
-ghost use Rattle.validate.specs.Flat.{PlaceReadable, Placed, FlatReadable, BaseFlat, DeltaFlat};
+ghost use Rattle.validate.specs.Flat.{PlaceReadable, EntryPlaced, FlatReadable, BaseFlat, DeltaFlat};
 ghost use Rattle.validate.specs.Walks.{EntryReadable, ListReadable, WalkReadable, WalksReadable, marked-if-live, walks-test};
 
 // An entry that is listed ends at the node, by the column `ends`, and is not marked yet. Marks it where it is listed.
@@ -170,7 +170,7 @@ fn live_marked(words: &[u64], seen: &[u64], slots: usize) -> bool
 // Whether entry i of the compressed index, edge `edge`, stands in the part of its end; only the yes is promised.
 fn entry_placed(axis: &[u32], edges: usize, nodes: usize, base: u32, i: u32, edge: u32) -> bool
     requires { ⌜ PlaceReadable (now axis) edges nodes base edge ⌝ }
-    ensures { λ r. ⌜ (r ≡ true → Placed (now (axis .entry)) edges nodes base i edge) ⌝ }
+    ensures { λ r. ⌜ (r ≡ true → EntryPlaced (now (axis .entry)) edges nodes base i edge) ⌝ }
 {
     let node = axis[edge as usize];
     if node >= base {

@@ -1,4 +1,5 @@
 pub mod Calls
+pub mod Slots
 pub mod Whole
 pub mod Walks
 pub mod Ids

@@ -1,8 +1,8 @@
 // Whether a store is compact: no slot behind the base, none removed, no run. The Rust knows whether any run exists; here the marks are read, once all else holds.
 
+use crate::answers::yes_or_no;
 use plain::Answer;
 use plain::Counts;
-use store::reads::yes_or_no;
 use validate::axes::words_below;
 use validate::judging::judge;
 use validate::judging::no_store;

@@ -1,16 +1,41 @@
-// Public reads of a slot: payloads, records and whether it is live. The check comes first, then what crate `store` reads of a checked store.
+// Public reads of a slot: payloads, records and whether it is live. The check comes first.
 
+use crate::answers::answered;
+use crate::answers::no_record;
+use crate::answers::refused;
+use crate::answers::yes_or_no;
+use liveness::is_live;
 use plain::Answer;
 use plain::Counts;
 use plain::Record;
-use store::reads;
+use plain::numbers::DONE;
+use plain::numbers::OUT_OF_RANGE_EDGE;
+use plain::numbers::OUT_OF_RANGE_NODE;
+use plain::numbers::REMOVED_EDGE;
 use validate::judging::judge;
 use validate::judging::no_store;
 use validate::judging::no_store_record;
+ghost use mathlib.Core.Path.{_≡_};
 ghost use Rattle.plain.specs.Reads.{node-payload, edge-record, live-edge-record, contains-node, contains-edge};
 ghost use Rattle.shape.specs.Shape.{lists};
 ghost use Rattle.shape.specs.Lent.{at-entry};
 ghost use Rattle.view.specs.Calls.{Answered, Recorded};
+ghost use Rattle.view.specs.Slots.{RecordThere, record-words};
+
+// The record of an edge slot below the bound. Internal.
+fn record_at(edges: &[u32], outgoing: &[u32], incoming: &[u32], edge: u32) -> Record
+    requires { ⌜ RecordThere (now edges) (now outgoing) (now incoming) edge ⌝ }
+    ensures { λ r. ⌜ r ≡ record-words (now (edges .entry)) (now (outgoing .entry)) (now (incoming .entry)) edge ⌝ }
+{
+    let at = edge as usize;
+    Record {
+        number: DONE,
+        value: 0,
+        source: outgoing[at],
+        target: incoming[at],
+        payload: edges[at],
+    }
+}
 
 // The payload of a node slot, also of a removed one. "Degree and node payload: 1, 5."
 pub fn node_payload(
@@ -39,16 +64,10 @@ pub fn node_payload(
     if rule != 0 {
         return no_store(rule);
     }
-    reads::node_payload(
-        counts,
-        nodes,
-        edges,
-        live_nodes,
-        live_edges,
-        outgoing,
-        incoming,
-        node,
-    )
+    if counts.nodes.bound <= node {
+        return refused(OUT_OF_RANGE_NODE);
+    }
+    answered(nodes[node as usize])
 }
 
 // The record of an edge slot, also of a removed one: source, target and payload. "Record 1, 7."
@@ -78,16 +97,10 @@ pub fn edge_record(
     if rule != 0 {
         return no_store_record(rule);
     }
-    reads::edge_record(
-        counts,
-        nodes,
-        edges,
-        live_nodes,
-        live_edges,
-        outgoing,
-        incoming,
-        edge,
-    )
+    if counts.edges.bound <= edge {
+        return no_record(OUT_OF_RANGE_EDGE);
+    }
+    record_at(edges, outgoing, incoming, edge)
 }
 
 // The record of a live edge. "Live record 1, 7, 8."
@@ -117,16 +130,14 @@ pub fn live_edge_record(
     if rule != 0 {
         return no_store_record(rule);
     }
-    reads::live_edge_record(
-        counts,
-        nodes,
-        edges,
-        live_nodes,
-        live_edges,
-        outgoing,
-        incoming,
-        edge,
-    )
+    let bound = counts.edges.bound;
+    if bound <= edge {
+        return no_record(OUT_OF_RANGE_EDGE);
+    }
+    if is_live(live_edges, bound as usize, edge as usize) {
+        return record_at(edges, outgoing, incoming, edge);
+    }
+    no_record(REMOVED_EDGE)
 }
 
 // Whether a node slot is live; one at or above the bound is not.
@@ -156,16 +167,7 @@ pub fn contains_node(
     if rule != 0 {
         return no_store(rule);
     }
-    reads::contains_node(
-        counts,
-        nodes,
-        edges,
-        live_nodes,
-        live_edges,
-        outgoing,
-        incoming,
-        node,
-    )
+    yes_or_no(is_live(live_nodes, counts.nodes.bound as usize, node as usize))
 }
 
 // Whether an edge slot is live; one at or above the bound is not.
@@ -195,14 +197,5 @@ pub fn contains_edge(
     if rule != 0 {
         return no_store(rule);
     }
-    reads::contains_edge(
-        counts,
-        nodes,
-        edges,
-        live_nodes,
-        live_edges,
-        outgoing,
-        incoming,
-        edge,
-    )
+    yes_or_no(is_live(live_edges, counts.edges.bound as usize, edge as usize))
 }

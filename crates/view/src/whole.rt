@@ -1,26 +1,15 @@
 // Public reads of the whole store: bounds, counts, whether it is empty. "The check, the yes or no reads of a store, bounds and counts: 1."
 
+use crate::answers::answered;
+use crate::answers::yes_or_no;
 use plain::Answer;
 use plain::Counts;
-use plain::numbers::DONE;
-use store::reads::yes_or_no;
 use validate::judging::judge;
 use validate::judging::no_store;
-ghost use mathlib.Core.Path.{_≡_};
-ghost use Rattle.plain.specs.Reads.{answered as answer-of, node-bound-answer, edge-bound-answer, node-count, edge-count, is-empty};
+ghost use Rattle.plain.specs.Reads.{node-bound-answer, edge-bound-answer, node-count, edge-count, is-empty};
 ghost use Rattle.shape.specs.Shape.{lists};
 ghost use Rattle.shape.specs.Lent.{at-entry};
 ghost use Rattle.view.specs.Calls.{Answered};
-
-// A number as an answer.
-fn answered(value: u32) -> Answer
-    ensures { λ r. ⌜ r ≡ answer-of value ⌝ }
-{
-    Answer {
-        number: DONE,
-        value: value as u64,
-    }
-}
 
 // How many node slots there are, removed ones too.
 pub fn node_bound(

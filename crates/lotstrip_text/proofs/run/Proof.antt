@@ -58,6 +58,7 @@ run-spec =
     (λ c. search needs)
     (λ c κs. search needs)
     (λ c. search needs)
+    (λ c. search needs)
     slice-aggregate-book
     (λ c. search needs)
     (λ c. search needs)

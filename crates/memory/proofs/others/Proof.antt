@@ -13,7 +13,7 @@ returns c =
     let outgoing = edge-words .before in
     let incoming = outgoing .before in
     let axis = incoming .before in
-    others-lacking (measured (axis .before .args .lengths)) (axis .axis-words .ensures) (edge-words .live-words .ensures) (node-words .live-words2 .ensures)
+    others-lacking (measured (axis .before .args .lengths)) (axis .axis-length .ensures) (edge-words .live-words .ensures) (node-words .live-words2 .ensures)
     (incoming .lacking .ensures) (outgoing .lacking2 .ensures) (live-edges .lacking3 .ensures) (c .lacking4 .ensures)
 
 pub others-spec : {M : Type 1} → statement M

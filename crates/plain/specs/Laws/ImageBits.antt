@@ -8,7 +8,7 @@ use Rattle.plain.specs.Lists.{joined}
 use Rattle.plain.specs.Plain.{EdgePayload}
 use Rattle.plain.specs.Compaction.{EdgeRecord, Survivors, source-of, target-of}
 use Rattle.plain.specs.Bits.{bits-of, field-at, row}
-use Rattle.plain.specs.Image.{edge-bits, image-bits, records-at, record-width, edges-start}
+use Rattle.plain.specs.Image.{count-width, node-payload-width, edge-payload-width, payload-bits, payload-at, edge-bits, image-bits, records-at, record-width, nodes-start, edges-start}
 use Rattle.plain.specs.Laws.Below.{Below, none, more, below-append}
 use Rattle.plain.specs.Laws.Bits.{length-bits-of, below-bits-of, field-at-lt, length-row, below-row}
 use Rattle.plain.specs.Laws.Packing.{Stands, stands-front, stands-rest, stands-append, stands-at, stands-field, field-stands}
@@ -29,7 +29,7 @@ pub below-edge-bits : (w : ℕ) (es : List EdgeRecord) → Below 2 (edge-bits w 
 unfolding edge-bits
 below-edge-bits w [] = none
 below-edge-bits w (e ∷ es) =
-    below-append (below-bits-of w (e .source)) (below-append (below-bits-of w (e .target)) (below-append (below-bits-of 32 (e .payload)) (below-edge-bits w es)))
+    below-append (below-bits-of w (e .source)) (below-append (below-bits-of w (e .target)) (below-append (below-bits-of edge-payload-width (e .payload)) (below-edge-bits w es)))
 
 -- as many records as asked for
 pub length-records-at : (bytes : List ℕ) (p w m : ℕ) → length (records-at bytes p w m) ≡ m
@@ -38,27 +38,27 @@ length-records-at bytes p w zero = refl
 length-records-at bytes p w (suc m) = ap suc (length-records-at bytes (p + record-width w) w m)
 
 -- each payload fits its word
-pub below-payloads-at : (bytes : List ℕ) (p w m : ℕ) → Below (2 ^ 32) (map payload-of (records-at bytes p w m))
+pub below-payloads-at : (bytes : List ℕ) (p w m : ℕ) → Below (2 ^ edge-payload-width) (map payload-of (records-at bytes p w m))
 unfolding records-at
 below-payloads-at bytes p w zero = none
-below-payloads-at bytes p w (suc m) = more (field-at-lt bytes (p + (w + w)) 32) (below-payloads-at bytes (p + record-width w) w m)
+below-payloads-at bytes p w (suc m) = more (field-at-lt bytes (p + (w + w)) edge-payload-width) (below-payloads-at bytes (p + record-width w) w m)
 
 -- records whose bits stand there are read there
 pub stands-records : {bytes : List ℕ} {p : ℕ} (w : ℕ) (es : List EdgeRecord) → Below (2 ^ w) (map source-of es) → Below (2 ^ w) (map target-of es)
-    → Below (2 ^ 32) (map payload-of es) → Stands bytes p (edge-bits w es) → records-at bytes p w (length es) ≡ es
+    → Below (2 ^ edge-payload-width) (map payload-of es) → Stands bytes p (edge-bits w es) → records-at bytes p w (length es) ≡ es
 unfolding edge-bits records-at
 stands-records w [] a b c s = refl
 stands-records {bytes} {p} w (e ∷ es) (more h a) (more k b) (more l c) s =
     let x : List ℕ = bits-of w (e .source) in
     let y : List ℕ = bits-of w (e .target) in
-    let z : List ℕ = bits-of 32 (e .payload) in
+    let z : List ℕ = payload-bits (e .payload) in
     let r : List ℕ = edge-bits w es in
     let s₁ : Stands bytes (p + w) (y ++ (z ++ r)) = stands-rest x (y ++ (z ++ r)) (length-bits-of w (e .source)) s in
     let s₂ : Stands bytes (p + (w + w)) (z ++ r) = stands-at (omega arith) (stands-rest y (z ++ r) (length-bits-of w (e .target)) s₁) in
-    let s₃ : Stands bytes (p + record-width w) r = stands-at (omega arith) (stands-rest z r (length-bits-of 32 (e .payload)) s₂) in
+    let s₃ : Stands bytes (p + record-width w) r = stands-at (omega arith) (stands-rest z r (length-bits-of edge-payload-width (e .payload)) s₂) in
     let source = stands-field w (e .source) h (stands-front x (y ++ (z ++ r)) s) in
     let target = stands-field w (e .target) k (stands-front y (z ++ r) s₁) in
-    let payload = stands-field 32 (e .payload) l (stands-front z r s₂) in
+    let payload = stands-field edge-payload-width (e .payload) l (stands-front z r s₂) in
     rw (source, target, payload, stands-records w es a b c s₃)
 
 -- the bits of records stand where they were read
@@ -68,14 +68,14 @@ records-stand bytes p w zero h = record { there = refl }
 records-stand bytes p w (suc m) h =
     let source : ℕ = field-at bytes p w in
     let target : ℕ = field-at bytes (p + w) w in
-    let payload : ℕ = field-at bytes (p + (w + w)) 32 in
+    let payload = payload-at bytes (p + (w + w)) in
     let rest : List ℕ = edge-bits w (records-at bytes (p + record-width w) w m) in
-    let s₃ : Stands bytes (p + (w + w) + 32) rest = stands-at (omega arith) (records-stand bytes (p + record-width w) w m (omega arith)) in
-    let s₂ : Stands bytes (p + (w + w)) (bits-of 32 payload ++ rest) =
-    stands-append (bits-of 32 payload) rest (length-bits-of 32 payload) (field-stands bytes (p + (w + w)) 32 (omega arith)) s₃ in
-    let s₁ : Stands bytes (p + w) (bits-of w target ++ (bits-of 32 payload ++ rest)) =
-    stands-append (bits-of w target) (bits-of 32 payload ++ rest) (length-bits-of w target) (field-stands bytes (p + w) w (omega arith)) (stands-at (omega arith) s₂) in
-    stands-append (bits-of w source) (bits-of w target ++ (bits-of 32 payload ++ rest)) (length-bits-of w source) (field-stands bytes p w (omega arith)) s₁
+    let s₃ : Stands bytes (p + (w + w) + edge-payload-width) rest = stands-at (omega arith) (records-stand bytes (p + record-width w) w m (omega arith)) in
+    let s₂ : Stands bytes (p + (w + w)) (payload-bits payload ++ rest) =
+    stands-append (payload-bits payload) rest (length-bits-of edge-payload-width payload) (field-stands bytes (p + (w + w)) edge-payload-width (omega arith)) s₃ in
+    let s₁ : Stands bytes (p + w) (bits-of w target ++ (payload-bits payload ++ rest)) =
+    stands-append (bits-of w target) (payload-bits payload ++ rest) (length-bits-of w target) (field-stands bytes (p + w) w (omega arith)) (stands-at (omega arith) s₂) in
+    stands-append (bits-of w source) (bits-of w target ++ (payload-bits payload ++ rest)) (length-bits-of w source) (field-stands bytes p w (omega arith)) s₁
 
 -- ---- the whole
 
@@ -88,9 +88,9 @@ ins-from w v n m = outs-from w n m + v * m
 
 -- Each part of the image's bits stands at its place.
 pub record Parts (bytes : List ℕ) (w v : ℕ) (s : Survivors) : Type 0 where
-  pub node-count : Stands bytes 0 (bits-of 16 (length (s .nodes)))
-  pub edge-count : Stands bytes 16 (bits-of 16 (length (s .edges)))
-  pub nodes : Stands bytes 32 (row 32 (s .nodes))
+  pub node-count : Stands bytes 0 (bits-of count-width (length (s .nodes)))
+  pub edge-count : Stands bytes count-width (bits-of count-width (length (s .edges)))
+  pub nodes : Stands bytes nodes-start (row node-payload-width (s .nodes))
   pub edges : Stands bytes (edges-start (length (s .nodes))) (edge-bits w (s .edges))
   pub outs : Stands bytes (outs-from w (length (s .nodes)) (length (s .edges))) (row v (joined (s .outs)))
   pub ins : Stands bytes (ins-from w v (length (s .nodes)) (length (s .edges))) (row v (joined (s .ins)))
@@ -99,7 +99,7 @@ pub record Parts (bytes : List ℕ) (w v : ℕ) (s : Survivors) : Type 0 where
 pub below-image-bits : (w v : ℕ) (s : Survivors) → Below 2 (image-bits w v s)
 unfolding image-bits
 below-image-bits w v s =
-    below-append (below-bits-of 16 (length (s .nodes))) (below-append (below-bits-of 16 (length (s .edges))) (below-append (below-row 32 (s .nodes))
+    below-append (below-bits-of count-width (length (s .nodes))) (below-append (below-bits-of count-width (length (s .edges))) (below-append (below-row node-payload-width (s .nodes))
     (below-append (below-edge-bits w (s .edges)) (below-append (below-row v (joined (s .outs))) (below-row v (joined (s .ins)))))))
 
 module _ (w v : ℕ) (s : Survivors) (o : length (joined (s .outs)) ≡ length (s .edges)) where
@@ -116,15 +116,15 @@ module _ (w v : ℕ) (s : Survivors) (o : length (joined (s .outs)) ≡ length (
   pub parts : {bytes : List ℕ} → Stands bytes 0 (image-bits w v s) → Parts bytes w v s
   unfolding image-bits
   parts {bytes} s₀ =
-      let a : List ℕ = bits-of 16 (length (s .nodes)) in
-      let b : List ℕ = bits-of 16 (length (s .edges)) in
-      let c : List ℕ = row 32 (s .nodes) in
+      let a : List ℕ = bits-of count-width (length (s .nodes)) in
+      let b : List ℕ = bits-of count-width (length (s .edges)) in
+      let c : List ℕ = row node-payload-width (s .nodes) in
       let d : List ℕ = edge-bits w (s .edges) in
       let e : List ℕ = row v (joined (s .outs)) in
       let f : List ℕ = row v (joined (s .ins)) in
-      let s₁ : Stands bytes 16 (b ++ (c ++ (d ++ (e ++ f)))) = stands-rest a (b ++ (c ++ (d ++ (e ++ f)))) (length-bits-of 16 (length (s .nodes))) s₀ in
-      let s₂ : Stands bytes 32 (c ++ (d ++ (e ++ f))) = stands-rest b (c ++ (d ++ (e ++ f))) (length-bits-of 16 (length (s .edges))) s₁ in
-      let s₃ = stands-rest c (d ++ (e ++ f)) (length-row 32 (s .nodes)) s₂ in
+      let s₁ : Stands bytes count-width (b ++ (c ++ (d ++ (e ++ f)))) = stands-rest a (b ++ (c ++ (d ++ (e ++ f)))) (length-bits-of count-width (length (s .nodes))) s₀ in
+      let s₂ : Stands bytes nodes-start (c ++ (d ++ (e ++ f))) = stands-rest b (c ++ (d ++ (e ++ f))) (length-bits-of count-width (length (s .edges))) s₁ in
+      let s₃ = stands-rest c (d ++ (e ++ f)) (length-row node-payload-width (s .nodes)) s₂ in
       let s₄ = stands-rest d (e ++ f) (length-edge-bits w (s .edges)) s₃ in
       record {
         node-count = stands-front a (b ++ (c ++ (d ++ (e ++ f)))) s₀;
@@ -144,7 +144,7 @@ module _ (w v : ℕ) (s : Survivors) (o : length (joined (s .outs)) ≡ length (
       let f : List ℕ = row v (joined (s .ins)) in
       let s₄ = stands-append e f outs-length (p .outs) (p .ins) in
       let s₃ = stands-append d (e ++ f) (length-edge-bits w (s .edges)) (p .edges) s₄ in
-      let s₂ = stands-append (row 32 (s .nodes)) (d ++ (e ++ f)) (length-row 32 (s .nodes)) (p .nodes) s₃ in
-      let s₁ = stands-append (bits-of 16 (length (s .edges))) (row 32 (s .nodes) ++ (d ++ (e ++ f))) (length-bits-of 16 (length (s .edges))) (p .edge-count) s₂ in
-      stands-append (bits-of 16 (length (s .nodes))) (bits-of 16 (length (s .edges)) ++ (row 32 (s .nodes) ++ (d ++ (e ++ f))))
-      (length-bits-of 16 (length (s .nodes))) (p .node-count) s₁
+      let s₂ = stands-append (row node-payload-width (s .nodes)) (d ++ (e ++ f)) (length-row node-payload-width (s .nodes)) (p .nodes) s₃ in
+      let s₁ = stands-append (bits-of count-width (length (s .edges))) (row node-payload-width (s .nodes) ++ (d ++ (e ++ f))) (length-bits-of count-width (length (s .edges))) (p .edge-count) s₂ in
+      stands-append (bits-of count-width (length (s .nodes))) (bits-of count-width (length (s .edges)) ++ (row node-payload-width (s .nodes) ++ (d ++ (e ++ f))))
+      (length-bits-of count-width (length (s .nodes))) (p .node-count) s₁

@@ -11,7 +11,7 @@ use lib.Pow.{pow-pos}
 use Rattle.plain.specs.Lists.{joined, all, distinct}
 use Rattle.plain.specs.Compaction.{Survivors, source-of, target-of}
 use Rattle.plain.specs.Bits.{bits-of, bits, field-at, fields-at, bytes-for, padding, least-width}
-use Rattle.plain.specs.Image.{image-bits, image, nodes-in, edges-in, edges-start, outs-start, ins-start, image-size, records-at, cut, list-lengths, parsed, at-their-nodes, lists-right, broken-image}
+use Rattle.plain.specs.Image.{image-bits, image, nodes-in, edges-in, edges-start, outs-start, ins-start, image-size, records-at, cut, list-lengths, parsed, at-their-nodes, lists-right, broken-image, count-width, node-payload-width, edge-payload-width, nodes-start}
 use Rattle.plain.specs.WellFormed.{Fitted, Sound}
 use Rattle.plain.specs.Laws.Below.{Below, below-mono, below-at, below-within, below-of, below-all}
 use Rattle.plain.specs.Laws.Bits.{length-bits-of, length-fields-at, below-fields-at}
@@ -92,13 +92,13 @@ module _ (s : Survivors) (h : Sound s) where
   stand = parts (node-width s) (edge-width s) s outs-joined (stands-front (bits-in s) (bits-of (padding (length (bits-in s))) 0) stands)
 
   nodes-counted : nodes-in (image s) ≡ length (s .nodes)
-  nodes-counted = stands-field 16 (length (s .nodes)) (omega arith) (stand .node-count)
+  nodes-counted = stands-field count-width (length (s .nodes)) (omega arith) (stand .node-count)
 
   edges-counted : edges-in (image s) ≡ length (s .edges)
-  edges-counted = stands-field 16 (length (s .edges)) (omega arith) (stand .edge-count)
+  edges-counted = stands-field count-width (length (s .edges)) (omega arith) (stand .edge-count)
 
-  nodes-read : fields-at (image s) 32 32 (length (s .nodes)) ≡ s .nodes
-  nodes-read = stands-row 32 (below-of (s .nodes) (λ x l. h .node-payloads x)) (stand .nodes)
+  nodes-read : fields-at (image s) nodes-start node-payload-width (length (s .nodes)) ≡ s .nodes
+  nodes-read = stands-row node-payload-width (below-of (s .nodes) (λ x l. h .node-payloads x)) (stand .nodes)
 
   -- a width holds the ends of one direction, and of its lists the entries
   below-ends : {ends : List ℕ} {lists : List (List ℕ)} → Fitted (length (s .nodes)) ends lists → Below (2 ^ node-width s) ends
@@ -160,7 +160,7 @@ image-injective s t h k e = sym (read-back s h) ∙ ap parsed e ∙ read-back t 
 -- as many nodes are read as the first count says
 pub nodes-length : (bytes : List ℕ) → length (parsed bytes .nodes) ≡ nodes-in bytes
 unfolding parsed
-nodes-length bytes = length-fields-at bytes 32 32 (nodes-in bytes)
+nodes-length bytes = length-fields-at bytes nodes-start node-payload-width (nodes-in bytes)
 
 -- and as many edges as the second
 pub edges-length : (bytes : List ℕ) → length (parsed bytes .edges) ≡ edges-in bytes
@@ -204,8 +204,8 @@ module _ (bytes : List ℕ) (q : broken-image bytes ≡ 0) where
       record {
         nodes-within = rw (nodes-length bytes) (counted .nodes-within);
         edges-within = rw (edges-length bytes) (counted .edges-within);
-        node-payloads = below-at (pow-pos 32) (below-fields-at bytes 32 32 n);
-        edge-payloads = below-at (pow-pos 32) (below-payloads-at bytes (edges-start n) (least-width n) m);
+        node-payloads = below-at (pow-pos node-payload-width) (below-fields-at bytes nodes-start node-payload-width n);
+        edge-payloads = below-at (pow-pos edge-payload-width) (below-payloads-at bytes (edges-start n) (least-width n) m);
         outs = rw (nodes-length bytes) (lists-fitted bytes (outs-start n m) (length-edges-in bytes source-of) below-sources (rules .outs-right));
         ins = rw (nodes-length bytes) (lists-fitted bytes (ins-start n m) (length-edges-in bytes target-of) below-targets (rules .ins-right));
       }
@@ -220,9 +220,9 @@ module _ (bytes : List ℕ) (q : broken-image bytes ≡ 0) where
       let v : ℕ = least-width m in
       let l : length bytes ≡ bytes-for (image-size n m) = rules .ended .padded .sized .length-right in
       record {
-        node-count = rw (nodes-length bytes) (field-stands bytes 0 16 (omega arith));
-        edge-count = rw (edges-length bytes) (field-stands bytes 16 16 (omega arith));
-        nodes = fields-stand bytes 32 32 n (omega arith);
+        node-count = rw (nodes-length bytes) (field-stands bytes 0 count-width (omega arith));
+        edge-count = rw (edges-length bytes) (field-stands bytes count-width count-width (omega arith));
+        nodes = fields-stand bytes nodes-start node-payload-width n (omega arith);
         edges = rw (nodes-length bytes) (records-stand bytes (edges-start n) w m (omega arith));
         outs = rw (nodes-length bytes, edges-length bytes, lists-joined bytes (outs-start n m) (length-edges-in bytes source-of) below-sources)
             (fields-stand bytes (outs-start n m) v m (omega arith));

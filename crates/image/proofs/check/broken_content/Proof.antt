@@ -7,15 +7,21 @@ use Rattle.image.proofs.check.broken_content.Statement.{statement}
 use Rattle.image.proofs.check.broken_content.Tie as tie
 
 abbrev start : tie.After-outs-start → tie.Start
-start c = c .before .before .before .before .before
+start c = c .before .before .before .before .before .before
 
 -- what is read stands in the bytes
 stands : (c : tie.After-outs-start)
     → let a = start c .args in
-    Standing (a .bytes .now) (a .n) (a .m) (c .before .before .before .least-width .result) (c .before .before .least-width2 .result) (c .outs-start .result)
-    (c .before .lists-size .result)
+    let size = c .before in
+    let records = size .before in
+    let v = records .before in
+    Standing (a .bytes .now) (a .n) (a .m) (v .before .least-width .result) (v .least-width2 .result) (records .edges-start .result) (c .outs-start .result)
+    (size .lists-size .result)
 stands c =
-    standing (start c .pre) (c .before .before .before .least-width .ensures) (c .before .before .least-width2 .ensures) (c .before .lists-size .ensures)
+    let size = c .before in
+    let records = size .before in
+    let v = records .before in
+    standing (start c .pre) (v .before .least-width .ensures) (v .least-width2 .ensures) (records .edges-start .ensures) (size .lists-size .ensures)
     (c .outs-start .ensures)
 
 returns : tie.Need-returns
@@ -72,8 +78,7 @@ broken-content-spec =
     (tie.spec
     (λ c κs. search needs)
     (λ c κs. search needs)
-    (λ c. search needs)
-    (λ c. search needs)
+    (λ c κs. search needs)
     (λ c. search needs)
     (λ c. search needs)
     (λ c κs. search needs)

@@ -2,7 +2,7 @@
 use mathlib.Core.Path.{_≡_, sym, _∙_}
 use native.Mathlib.Omega.{arith}
 use borrow.Author.Needs.{needs}
-use Rattle.plain.specs.Image.{broken-image}
+use Rattle.plain.specs.Image.{count-width, broken-image}
 use Rattle.image.specs.Reading.{count-room}
 use Rattle.image.proofs.Answering.{whole-told, broken-told}
 use Rattle.image.proofs.read.answer.Statement.{statement}
@@ -21,7 +21,7 @@ read-field-requires : tie.Need-read-field-requires
 read-field-requires c κs = count-room _ (image c) 0 (omega arith)
 
 read-field-requires-2 : tie.Need-read-field-requires-2
-read-field-requires-2 c κs = count-room _ (image (c .before)) 16 (omega arith)
+read-field-requires-2 c κs = count-room _ (image (c .before)) count-width (omega arith)
 
 returns-2 : tie.Need-returns-2
 returns-2 c =

@@ -5,6 +5,7 @@ use borrow.Author.Needs.{needs}
 use Rattle.plain.specs.declared.Slots.{Slots}
 use Rattle.plain.specs.declared.Counts.{Counts}
 use Rattle.shape.specs.Kept.{each-length}
+use Rattle.plain.specs.Image.{count-width}
 use Rattle.compact.specs.Holding.{based}
 use Rattle.image.specs.Reading.{count-room, payloads-readable, axes-readable, payloads-of, axes-of, reset-of}
 use Rattle.image.proofs.read.place.Statement.{statement}
@@ -30,7 +31,7 @@ read-field-requires : tie.Need-read-field-requires
 read-field-requires c κs = count-room _ (c .before .before .before .before .before .before .before .pre .image) 0 (omega arith)
 
 read-field-requires-2 : tie.Need-read-field-requires-2
-read-field-requires-2 c κs = count-room _ (entry c .pre .image) 16 (omega arith)
+read-field-requires-2 c κs = count-room _ (entry c .pre .image) count-width (omega arith)
 
 read-axes-requires : tie.Need-read-axes-requires
 read-axes-requires c κs =

@@ -36,6 +36,7 @@ read-payloads-spec =
     (λ c κs. search needs)
     (λ c. search needs)
     (λ c. search needs)
+    (λ c. search needs)
     (λ c κs. search needs)
     read-fields-requires-2
     (λ c. search needs)

@@ -81,6 +81,7 @@ write-edges-spec =
     write-record-requires
     (λ c. search needs)
     (λ c. search needs)
+    (λ c. search needs)
     add-at-2
     (λ c. search needs)
     (λ c. search needs)

@@ -4,6 +4,7 @@ use mathlib.Core.Path.{_≡_, _∙_}
 use native.Mathlib.Omega.{arith}
 use lib.ListN.{length, length-take}
 use borrow.Author.Needs.{needs}
+use Rattle.plain.specs.Image.{node-payload-width}
 use Rattle.plain.specs.Laws.Below.{Below, below-of}
 use Rattle.image.specs.WriteCases.{bytes-short, bytes-done, stored-size, stored-fits}
 use Rattle.image.proofs.write.write_store.Statement.{statement}
@@ -12,7 +13,7 @@ use Rattle.image.proofs.write.write_store.Tie as tie
 abbrev known : tie.After-image-bytes → tie.After-shared-slice-known
 known c = c .before .before .before .before .before
 
-small : (c : tie.After-image-bytes) → Below (2 ^ 32) (known c .before .args .nodes .now)
+small : (c : tie.After-image-bytes) → Below (2 ^ node-payload-width) (known c .before .args .nodes .now)
 small c = below-of (known c .before .args .nodes .now) (λ i l. omega (arith, known c .shared-slice-known .given i))
 
 returns : tie.Need-returns

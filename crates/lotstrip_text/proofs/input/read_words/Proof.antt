@@ -3,7 +3,7 @@ use Prim.Native.Nat.{_-_, _*_, _/_, _<_}
 use mathlib.Core.Path.{_≡_, refl}
 use native.Mathlib.Omega.{arith}
 use lib.ListN.{length, drop}
-use Rattle.plain.specs.Lotstrip.{words-of}
+use Rattle.plain.specs.Lotstrip.{words-of, word-bytes}
 use Rattle.bits.specs.Put.{put-one, put-length, put-written}
 use Rattle.lotstrip_text.specs.Appending.{Writing, Appended, writing-start, writing-room, writing-more, writing-end}
 use Rattle.lotstrip_text.specs.Input.{length-words, words-next, words-none}
@@ -12,7 +12,7 @@ use Rattle.lotstrip_text.proofs.input.read_words.Tie as tie
 
 abbrev Inv-loop : tie.InvT-loop
 Inv-loop bytes words₀ count i₀ words i =
-    (count ≡ length bytes / 4) × Writing words₀ 0 (words-of bytes) (words-of (drop (4 * i) bytes)) words i
+    (count ≡ length bytes / word-bytes) × Writing words₀ 0 (words-of bytes) (words-of (drop (word-bytes * i) bytes)) words i
 
 abbrev μ-loop : tie.MeasureT-loop
 μ-loop bytes words₀ count i₀ words i = count - i

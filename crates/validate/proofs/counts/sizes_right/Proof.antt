@@ -34,14 +34,14 @@ unfolding sizes-test
 returns c =
     let words = c .before in
     passed (nodes-right (words .before .before .before)) (passed (edges-right (words .before))
-    (rw (sym (words .axis-words .ensures)) (passed (le-leb _ _ (c .if3 .taken)) refl)))
+    (rw (sym (words .axis-length .ensures)) (passed (le-leb _ _ (c .if3 .taken)) refl)))
 
 returns-2 : tie.Need-returns-2
 unfolding sizes-test
 returns-2 c =
     let words = c .before in
     passed (nodes-right (words .before .before .before)) (passed (edges-right (words .before))
-    (rw (sym (words .axis-words .ensures)) (rw (lt-leb _ _ (c .if3 .left)))))
+    (rw (sym (words .axis-length .ensures)) (rw (lt-leb _ _ (c .if3 .left)))))
 
 returns-3 : tie.Need-returns-3
 unfolding sizes-test

@@ -6,14 +6,14 @@ use native.Mathlib.Omega.{arith}
 use borrow.Author.Tests.{not-false}
 use Rattle.plain.specs.Laws.Booleans.{true-false}
 use Rattle.shape.specs.Columns.{adjacency-at}
-use Rattle.validate.specs.Flat.{Placed}
+use Rattle.validate.specs.Flat.{EntryPlaced}
 use Rattle.validate.proofs.Flattening.{Marking, marking-start, marking-on, index-entry, base-done}
 use Rattle.validate.proofs.walks.base_flat.Statement.{statement}
 use Rattle.validate.proofs.walks.base_flat.Tie as tie
 
 abbrev Inv-loop : tie.InvT-loop
 Inv-loop axis edges nodes base base-nodes seen₀ i₀ seen i =
-    Marking (adjacency-at axis edges) (λ k. Placed axis edges nodes base-nodes k (adjacency-at axis edges k)) 0 base i seen
+    Marking (adjacency-at axis edges) (λ k. EntryPlaced axis edges nodes base-nodes k (adjacency-at axis edges k)) 0 base i seen
 
 abbrev μ-loop : tie.MeasureT-loop
 μ-loop axis edges nodes base base-nodes seen₀ i₀ seen i = base - i

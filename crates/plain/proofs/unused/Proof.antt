@@ -1,8 +1,8 @@
--- `plain::sparing` meets its contract: each way rewrites the tests that led to it.
+-- `plain::unused` meets its contract: each way rewrites the tests that led to it.
 use borrow.Author.Tests.{eq-eqb, ne-eqb}
 use Rattle.plain.specs.Operations.{unused}
-use Rattle.plain.proofs.sparing.Statement.{statement}
-use Rattle.plain.proofs.sparing.Tie as tie
+use Rattle.plain.proofs.unused.Statement.{statement}
+use Rattle.plain.proofs.unused.Tie as tie
 
 returns : tie.Need-returns
 unfolding unused
@@ -16,5 +16,5 @@ returns-3 : tie.Need-returns-3
 unfolding unused
 returns-3 c = simp (ne-eqb _ _ (c .if1 .left))
 
-pub sparing-spec : {M : Type 1} → statement M
-sparing-spec = tie.close (tie.spec returns returns-2 returns-3)
+pub unused-spec : {M : Type 1} → statement M
+unused-spec = tie.close (tie.spec returns returns-2 returns-3)

@@ -1,0 +1,53 @@
+// What the reads answer, by value: done, yes or no, and refused.
+
+use plain::Answer;
+use plain::NONE;
+use plain::Record;
+use plain::numbers::DONE;
+ghost use mathlib.Core.Path.{_≡_};
+ghost use Rattle.plain.specs.Numbers.{NONE as none};
+ghost use Rattle.plain.specs.Reads.{answered as answer-of, yes-or-no as test-of, no-record};
+ghost use Rattle.view.specs.Slots.{refused as refusal-of};
+
+// A number as an answer.
+pub fn answered(value: u32) -> Answer
+    ensures { λ r. ⌜ r ≡ answer-of value ⌝ }
+{
+    Answer {
+        number: DONE,
+        value: value as u64,
+    }
+}
+
+// A yes or no as an answer: 1 or 0.
+pub fn yes_or_no(test: bool) -> Answer
+    ensures { λ r. ⌜ r ≡ test-of test ⌝ }
+{
+    if test {
+        return answered(1);
+    }
+    answered(0)
+}
+
+// A refusal with no value.
+pub fn refused(number: u32) -> Answer
+    ensures { λ r. ⌜ r ≡ refusal-of number ⌝ }
+{
+    Answer {
+        number,
+        value: NONE as u64,
+    }
+}
+
+// The same where a record is read: "if refused, all three are 0".
+pub fn no_record(number: u32) -> Record
+    ensures { λ r. ⌜ r ≡ no-record number none ⌝ }
+{
+    Record {
+        number,
+        value: NONE as u64,
+        source: 0,
+        target: 0,
+        payload: 0,
+    }
+}
