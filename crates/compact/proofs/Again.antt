@@ -1,4 +1,12 @@
--- Compacting again changes nothing: what compaction leaves is canonical, and compacting a canonical store leaves every word as it was, which is shown here.
+-- Compacting again changes nothing: what compaction leaves is canonical, and compacting a canonical store leaves every word as it was, which is shown here. Not only
+-- fields: every word. The argument:
+-- 1. All slots of a canonical store are live, so each map is the identity, and what compaction moves down stays where it is (`kept-all-live`).
+-- 2. Compacting one direction writes five times: the ends move down (1), and are renumbered, each by the identity; then the offsets, the entries, the rings and the
+--    marks are written. After each of them the slice is shown to be what it was, by `rewritten-same`: a range rewritten with what stood there.
+-- 3. Of offsets, rings and marks `AxisCanonical` says that they stand there already: `before` of the ends, NONE and 0.
+-- 4. Of the entries it says that they are the lists of all nodes joined. What is written is the first or second half of the work slice, the lists of the survivors.
+--    Since all is live and the store is well formed, the survivors' lists are the lists that were there (`same-lists`, `outs-again`, `ins-again`).
+-- 5. Live words are those of as many slots, all live, and stand there already; the counts are all bound already. So all seven parts are equal (`dropped-again`).
 use Prim.Native.Nat.{ℕ, _+_, _*_, _≤_, _<_}
 use mathlib.Core.Path.{_≡_, sym, ap, ap₂, subst, subst₂, _∙_}
 use mathlib.Core.Bool.{true}

@@ -1,5 +1,14 @@
 -- A store that holds survivors and nothing else, which is what compaction and image reading leave: "the result equals what compaction leaves". Its shape and its
--- plain lists are the survivors', it is checked and compact, and its words are canonical.
+-- plain lists are the survivors', it is checked and compact, and its words are canonical. The argument, once for both calls:
+-- 1. `Holding v s` says what the two programs have written: counts that are all bound, base and live; the payloads at the front of their slices; the live words of
+--    as many slots; and in each direction a new base of the survivors' ends and lists (`NewBase` of crate shape).
+-- 2. All flags are true, so each slot is its payload and true (`slots-held`), and these are the slots of the survivors' shape.
+-- 3. A new base has one base part a node, the node's list, and neither run nor ring (`new-axis`); so the axis is that of the survivors' shape. With 2 this is
+--    `holding-shape`, and the plain lists and the compact flag follow from it (`holding-state`).
+-- 4. The check: bounds, live words and their count come from 1 and 2; ends, index, rings and runs from the new base (`new-checked`); rule 7 from the survivors being
+--    sound, since lists made of sound survivors are well formed (`holding-checked`).
+-- 5. Canonical words: offsets count the ends below each node, the entries are the lists of all nodes joined, rings are NONE and marks are 0, all by the new base
+--    (`holding-canonical`). That is what a second compaction meets (proofs/Again).
 use Prim.Native.Nat.{ℕ, _+_, _-_, _*_, _/_, _%_, _^_, _≤_}
 use mathlib.Core.Path.{_≡_, refl, sym, ap, ap₂, subst, _∙_}
 use mathlib.Core.Bool.{Bool, true, false, cond}

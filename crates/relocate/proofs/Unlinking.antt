@@ -1,4 +1,14 @@
--- What taking an entry out of a run does: the stores of its ways, and the run after them.
+-- What taking an entry out of a run does: the stores of its ways, and the run after them. The argument:
+-- 1. A run that is not empty is a line: from `first` the links visit its entries, without repeats, to `tail`. What stands in the link of the last is not asked.
+-- 2. There are five ways. The run is empty, or the search finds no entry before e and the first is not e: then e is not in the run, and nothing is stored. The first
+--    is e: `first` becomes its link. The search finds b, after which e comes: b's link becomes e's. And if e was the last, `tail` becomes b besides. The length falls
+--    by one in the last three.
+-- 3. Cutting a line (the module over `whole`, `cut`, `other`): the run is front, b, e, rest. New links agree with the old ones but at b, where the link is now e's. The
+--    old line split at b visits front up to b, and from e's link on the rest; both parts agree with the new links, because b is in neither (no repeats). Put together
+--    they visit front, b, rest, which is the run without e (`cut-without`).
+-- 4. Its last entry is `tail` where e was not the last, else b: two lists that are equal have the same last entry (`last-none`, `last-some`).
+-- 5. The words of other runs: no edge is in two runs, so no link of theirs is b's. All else is as it was by `getD-set-other`, and `edited` makes of this that the run of
+--    the node is the run without e, and everything else the shape's (`out`).
 use Prim.Native.Nat.{ℕ, _+_, _-_, _*_, _<_}
 use native.Mathlib.Omega.{arith}
 use mathlib.Core.Path.{_≡_, refl, sym, ap, _∙_, subst}
