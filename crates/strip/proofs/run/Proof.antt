@@ -1,10 +1,11 @@
 -- `run` meets its contract. The loop's invariant: the first `i` operations are done and answered. The measure is the number of operations left.
 use Prim.Native.Nat.{_-_}
+use mathlib.Core.Path.{ap}
 use native.Mathlib.Omega.{arith}
 use borrow.Author.Needs.{needs}
-use Rattle.plain.specs.declared.TraversalDirection.the-variants.{Outgoing, Incoming}
+use Rattle.plain.specs.Memory.{Lengths}
 use Rattle.shape.specs.Shape.{store}
-use Rattle.shape.specs.Kept.{SameLengths, same-nodes, same-edges, same-live-nodes, same-live-edges, same-axis}
+use Rattle.shape.specs.Kept.{SameLengths, same-nodes, same-edges, same-live-nodes, same-live-edges}
 use Rattle.strip.specs.Strip.{Running, running-start, running-turn, running-words, running-room, running-end}
 use Rattle.strip.proofs.run.Statement.{statement}
 use Rattle.strip.proofs.run.Tie as tie
@@ -89,7 +90,7 @@ run-spec =
     (λ c. same-edges (lengths (c .before)))
     (λ c. same-live-nodes (lengths (c .before)))
     (λ c. same-live-edges (lengths (c .before)))
-    (λ c. same-axis _ _ (lengths (c .before)) Outgoing)
-    (λ c. same-axis _ _ (lengths (c .before)) Incoming)
+    (λ c. ap (λ (l : Lengths). l .outgoing) (lengths (c .before)))
+    (λ c. ap (λ (l : Lengths). l .incoming) (lengths (c .before)))
     (λ c. search needs)
     returns)

@@ -3,13 +3,9 @@ use borrow.Author.Needs.{needs}
 use Rattle.image.proofs.read.read_payloads.Statement.{statement}
 use Rattle.image.proofs.read.read_payloads.Tie as tie
 
--- places behind the slices
-abbrev at-read-fields : tie.After-read-fields-arg2 → tie.After-read-fields
-at-read-fields c = c .before .before .before
-
 read-fields-requires-2 : tie.Need-read-fields-requires-2
 read-fields-requires-2 c κs =
-    let start = at-read-fields c .before .before in
+    let start = c .before .before .before .before .before in
     let stride = start .before in
     let width = stride .before in
     rw (start .edges-start .ensures, stride .record-width .ensures, width .least-width .ensures)
@@ -18,7 +14,7 @@ read-fields-requires-2 c κs =
 returns : tie.Need-returns
 returns c =
     let second = c .before .before in
-    let first = at-read-fields (second .before) in
+    let first = second .before .before .before .before in
     let start = first .before .before in
     let stride = start .before in
     record {
