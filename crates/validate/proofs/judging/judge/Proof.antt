@@ -6,7 +6,7 @@ use mathlib.Core.Bool.{true}
 use native.Mathlib.Omega.{arith}
 use borrow.Author.Needs.{needs}
 use Rattle.plain.specs.Laws.Booleans.{both-true}
-use Rattle.shape.specs.Shape.{Words, node-live, store}
+use Rattle.shape.specs.Shape.{Words, store}
 use Rattle.shape.specs.Rules.{broken, rule-1, live-agrees, rule-2}
 use Rattle.shape.specs.Laws.Judging.{sizes-sound}
 use Rattle.validate.specs.Passing.{refused, accepted}
@@ -34,7 +34,7 @@ one c = sym (sizes-rule (lent (start (c .before)))) ∙ accepted (c .before .siz
 
 -- the live bits of the nodes are right
 nodes-right : (c : tie.Else2)
-    → let w = lent (start (c .before .before .before .before .before)) in live-agrees (w .live-nodes) (node-live w) (w .counts .nodes) ≡ true
+    → let w = lent (start (c .before .before .before .before .before)) in live-agrees (w .live-nodes) (w .counts .nodes) ≡ true
 nodes-right c = accepted (c .before .live-right .ensures) (c .if2 .left)
 
 counted : (c : tie.Else3) → Counted (lent (start (c .before .before .before .before .before .before .before)))
