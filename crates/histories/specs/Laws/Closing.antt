@@ -65,9 +65,9 @@ module _ {w : Words} (k : Checked w) (a : Compacting w) where
     unchanged = ⊎-elim (λ q. a .comes-to .again q canonical) (λ q. a .comes-to .refused-keeps (λ z. let e = sym z ∙ q in omega arith))
         (checked-compacts .zero-or-two);
     node-map = λ done. checked-compacts .node-map ∙ ap (λ (r : Compacted). written (r .node-map) (a .node-map)) (whole done)
-        ∙ ap (λ (l : List ℕ). written l (a .node-map)) (identity-map _ (w .counts .nodes .bound) (plain-node-flags w ∙ canonical .node-words .flags));
+        ∙ ap (λ (l : List ℕ). written l (a .node-map)) (identity-map _ (w .counts .nodes .bound) (plain-node-flags w ∙ canonical .nodes .words-set .flags));
     edge-map = λ done. checked-compacts .edge-map ∙ ap (λ (r : Compacted). written (r .edge-map) (a .edge-map)) (whole done)
-        ∙ ap (λ (l : List ℕ). written l (a .edge-map)) (identity-map _ (w .counts .edges .bound) (plain-edge-flags w ∙ canonical .edge-words .flags));
+        ∙ ap (λ (l : List ℕ). written l (a .edge-map)) (identity-map _ (w .counts .edges .bound) (plain-edge-flags w ∙ canonical .edges .words-set .flags));
   }
 
 -- ---- compaction and image writing
