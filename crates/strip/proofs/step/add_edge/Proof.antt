@@ -21,25 +21,28 @@ called c = c .before .before .before .before .before .before .before .before
 
 returns : tie.Need-returns
 returns c =
-    let s = entry (c .before .before) in
-    let e = c .before .fault .ensures in
-    rw e (source-fault (s .pre) (s .args .source) (s .args .target) (s .args .payload) (λ q. c .if1 .taken (e ∙ q)))
+    let wrong = c .before in
+    let s = entry (wrong .before .before) in
+    let e = wrong .before .fault .ensures in
+    rw (c .refused .ensures, e) (source-fault (s .pre) (s .args .source) (s .args .target) (s .args .payload) (λ q. wrong .if1 .taken (e ∙ q)))
 
 returns-2 : tie.Need-returns-2
 returns-2 c =
-    let first = c .before .before in
+    let wrong = c .before in
+    let first = wrong .before .before in
     let s = start first in
-    let e = c .before .fault2 .ensures in
-    rw e (target-fault (s .pre) (s .args .source) (s .args .target) (s .args .payload) (no-node-fault _ _ _ (sym (first .before .fault .ensures) ∙ first .if1 .left))
-    (λ q. c .if2 .taken (e ∙ q)))
+    let e = wrong .before .fault2 .ensures in
+    rw (c .refused2 .ensures, e) (target-fault (s .pre) (s .args .source) (s .args .target) (s .args .payload) (no-node-fault _ _ _ (sym (first .before .fault .ensures) ∙ first .if1 .left))
+    (λ q. wrong .if2 .taken (e ∙ q)))
 
 returns-3 : tie.Need-returns-3
 returns-3 c =
-    let second = c .before in
+    let full = c .before in
+    let second = full .before in
     let first = second .before .before in
     let s = start first in
-    edge-full (s .pre) (s .args .source) (s .args .target) (s .args .payload) (no-node-fault _ _ _ (sym (first .before .fault .ensures) ∙ first .if1 .left))
-    (no-node-fault _ _ _ (sym (second .before .fault2 .ensures) ∙ second .if2 .left)) (c .if3 .taken)
+    rw (c .refused3 .ensures) (edge-full (s .pre) (s .args .source) (s .args .target) (s .args .payload) (no-node-fault _ _ _ (sym (first .before .fault .ensures) ∙ first .if1 .left))
+    (no-node-fault _ _ _ (sym (second .before .fault2 .ensures) ∙ second .if2 .left)) (full .if3 .taken))
 
 add-edge-requires : tie.Need-add-edge-requires
 add-edge-requires c κs =
@@ -68,10 +71,13 @@ add-edge-spec =
     tie.close
     (tie.spec
     (λ c κs. search needs)
+    (λ c κs. search needs)
     returns
+    (λ c κs. search needs)
     (λ c κs. search needs)
     returns-2
     (λ c. search needs)
+    (λ c κs. search needs)
     returns-3
     add-edge-requires
     (λ c. search needs)

@@ -12,8 +12,9 @@ below c = c .before .before .before .before
 
 returns : tie.Need-returns
 returns c =
-    let s = entry (c .before) in
-    payload-absent (s .pre) (s .args .edge) (s .args .payload) (c .if1 .taken)
+    let past = c .before in
+    let s = entry (past .before) in
+    rw (c .refused .ensures) (payload-absent (s .pre) (s .args .edge) (s .args .payload) (past .if1 .taken))
 
 returns-2 : tie.Need-returns-2
 returns-2 c =
@@ -21,4 +22,4 @@ returns-2 c =
     payload-set (s .pre) (s .args .edge) (s .args .payload) (below c .if1 .left) (c .before .before .set-payload .ensures)
 
 pub set-payload-spec : {M : Type 1} → statement M
-set-payload-spec = tie.close (tie.spec returns (λ c κs. search needs) (λ c. search needs) returns-2)
+set-payload-spec = tie.close (tie.spec (λ c κs. search needs) returns (λ c κs. search needs) (λ c. search needs) returns-2)
