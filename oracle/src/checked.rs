@@ -12,6 +12,8 @@ use crate::graph::store::Graph;
 use crate::graph::traverse::TraversalDirection::Outgoing;
 use crate::model::{Capacities, DIRECTIONS};
 #[cfg(ported)]
+use crate::ported::book::compact_foreign;
+#[cfg(ported)]
 use crate::ported::{Ported, compacted_walk};
 use crate::rng::Rng;
 use crate::rust_store::{RustStore, edge, walk};
@@ -264,8 +266,10 @@ fn compare_foreign(
         ported.compare_step(&step, true, tally)?;
     }
     trio.compare_everything(tally)?;
-    let in_order = trio.shape.in_order();
+    let in_order = trio.in_order();
     let reordered = trio.in_rust_order() != trio.model.plain;
+    #[cfg(ported)]
+    compact_foreign(trio.rust.clone(), rng, tally)?;
     trio.compact(tally)?;
     trio.compare_everything(tally)?;
     Ok([in_order, reordered])

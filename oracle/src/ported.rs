@@ -10,7 +10,7 @@ mod axis;
 #[cfg(feature = "serde")]
 pub mod benchmark;
 #[cfg(feature = "serde")]
-mod book;
+pub mod book;
 mod columns;
 #[cfg(feature = "serde")]
 mod damaged;

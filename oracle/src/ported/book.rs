@@ -504,6 +504,12 @@ impl Found {
     }
 }
 
+/// Compaction of a store from elsewhere, and every read after it.
+pub fn compact_foreign(rust: RustStore, rng: &mut Rng, tally: &mut Tally) -> Same {
+    let memory = Memory::of(&rust).words();
+    Shelf::of(rust, memory).compact(rng, tally)
+}
+
 /// Sequences until there were so many operations on reached stores, and so many on
 /// damaged ones.
 pub fn compare(reached: u64, foreign: u64, seed: u64, tally: &mut Tally) -> Same {
