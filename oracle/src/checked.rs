@@ -266,7 +266,7 @@ fn compare_foreign(
         ported.compare_step(&step, true, tally)?;
     }
     trio.compare_everything(tally)?;
-    let in_order = trio.shape.in_order();
+    let in_order = trio.in_order();
     let reordered = trio.in_rust_order() != trio.model.plain;
     #[cfg(ported)]
     compact_foreign(trio.rust.clone(), rng, tally)?;

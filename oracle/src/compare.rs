@@ -15,7 +15,7 @@ use crate::tally::{Difference, Tally, Thing};
 pub struct Trio {
     pub model: Model,
     pub rust: RustStore,
-    pub shape: Shape,
+    shape: Shape,
     /// The maps of all compactions since the store was fresh or read, joined:
     /// the model's and the Rust's.
     joined: Option<([Vec<u32>; 2], Renumbering)>,
@@ -150,8 +150,7 @@ impl Trio {
     /// Compacts, compares all that a compaction leaves, and gives it.
     pub fn compact(&mut self, tally: &mut Tally) -> Result<Compaction, Difference> {
         let place = || "compaction".to_string();
-        let in_order = Shape::of(&self.rust.graph).in_order();
-        let in_rust_order = (!in_order).then(|| self.in_rust_order().compaction());
+        let in_rust_order = (!self.in_order()).then(|| self.in_rust_order().compaction());
         let expected = self.model.compact();
         let given = self.rust.graph.compact();
         let maps = [expected.node_map.clone(), expected.edge_map.clone()];
@@ -186,6 +185,11 @@ impl Trio {
         self.foreign = false;
         self.compare_compacted(tally)?;
         Ok(expected)
+    }
+
+    /// Whether the Rust is the yardstick of a compaction: its own shape tells.
+    pub fn in_order(&self) -> bool {
+        Shape::of(&self.rust.graph).in_order()
     }
 
     /// The lists in the order in which the Rust's compaction takes them: it puts
