@@ -1,6 +1,7 @@
 // One operation on a checked store, with document 01's refusals in their order. All functions are internal: the strip has checked the store.
 
 use plain::Counts;
+use plain::EdgePayload;
 use plain::Operation;
 use plain::TraversalDirection;
 use plain::numbers;
@@ -8,11 +9,11 @@ use store::reads;
 ghost use mathlib.Core.Path.{_≡_};
 ghost use Prim.Native.Nat.{_*_, _≤_};
 ghost use lib.ListN.{length};
-ghost use Rattle.plain.specs.Numbers.{NONE as none};
 ghost use Rattle.plain.specs.declared.Operation.the-variants.{AddNode, AddEdge, RemoveEdge, RemoveNode, Redirect, Move, SetPayload};
 ghost use Rattle.shape.specs.Checked.{Checked};
 ghost use Rattle.shape.specs.Lent.{lent, at-entry, at-exit};
 ghost use Rattle.liveness.specs.Flags.{live-flags};
+ghost use Rattle.plain.specs.Step.{payload-fault as fault-of-payload};
 ghost use Rattle.strip.specs.Faults.{fault-of};
 ghost use Rattle.strip.specs.Step.{StepOf};
 
@@ -37,43 +38,48 @@ fn fault(live: &[u64], bound: u32, slot: u32, absent: u32, removed: u32) -> u32
     removed
 }
 
-// A refused operation: its number and no value; the counts are as they were.
-fn refused(number: u32, counts: Counts) -> Stepped
-    ensures { λ r. ⌜ r ≡ record { number = number; value = none; counts = counts } ⌝ }
+// "It refuses with 16 .. for a low above its high": 0 where it is not.
+fn payload_fault(payload: EdgePayload) -> u32
+    ensures { λ r. ⌜ r ≡ fault-of-payload payload ⌝ }
 {
-    Stepped {
-        number,
-        value: plain::NONE,
-        counts,
+    if payload.low <= payload.high {
+        return 0;
     }
+    numbers::INVERTED
 }
 
 // "Add node: 4, 10."
 pub fn add_node(
     counts: Counts,
     nodes: &mut [u32],
-    edges: &[u32],
+    lows: &[u32],
+    highs: &[u32],
     live_nodes: &mut [u64],
     live_edges: &[u64],
     outgoing: &mut [u32],
     incoming: &mut [u32],
     payload: u32,
 ) -> Stepped
-    requires { ⌜ Checked (lent counts nodes edges «live_nodes» «live_edges» outgoing incoming) ⌝ }
+    requires { ⌜ Checked (lent counts nodes lows highs «live_nodes» «live_edges» outgoing incoming) ⌝ }
     ensures { λ r. ⌜ StepOf (AddNode payload)
-        (at-entry counts nodes edges «live_nodes» «live_edges» outgoing incoming)
-        (at-exit (r .counts) nodes edges «live_nodes» «live_edges» outgoing incoming)
+        (at-entry counts nodes lows highs «live_nodes» «live_edges» outgoing incoming)
+        (at-exit (r .counts) nodes lows highs «live_nodes» «live_edges» outgoing incoming)
         (r .number) (r .value) ⌝ }
 {
     let slots = counts.nodes;
     let bound = slots.bound;
     if nodes.len() <= bound as usize {
-        return refused(numbers::FULL, counts);
+        return Stepped {
+            number: numbers::FULL,
+            value: plain::NONE,
+            counts,
+        };
     }
     let after = store::add_node(
         counts,
         nodes,
-        edges,
+        lows,
+        highs,
         live_nodes,
         live_edges,
         outgoing,
@@ -87,25 +93,34 @@ pub fn add_node(
     }
 }
 
-// "Add edge: 4, source 5, 6, target 5, 6, then 10."
+// "Add edge: 4, source 5, 6, target 5, 6, then 10", with 16 "directly after 4".
 pub fn add_edge(
     counts: Counts,
     nodes: &[u32],
-    edges: &mut [u32],
+    lows: &mut [u32],
+    highs: &mut [u32],
     live_nodes: &[u64],
     live_edges: &mut [u64],
     outgoing: &mut [u32],
     incoming: &mut [u32],
     source: u32,
     target: u32,
-    payload: u32,
+    payload: EdgePayload,
 ) -> Stepped
-    requires { ⌜ Checked (lent counts nodes edges «live_nodes» «live_edges» outgoing incoming) ⌝ }
+    requires { ⌜ Checked (lent counts nodes lows highs «live_nodes» «live_edges» outgoing incoming) ⌝ }
     ensures { λ r. ⌜ StepOf (AddEdge source target payload)
-        (at-entry counts nodes edges «live_nodes» «live_edges» outgoing incoming)
-        (at-exit (r .counts) nodes edges «live_nodes» «live_edges» outgoing incoming)
+        (at-entry counts nodes lows highs «live_nodes» «live_edges» outgoing incoming)
+        (at-exit (r .counts) nodes lows highs «live_nodes» «live_edges» outgoing incoming)
         (r .number) (r .value) ⌝ }
 {
+    let inverted = payload_fault(payload);
+    if inverted != 0 {
+        return Stepped {
+            number: inverted,
+            value: plain::NONE,
+            counts,
+        };
+    }
     let others = counts.nodes;
     let slots = counts.edges;
     let bound = slots.bound;
@@ -117,7 +132,11 @@ pub fn add_edge(
         numbers::REMOVED_NODE,
     );
     if from != 0 {
-        return refused(from, counts);
+        return Stepped {
+            number: from,
+            value: plain::NONE,
+            counts,
+        };
     }
     let to = fault(
         live_nodes,
@@ -127,22 +146,32 @@ pub fn add_edge(
         numbers::REMOVED_NODE,
     );
     if to != 0 {
-        return refused(to, counts);
+        return Stepped {
+            number: to,
+            value: plain::NONE,
+            counts,
+        };
     }
-    if edges.len() <= bound as usize {
-        return refused(numbers::FULL, counts);
+    if lows.len() <= bound as usize {
+        return Stepped {
+            number: numbers::FULL,
+            value: plain::NONE,
+            counts,
+        };
     }
     let after = store::add_edge(
         counts,
         nodes,
-        edges,
+        lows,
+        highs,
         live_nodes,
         live_edges,
         outgoing,
         incoming,
         source,
         target,
-        payload,
+        payload.low,
+        payload.high,
     );
     Stepped {
         number: numbers::DONE,
@@ -155,23 +184,25 @@ pub fn add_edge(
 pub fn remove_edge(
     counts: Counts,
     nodes: &[u32],
-    edges: &[u32],
+    lows: &[u32],
+    highs: &[u32],
     live_nodes: &[u64],
     live_edges: &mut [u64],
     outgoing: &[u32],
     incoming: &[u32],
     edge: u32,
 ) -> Stepped
-    requires { ⌜ Checked (lent counts nodes edges «live_nodes» «live_edges» outgoing incoming) ⌝ }
+    requires { ⌜ Checked (lent counts nodes lows highs «live_nodes» «live_edges» outgoing incoming) ⌝ }
     ensures { λ r. ⌜ StepOf (RemoveEdge edge)
-        (at-entry counts nodes edges «live_nodes» «live_edges» outgoing incoming)
-        (at-exit (r .counts) nodes edges «live_nodes» «live_edges» outgoing incoming)
+        (at-entry counts nodes lows highs «live_nodes» «live_edges» outgoing incoming)
+        (at-exit (r .counts) nodes lows highs «live_nodes» «live_edges» outgoing incoming)
         (r .number) (r .value) ⌝ }
 {
     let removal = store::remove_edge(
         counts,
         nodes,
-        edges,
+        lows,
+        highs,
         live_nodes,
         live_edges,
         outgoing,
@@ -197,23 +228,25 @@ pub fn remove_edge(
 pub fn remove_node(
     counts: Counts,
     nodes: &[u32],
-    edges: &[u32],
+    lows: &[u32],
+    highs: &[u32],
     live_nodes: &mut [u64],
     live_edges: &mut [u64],
     outgoing: &[u32],
     incoming: &[u32],
     node: u32,
 ) -> Stepped
-    requires { ⌜ Checked (lent counts nodes edges «live_nodes» «live_edges» outgoing incoming) ⌝ }
+    requires { ⌜ Checked (lent counts nodes lows highs «live_nodes» «live_edges» outgoing incoming) ⌝ }
     ensures { λ r. ⌜ StepOf (RemoveNode node)
-        (at-entry counts nodes edges «live_nodes» «live_edges» outgoing incoming)
-        (at-exit (r .counts) nodes edges «live_nodes» «live_edges» outgoing incoming)
+        (at-entry counts nodes lows highs «live_nodes» «live_edges» outgoing incoming)
+        (at-exit (r .counts) nodes lows highs «live_nodes» «live_edges» outgoing incoming)
         (r .number) (r .value) ⌝ }
 {
     let removal = store::remove_node(
         counts,
         nodes,
-        edges,
+        lows,
+        highs,
         live_nodes,
         live_edges,
         outgoing,
@@ -239,7 +272,8 @@ pub fn remove_node(
 pub fn redirect(
     counts: Counts,
     nodes: &[u32],
-    edges: &[u32],
+    lows: &[u32],
+    highs: &[u32],
     live_nodes: &[u64],
     live_edges: &[u64],
     outgoing: &mut [u32],
@@ -248,10 +282,10 @@ pub fn redirect(
     edge: u32,
     node: u32,
 ) -> Stepped
-    requires { ⌜ Checked (lent counts nodes edges «live_nodes» «live_edges» outgoing incoming) ⌝ }
+    requires { ⌜ Checked (lent counts nodes lows highs «live_nodes» «live_edges» outgoing incoming) ⌝ }
     ensures { λ r. ⌜ StepOf (Redirect direction edge node)
-        (at-entry counts nodes edges «live_nodes» «live_edges» outgoing incoming)
-        (at-exit (r .counts) nodes edges «live_nodes» «live_edges» outgoing incoming)
+        (at-entry counts nodes lows highs «live_nodes» «live_edges» outgoing incoming)
+        (at-exit (r .counts) nodes lows highs «live_nodes» «live_edges» outgoing incoming)
         (r .number) (r .value) ⌝ }
 {
     let others = counts.nodes;
@@ -264,7 +298,11 @@ pub fn redirect(
         numbers::REMOVED_EDGE,
     );
     if missing != 0 {
-        return refused(missing, counts);
+        return Stepped {
+            number: missing,
+            value: plain::NONE,
+            counts,
+        };
     }
     let to = fault(
         live_nodes,
@@ -274,12 +312,17 @@ pub fn redirect(
         numbers::REMOVED_NODE,
     );
     if to != 0 {
-        return refused(to, counts);
+        return Stepped {
+            number: to,
+            value: plain::NONE,
+            counts,
+        };
     }
     let previous = store::redirect(
         counts,
         nodes,
-        edges,
+        lows,
+        highs,
         live_nodes,
         live_edges,
         outgoing,
@@ -299,7 +342,8 @@ pub fn redirect(
 pub fn move_adjacency(
     counts: Counts,
     nodes: &[u32],
-    edges: &[u32],
+    lows: &[u32],
+    highs: &[u32],
     live_nodes: &[u64],
     live_edges: &[u64],
     outgoing: &mut [u32],
@@ -308,23 +352,32 @@ pub fn move_adjacency(
     old: u32,
     new: u32,
 ) -> Stepped
-    requires { ⌜ Checked (lent counts nodes edges «live_nodes» «live_edges» outgoing incoming) ⌝ }
+    requires { ⌜ Checked (lent counts nodes lows highs «live_nodes» «live_edges» outgoing incoming) ⌝ }
     ensures { λ r. ⌜ StepOf (Move direction old new)
-        (at-entry counts nodes edges «live_nodes» «live_edges» outgoing incoming)
-        (at-exit (r .counts) nodes edges «live_nodes» «live_edges» outgoing incoming)
+        (at-entry counts nodes lows highs «live_nodes» «live_edges» outgoing incoming)
+        (at-exit (r .counts) nodes lows highs «live_nodes» «live_edges» outgoing incoming)
         (r .number) (r .value) ⌝ }
 {
     let slots = counts.nodes;
     if old == new {
-        return refused(numbers::ONTO_ITSELF, counts);
+        return Stepped {
+            number: numbers::ONTO_ITSELF,
+            value: plain::NONE,
+            counts,
+        };
     }
     if slots.bound <= old {
-        return refused(numbers::OUT_OF_RANGE_NODE, counts);
+        return Stepped {
+            number: numbers::OUT_OF_RANGE_NODE,
+            value: plain::NONE,
+            counts,
+        };
     }
     if reads::degree(
         counts,
         nodes,
-        edges,
+        lows,
+        highs,
         live_nodes,
         live_edges,
         outgoing,
@@ -348,12 +401,17 @@ pub fn move_adjacency(
         numbers::REMOVED_NODE,
     );
     if to != 0 {
-        return refused(to, counts);
+        return Stepped {
+            number: to,
+            value: plain::NONE,
+            counts,
+        };
     }
     let moved = store::move_adjacency(
         counts,
         nodes,
-        edges,
+        lows,
+        highs,
         live_nodes,
         live_edges,
         outgoing,
@@ -369,38 +427,53 @@ pub fn move_adjacency(
     }
 }
 
-// "Set payload: 4, 7."
+// "Set payload: 4, 7", with 16 "directly after 4".
 pub fn set_payload(
     counts: Counts,
     nodes: &[u32],
-    edges: &mut [u32],
+    lows: &mut [u32],
+    highs: &mut [u32],
     live_nodes: &[u64],
     live_edges: &[u64],
     outgoing: &[u32],
     incoming: &[u32],
     edge: u32,
-    payload: u32,
+    payload: EdgePayload,
 ) -> Stepped
-    requires { ⌜ Checked (lent counts nodes edges «live_nodes» «live_edges» outgoing incoming) ⌝ }
+    requires { ⌜ Checked (lent counts nodes lows highs «live_nodes» «live_edges» outgoing incoming) ⌝ }
     ensures { λ r. ⌜ StepOf (SetPayload edge payload)
-        (at-entry counts nodes edges «live_nodes» «live_edges» outgoing incoming)
-        (at-exit (r .counts) nodes edges «live_nodes» «live_edges» outgoing incoming)
+        (at-entry counts nodes lows highs «live_nodes» «live_edges» outgoing incoming)
+        (at-exit (r .counts) nodes lows highs «live_nodes» «live_edges» outgoing incoming)
         (r .number) (r .value) ⌝ }
 {
+    let inverted = payload_fault(payload);
+    if inverted != 0 {
+        return Stepped {
+            number: inverted,
+            value: plain::NONE,
+            counts,
+        };
+    }
     let slots = counts.edges;
     if slots.bound <= edge {
-        return refused(numbers::OUT_OF_RANGE_EDGE, counts);
+        return Stepped {
+            number: numbers::OUT_OF_RANGE_EDGE,
+            value: plain::NONE,
+            counts,
+        };
     }
     store::set_payload(
         counts,
         nodes,
-        edges,
+        lows,
+        highs,
         live_nodes,
         live_edges,
         outgoing,
         incoming,
         edge,
-        payload,
+        payload.low,
+        payload.high,
     );
     Stepped {
         number: numbers::DONE,
@@ -413,24 +486,26 @@ pub fn set_payload(
 pub fn step(
     counts: Counts,
     nodes: &mut [u32],
-    edges: &mut [u32],
+    lows: &mut [u32],
+    highs: &mut [u32],
     live_nodes: &mut [u64],
     live_edges: &mut [u64],
     outgoing: &mut [u32],
     incoming: &mut [u32],
     operation: Operation,
 ) -> Stepped
-    requires { ⌜ Checked (lent counts nodes edges «live_nodes» «live_edges» outgoing incoming) ⌝ }
+    requires { ⌜ Checked (lent counts nodes lows highs «live_nodes» «live_edges» outgoing incoming) ⌝ }
     ensures { λ r. ⌜ StepOf operation
-        (at-entry counts nodes edges «live_nodes» «live_edges» outgoing incoming)
-        (at-exit (r .counts) nodes edges «live_nodes» «live_edges» outgoing incoming)
+        (at-entry counts nodes lows highs «live_nodes» «live_edges» outgoing incoming)
+        (at-exit (r .counts) nodes lows highs «live_nodes» «live_edges» outgoing incoming)
         (r .number) (r .value) ⌝ }
 {
     match operation {
         Operation::AddNode { payload } => add_node(
             counts,
             nodes,
-            edges,
+            lows,
+            highs,
             live_nodes,
             live_edges,
             outgoing,
@@ -444,7 +519,8 @@ pub fn step(
         } => add_edge(
             counts,
             nodes,
-            edges,
+            lows,
+            highs,
             live_nodes,
             live_edges,
             outgoing,
@@ -456,7 +532,8 @@ pub fn step(
         Operation::RemoveEdge { edge } => remove_edge(
             counts,
             nodes,
-            edges,
+            lows,
+            highs,
             live_nodes,
             live_edges,
             outgoing,
@@ -466,7 +543,8 @@ pub fn step(
         Operation::RemoveNode { node } => remove_node(
             counts,
             nodes,
-            edges,
+            lows,
+            highs,
             live_nodes,
             live_edges,
             outgoing,
@@ -480,7 +558,8 @@ pub fn step(
         } => redirect(
             counts,
             nodes,
-            edges,
+            lows,
+            highs,
             live_nodes,
             live_edges,
             outgoing,
@@ -496,7 +575,8 @@ pub fn step(
         } => move_adjacency(
             counts,
             nodes,
-            edges,
+            lows,
+            highs,
             live_nodes,
             live_edges,
             outgoing,
@@ -508,7 +588,8 @@ pub fn step(
         Operation::SetPayload { edge, payload } => set_payload(
             counts,
             nodes,
-            edges,
+            lows,
+            highs,
             live_nodes,
             live_edges,
             outgoing,

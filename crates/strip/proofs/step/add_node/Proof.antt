@@ -6,7 +6,7 @@ use Rattle.strip.proofs.step.add_node.Tie as tie
 
 -- the entry, and the place after the call
 abbrev entry : tie.After-slots → tie.Start
-entry c = c .before .before .before .before .before .before .before
+entry c = c .before .before .before .before .before .before .before .before
 
 abbrev called : tie.After-slice-known8 → tie.After-add-node
 called c = c .before .before .before .before .before .before .before .before
@@ -16,9 +16,8 @@ roomy c = c .before .before .before .before .before
 
 returns : tie.Need-returns
 returns c =
-    let full = c .before in
-    let start = entry (full .before) in
-    rw (c .refused .ensures) (node-full (start .pre) (start .args .payload) (full .if1 .taken))
+    let start = entry (c .before) in
+    node-full (start .pre) (start .args .payload) (c .if1 .taken)
 
 returns-2 : tie.Need-returns-2
 returns-2 c =
@@ -31,7 +30,6 @@ add-node-spec =
     tie.close
     (tie.spec
     (λ c. search needs)
-    (λ c κs. search needs)
     returns
     (λ c κs. search needs)
     (λ c. search needs)
