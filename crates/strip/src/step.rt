@@ -9,6 +9,7 @@ use store::reads;
 ghost use mathlib.Core.Path.{_≡_};
 ghost use Prim.Native.Nat.{_*_, _≤_};
 ghost use lib.ListN.{length};
+ghost use Rattle.plain.specs.Numbers.{NONE as none};
 ghost use Rattle.plain.specs.declared.Operation.the-variants.{AddNode, AddEdge, RemoveEdge, RemoveNode, Redirect, Move, SetPayload};
 ghost use Rattle.shape.specs.Checked.{Checked};
 ghost use Rattle.shape.specs.Lent.{lent, at-entry, at-exit};
@@ -48,6 +49,17 @@ fn payload_fault(payload: EdgePayload) -> u32
     numbers::INVERTED
 }
 
+// A refused operation: its number and no value; the counts are as they were.
+fn refused(number: u32, counts: Counts) -> Stepped
+    ensures { λ r. ⌜ r ≡ record { number = number; value = none; counts = counts } ⌝ }
+{
+    Stepped {
+        number,
+        value: plain::NONE,
+        counts,
+    }
+}
+
 // "Add node: 4, 10."
 pub fn add_node(
     counts: Counts,
@@ -69,11 +81,7 @@ pub fn add_node(
     let slots = counts.nodes;
     let bound = slots.bound;
     if nodes.len() <= bound as usize {
-        return Stepped {
-            number: numbers::FULL,
-            value: plain::NONE,
-            counts,
-        };
+        return refused(numbers::FULL, counts);
     }
     let after = store::add_node(
         counts,
@@ -115,11 +123,7 @@ pub fn add_edge(
 {
     let inverted = payload_fault(payload);
     if inverted != 0 {
-        return Stepped {
-            number: inverted,
-            value: plain::NONE,
-            counts,
-        };
+        return refused(inverted, counts);
     }
     let others = counts.nodes;
     let slots = counts.edges;
@@ -132,11 +136,7 @@ pub fn add_edge(
         numbers::REMOVED_NODE,
     );
     if from != 0 {
-        return Stepped {
-            number: from,
-            value: plain::NONE,
-            counts,
-        };
+        return refused(from, counts);
     }
     let to = fault(
         live_nodes,
@@ -146,18 +146,10 @@ pub fn add_edge(
         numbers::REMOVED_NODE,
     );
     if to != 0 {
-        return Stepped {
-            number: to,
-            value: plain::NONE,
-            counts,
-        };
+        return refused(to, counts);
     }
     if lows.len() <= bound as usize {
-        return Stepped {
-            number: numbers::FULL,
-            value: plain::NONE,
-            counts,
-        };
+        return refused(numbers::FULL, counts);
     }
     let after = store::add_edge(
         counts,
@@ -298,11 +290,7 @@ pub fn redirect(
         numbers::REMOVED_EDGE,
     );
     if missing != 0 {
-        return Stepped {
-            number: missing,
-            value: plain::NONE,
-            counts,
-        };
+        return refused(missing, counts);
     }
     let to = fault(
         live_nodes,
@@ -312,11 +300,7 @@ pub fn redirect(
         numbers::REMOVED_NODE,
     );
     if to != 0 {
-        return Stepped {
-            number: to,
-            value: plain::NONE,
-            counts,
-        };
+        return refused(to, counts);
     }
     let previous = store::redirect(
         counts,
@@ -360,18 +344,10 @@ pub fn move_adjacency(
 {
     let slots = counts.nodes;
     if old == new {
-        return Stepped {
-            number: numbers::ONTO_ITSELF,
-            value: plain::NONE,
-            counts,
-        };
+        return refused(numbers::ONTO_ITSELF, counts);
     }
     if slots.bound <= old {
-        return Stepped {
-            number: numbers::OUT_OF_RANGE_NODE,
-            value: plain::NONE,
-            counts,
-        };
+        return refused(numbers::OUT_OF_RANGE_NODE, counts);
     }
     if reads::degree(
         counts,
@@ -401,11 +377,7 @@ pub fn move_adjacency(
         numbers::REMOVED_NODE,
     );
     if to != 0 {
-        return Stepped {
-            number: to,
-            value: plain::NONE,
-            counts,
-        };
+        return refused(to, counts);
     }
     let moved = store::move_adjacency(
         counts,
@@ -448,19 +420,11 @@ pub fn set_payload(
 {
     let inverted = payload_fault(payload);
     if inverted != 0 {
-        return Stepped {
-            number: inverted,
-            value: plain::NONE,
-            counts,
-        };
+        return refused(inverted, counts);
     }
     let slots = counts.edges;
     if slots.bound <= edge {
-        return Stepped {
-            number: numbers::OUT_OF_RANGE_EDGE,
-            value: plain::NONE,
-            counts,
-        };
+        return refused(numbers::OUT_OF_RANGE_EDGE, counts);
     }
     store::set_payload(
         counts,

@@ -29,31 +29,35 @@ order c = no-payload-fault _ (sym (ordered c .before .payload-fault .ensures) �
 
 returns : tie.Need-returns
 returns c =
-    let s = entry (c .before) in
-    let e = c .before .payload-fault .ensures in
-    rw e (edge-inverted (s .pre) (s .args .source) (s .args .target) (s .args .payload) (λ q. c .if1 .taken (e ∙ q)))
+    let wrong = c .before in
+    let s = entry (wrong .before) in
+    let e = wrong .before .payload-fault .ensures in
+    rw (c .refused .ensures, e) (edge-inverted (s .pre) (s .args .source) (s .args .target) (s .args .payload) (λ q. wrong .if1 .taken (e ∙ q)))
 
 returns-2 : tie.Need-returns-2
 returns-2 c =
-    let s = start (c .before) in
-    let e = c .before .fault .ensures in
-    rw e (source-fault (s .pre) (s .args .source) (s .args .target) (order (c .before)) (λ q. c .if2 .taken (e ∙ q)))
+    let wrong = c .before in
+    let s = start (wrong .before) in
+    let e = wrong .before .fault .ensures in
+    rw (c .refused2 .ensures, e) (source-fault (s .pre) (s .args .source) (s .args .target) (order (wrong .before)) (λ q. wrong .if2 .taken (e ∙ q)))
 
 returns-3 : tie.Need-returns-3
 returns-3 c =
-    let first = c .before .before in
+    let wrong = c .before in
+    let first = wrong .before .before in
     let s = start (first .before) in
-    let e = c .before .fault2 .ensures in
-    rw e (target-fault (s .pre) (s .args .source) (s .args .target) (order (first .before)) (no-node-fault _ _ _ (sym (first .before .fault .ensures) ∙ first .if2 .left))
-    (λ q. c .if3 .taken (e ∙ q)))
+    let e = wrong .before .fault2 .ensures in
+    rw (c .refused3 .ensures, e) (target-fault (s .pre) (s .args .source) (s .args .target) (order (first .before)) (no-node-fault _ _ _ (sym (first .before .fault .ensures) ∙ first .if2 .left))
+    (λ q. wrong .if3 .taken (e ∙ q)))
 
 returns-4 : tie.Need-returns-4
 returns-4 c =
-    let second = c .before in
+    let full = c .before in
+    let second = full .before in
     let first = second .before .before in
     let s = start (first .before) in
-    edge-full (s .pre) (s .args .source) (s .args .target) (order (first .before)) (no-node-fault _ _ _ (sym (first .before .fault .ensures) ∙ first .if2 .left))
-    (no-node-fault _ _ _ (sym (second .before .fault2 .ensures) ∙ second .if3 .left)) (c .if4 .taken)
+    rw (c .refused4 .ensures) (edge-full (s .pre) (s .args .source) (s .args .target) (order (first .before)) (no-node-fault _ _ _ (sym (first .before .fault .ensures) ∙ first .if2 .left))
+    (no-node-fault _ _ _ (sym (second .before .fault2 .ensures) ∙ second .if3 .left)) (full .if4 .taken))
 
 add-edge-requires : tie.Need-add-edge-requires
 add-edge-requires c κs =
@@ -83,12 +87,16 @@ add-edge-spec =
     tie.close
     (tie.spec
     (λ c κs. search needs)
+    (λ c κs. search needs)
     returns
+    (λ c κs. search needs)
     (λ c κs. search needs)
     returns-2
     (λ c κs. search needs)
+    (λ c κs. search needs)
     returns-3
     (λ c. search needs)
+    (λ c κs. search needs)
     returns-4
     add-edge-requires
     (λ c. search needs)

@@ -16,8 +16,9 @@ roomy c = c .before .before .before .before .before
 
 returns : tie.Need-returns
 returns c =
-    let start = entry (c .before) in
-    node-full (start .pre) (start .args .payload) (c .if1 .taken)
+    let full = c .before in
+    let start = entry (full .before) in
+    rw (c .refused .ensures) (node-full (start .pre) (start .args .payload) (full .if1 .taken))
 
 returns-2 : tie.Need-returns-2
 returns-2 c =
@@ -30,6 +31,7 @@ add-node-spec =
     tie.close
     (tie.spec
     (λ c. search needs)
+    (λ c κs. search needs)
     returns
     (λ c κs. search needs)
     (λ c. search needs)

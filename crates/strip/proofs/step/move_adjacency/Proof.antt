@@ -26,14 +26,16 @@ asked c = c .before .before
 
 returns : tie.Need-returns
 returns c =
-    let s = entry (c .before) in
-    onto-itself (s .pre) (s .args .direction) (s .args .old) (s .args .new) (c .if1 .taken)
+    let same = c .before in
+    let s = entry (same .before) in
+    rw (c .refused .ensures) (onto-itself (s .pre) (s .args .direction) (s .args .old) (s .args .new) (same .if1 .taken))
 
 returns-2 : tie.Need-returns-2
 returns-2 c =
-    let other = c .before .before in
+    let past = c .before in
+    let other = past .before .before in
     let s = entry (other .before) in
-    old-absent (s .pre) (s .args .direction) (s .args .old) (s .args .new) (other .if1 .left) (c .if2 .taken)
+    rw (c .refused2 .ensures) (old-absent (s .pre) (s .args .direction) (s .args .old) (s .args .new) (other .if1 .left) (past .if2 .taken))
 
 returns-3 : tie.Need-returns-3
 returns-3 c =
@@ -45,13 +47,14 @@ returns-3 c =
 
 returns-4 : tie.Need-returns-4
 returns-4 c =
-    let some = c .before .before in
+    let wrong = c .before in
+    let some = wrong .before .before in
     let below = counted (some .before) in
     let other = compared below in
     let s = entry (other .before) in
-    let e = c .before .fault .ensures in
-    rw e (new-fault (s .pre) (s .args .direction) (s .args .old) (s .args .new) (other .if1 .left) (below .if2 .left)
-    (λ q. some .if3 .left (some .before .degree .ensures ∙ ap length q)) (λ q. c .if4 .taken (e ∙ q)))
+    let e = wrong .before .fault .ensures in
+    rw (c .refused3 .ensures, e) (new-fault (s .pre) (s .args .direction) (s .args .old) (s .args .new) (other .if1 .left) (below .if2 .left)
+    (λ q. some .if3 .left (some .before .degree .ensures ∙ ap length q)) (λ q. wrong .if4 .taken (e ∙ q)))
 
 move-adjacency-requires : tie.Need-move-adjacency-requires
 move-adjacency-requires c κs =
@@ -85,12 +88,15 @@ pub move-adjacency-spec : {M : Type 1} → statement M
 move-adjacency-spec =
     tie.close
     (tie.spec
+    (λ c κs. search needs)
     returns
+    (λ c κs. search needs)
     returns-2
     (λ c κs. search needs)
     (λ c. search needs)
     (λ c. search needs)
     returns-3
+    (λ c κs. search needs)
     (λ c κs. search needs)
     (λ c. search needs)
     (λ c. search needs)

@@ -18,17 +18,19 @@ called c = c .before .before .before .before
 
 returns : tie.Need-returns
 returns c =
-    let s = entry (c .before .before) in
-    let e = c .before .fault .ensures in
-    rw e (edge-fault (s .pre) (s .args .direction) (s .args .edge) (s .args .node) (λ q. c .if1 .taken (e ∙ q)))
+    let wrong = c .before in
+    let s = entry (wrong .before .before) in
+    let e = wrong .before .fault .ensures in
+    rw (c .refused .ensures, e) (edge-fault (s .pre) (s .args .direction) (s .args .edge) (s .args .node) (λ q. wrong .if1 .taken (e ∙ q)))
 
 returns-2 : tie.Need-returns-2
 returns-2 c =
-    let first = c .before .before in
+    let wrong = c .before in
+    let first = wrong .before .before in
     let s = start first in
-    let e = c .before .fault2 .ensures in
-    rw e (node-fault (s .pre) (s .args .direction) (s .args .edge) (s .args .node) (no-edge-fault _ _ _ (sym (first .before .fault .ensures) ∙ first .if1 .left))
-    (λ q. c .if2 .taken (e ∙ q)))
+    let e = wrong .before .fault2 .ensures in
+    rw (c .refused2 .ensures, e) (node-fault (s .pre) (s .args .direction) (s .args .edge) (s .args .node) (no-edge-fault _ _ _ (sym (first .before .fault .ensures) ∙ first .if1 .left))
+    (λ q. wrong .if2 .taken (e ∙ q)))
 
 redirect-requires : tie.Need-redirect-requires
 redirect-requires c κs =
@@ -52,4 +54,4 @@ returns-3 c =
 pub redirect-spec : {M : Type 1} → statement M
 redirect-spec =
     tie.close
-    (tie.spec (λ c κs. search needs) returns (λ c κs. search needs) returns-2 redirect-requires (λ c. search needs) (λ c. search needs) returns-3)
+    (tie.spec (λ c κs. search needs) (λ c κs. search needs) returns (λ c κs. search needs) (λ c κs. search needs) returns-2 redirect-requires (λ c. search needs) (λ c. search needs) returns-3)

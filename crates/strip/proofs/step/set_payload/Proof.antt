@@ -28,12 +28,16 @@ order c = no-payload-fault _ (sym (ordered c .before .payload-fault .ensures) �
 
 returns : tie.Need-returns
 returns c =
-    let s = entry (c .before) in
-    let e = c .before .payload-fault .ensures in
-    rw e (payload-inverted (s .pre) (s .args .edge) (s .args .payload) (λ q. c .if1 .taken (e ∙ q)))
+    let wrong = c .before in
+    let s = entry (wrong .before) in
+    let e = wrong .before .payload-fault .ensures in
+    rw (c .refused .ensures, e) (payload-inverted (s .pre) (s .args .edge) (s .args .payload) (λ q. wrong .if1 .taken (e ∙ q)))
 
 returns-2 : tie.Need-returns-2
-returns-2 c = let s = start (c .before) in payload-absent (s .pre) (s .args .edge) (order (c .before)) (c .if2 .taken)
+returns-2 c =
+    let past = c .before in
+    let s = start (past .before) in
+    rw (c .refused2 .ensures) (payload-absent (s .pre) (s .args .edge) (order (past .before)) (past .if2 .taken))
 
 set-payload-requires : tie.Need-set-payload-requires
 set-payload-requires c κs =
@@ -49,4 +53,4 @@ returns-3 c =
 
 pub set-payload-spec : {M : Type 1} → statement M
 set-payload-spec =
-    tie.close (tie.spec (λ c κs. search needs) returns returns-2 set-payload-requires (λ c. search needs) (λ c. search needs) returns-3)
+    tie.close (tie.spec (λ c κs. search needs) (λ c κs. search needs) returns (λ c κs. search needs) returns-2 set-payload-requires (λ c. search needs) (λ c. search needs) returns-3)
