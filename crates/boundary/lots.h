@@ -6,13 +6,13 @@
  * pointer is not const); no written slice overlaps another slice of the call. Nothing else: counts, words and lengths may be anything.
  *
  * What every function answers: number 0 and a value, or the number of a refusal. A call that refuses writes nothing.
- * Words past the length that a slice needs (LOT_AXIS_WORDS, LOT_LIVE_WORDS) are never written, nor those past an answer's end.
+ * Words past the length that a slice needs (below, at LOT_STORE_READ) are never written, nor those past an answer's end.
  *
  *   number  cause                                        value
  *   0       done                                         as each function says
  *   1       the words are no store                       the first broken rule, 1 to 7
  *   2       a lent slice is too short                    the length needed
- *   3       a strip is not a multiple of four words      its length
+ *   3       a strip is not a multiple of five words      its length
  *   5       a node at or above the bound                 LOT_NONE
  *   7       an edge at or above the bound                LOT_NONE
  *   8       a removed edge                               LOT_NONE
@@ -48,7 +48,7 @@ typedef struct {
     uint32_t live;
 } lot_slots;
 
-/* The counts of a store, beside its six slices. */
+/* The counts of a store, beside its seven slices. */
 typedef struct {
     lot_slots nodes;
     lot_slots edges;
@@ -66,30 +66,46 @@ typedef struct {
     lot_counts counts;
 } lot_changed;
 
-/* What reading a record answers; the last three are 0 where it is refused. */
+/* The payload of an edge: its lowest and its highest weight. */
+typedef struct {
+    uint32_t low;
+    uint32_t high;
+} lot_payload;
+
+/* What reading a record answers; the ends and the payload are 0 where it is refused. */
 typedef struct {
     uint32_t number;
     uint64_t value;
     uint32_t source;
     uint32_t target;
-    uint32_t payload;
+    lot_payload payload;
 } lot_record;
 
-/* A store is its counts and six slices, which the caller owns:
+/* What a total answers: the sums of the lows and of the highs of a list; both are 0 where it is refused. */
+typedef struct {
+    uint32_t number;
+    uint64_t value;
+    uint64_t low;
+    uint64_t high;
+} lot_total;
+
+/* A store is its counts and seven slices, which the caller owns:
  *   nodes       payloads of nodes; the length is the node capacity N
- *   edges       payloads of edges; the length is the edge capacity E
+ *   lows        the lowest weights of edges; the length is the edge capacity E
+ *   highs       the highest weights of edges, E
  *   live_nodes  LOT_LIVE_WORDS(N)
  *   live_edges  LOT_LIVE_WORDS(E)
  *   outgoing    LOT_AXIS_WORDS(N, E)
  *   incoming    LOT_AXIS_WORDS(N, E)
- * Longer ones are taken. What words past these lengths hold after a call that changed the store is not promised; a call that refuses leaves every word. */
+ * Longer ones are taken. */
 #define LOT_STORE_READ                                                                                                                               \
-    const uint32_t *nodes, size_t nodes_length, const uint32_t *edges, size_t edges_length, const uint64_t *live_nodes, size_t live_nodes_length,     \
-        const uint64_t *live_edges, size_t live_edges_length, const uint32_t *outgoing, size_t outgoing_length, const uint32_t *incoming,             \
-        size_t incoming_length
+    const uint32_t *nodes, size_t nodes_length, const uint32_t *lows, size_t lows_length, const uint32_t *highs, size_t highs_length,                 \
+        const uint64_t *live_nodes, size_t live_nodes_length, const uint64_t *live_edges, size_t live_edges_length, const uint32_t *outgoing,         \
+        size_t outgoing_length, const uint32_t *incoming, size_t incoming_length
 #define LOT_STORE_WRITTEN                                                                                                                            \
-    uint32_t *nodes, size_t nodes_length, uint32_t *edges, size_t edges_length, uint64_t *live_nodes, size_t live_nodes_length, uint64_t *live_edges, \
-        size_t live_edges_length, uint32_t *outgoing, size_t outgoing_length, uint32_t *incoming, size_t incoming_length
+    uint32_t *nodes, size_t nodes_length, uint32_t *lows, size_t lows_length, uint32_t *highs, size_t highs_length, uint64_t *live_nodes,             \
+        size_t live_nodes_length, uint64_t *live_edges, size_t live_edges_length, uint32_t *outgoing, size_t outgoing_length, uint32_t *incoming,     \
+        size_t incoming_length
 
 /* ---- making and changing a store */
 
@@ -97,21 +113,21 @@ typedef struct {
  * before edges), then 2 in the order of the slices. */
 lot_changed lot_fresh(LOT_STORE_READ);
 
-/* The operations of a strip in turn, four words each: code, first, second, payload; an unused word is 0. Each leaves two words in `answers`, number and value.
+/* The operations of a strip in turn, five words each: code, first, second, low, high; an unused word is 0. Each leaves two words in `answers`, number and value.
  *
- *   code                  words                    value                              refusals in order
- *   1  add node           0, 0, payload            the new slot                       4, 10
- *   2  add edge           source, target, payload  the new slot                       4, source 5, 6, target 5, 6, 10
- *   3  remove edge        edge, 0, 0               1, or 0 where nothing live was     4
- *   4  remove node        node, 0, 0               1, or 0 where nothing live was     4
- *   5  redirect source    edge, node, 0            the previous source                4, 7, 8, 5, 6
- *   6  redirect target    edge, node, 0            the previous target                4, 7, 8, 5, 6
- *   7  move out-list      old, new, 0              the edges moved                    4, 9, old 5; an empty list is done, 0; new 5, 6
- *   8  move in-list       old, new, 0              the edges moved                    4, 9, old 5; an empty list is done, 0; new 5, 6
- *   9  set edge payload   edge, 0, payload         0                                  4, 7
+ *   code                  words                      value                              refusals in order
+ *   1  add node           0, 0, payload, 0           the new slot                       4, 10
+ *   2  add edge           source, target, low, high  the new slot                       4, 16, source 5, 6, target 5, 6, 10
+ *   3  remove edge        edge, 0, 0, 0              1, or 0 where nothing live was     4
+ *   4  remove node        node, 0, 0, 0              1, or 0 where nothing live was     4
+ *   5  redirect source    edge, node, 0, 0           the previous source                4, 7, 8, 5, 6
+ *   6  redirect target    edge, node, 0, 0           the previous target                4, 7, 8, 5, 6
+ *   7  move out-list      old, new, 0, 0             the edges moved                    4, 9, old 5; an empty list is done, 0; new 5, 6
+ *   8  move in-list       old, new, 0, 0             the edges moved                    4, 9, old 5; an empty list is done, 0; new 5, 6
+ *   9  set edge payload   edge, 0, low, high         0                                  4, 16, 7
  *
- * 4 is an unknown code or an unused word that is not 0, 6 a removed node, 9 a move onto itself, 10 a bound that equals the capacity; the value of a refused
- * operation is LOT_NONE. A refused operation changes nothing and the strip goes on.
+ * 4 is an unknown code or an unused word that is not 0, 6 a removed node, 9 a move onto itself, 10 a bound that equals the capacity, 16 a low above its high; the
+ * value of a refused operation is LOT_NONE. A refused operation changes nothing and the strip goes on.
  *
  * Answers 0, with the counts afterwards, which the next call takes. Refuses 1, then 3, then 2 (two words an operation); then the counts are those given. Leaves
  * the words of `answers` past the answers. */
@@ -129,9 +145,9 @@ lot_changed lot_compact(lot_counts counts, LOT_STORE_WRITTEN, uint32_t *node_map
 /* The store of an image in place of all that was there. The result is what a compaction leaves: every slot live, all in the base.
  *
  * Answers 0, with the counts of the image, which the next call takes. Refuses 13 (nodes before edges), then 12 with the first broken rule, then 2: `nodes` shorter
- * than the image's node count, `edges` shorter than its edge count, then the other slices in their order; then the counts are those given. The rules of 12:
+ * than the image's node count, `lows` shorter than its edge count, then the other slices in their order; then the counts are those given. The rules of 12:
  *   1  under 4 bytes                        4  a padding bit that is not 0
- *   2  a count above 32,768                 5  an end that is not below the node count
+ *   2  a count above 32,768                 5  an end that is not below the node count, or a low above its high
  *   3  a length that the counts do not give 6  a list entry not below the edge count, repeated, or at the wrong node
  * What was there is not checked, and need not be a store: counts of any content are taken. */
 lot_changed lot_read_image(lot_counts counts, LOT_STORE_WRITTEN, const uint8_t *bytes, size_t bytes_length);
@@ -144,6 +160,10 @@ lot_answer lot_check(lot_counts counts, LOT_STORE_READ);
 /* How many edges the out-list, the in-list has. Refuses 1, 5. */
 lot_answer lot_out_degree(lot_counts counts, LOT_STORE_READ, uint32_t node);
 lot_answer lot_in_degree(lot_counts counts, LOT_STORE_READ, uint32_t node);
+
+/* The sums of the lows and of the highs of the out-list, the in-list, each exact: weights within the ranges sum to between them. Answers 0. Refuses 1, 5. */
+lot_total lot_out_total(lot_counts counts, LOT_STORE_READ, uint32_t node);
+lot_total lot_in_total(lot_counts counts, LOT_STORE_READ, uint32_t node);
 
 /* The edges of the out-list, the in-list, in order, at the start of `slots`. Answers how many. Refuses 1, 5, 2. Leaves the words of `slots` past them. */
 lot_answer lot_outgoing(lot_counts counts, LOT_STORE_READ, uint32_t node, uint32_t *slots, size_t slots_length);

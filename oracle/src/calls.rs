@@ -11,15 +11,24 @@ use crate::model::{Answer, Capacities, Model, NONE, capacities};
 /// What a call reads of a store or does to it: the model, or the Rust store.
 pub trait Lots {
     fn fresh(capacities: Capacities) -> Self;
-    fn operation(&mut self, words: [u32; 4]) -> Answer;
+    fn operation(&mut self, words: [u32; 5]) -> Answer;
     /// A node's list; nothing at or above the bound, as in the next two.
     fn walk(&self, direction: TraversalDirection, node: u32) -> Option<Vec<u32>>;
     fn payload(&self, node: u32) -> Option<u32>;
-    /// Source, target and payload, and whether the edge is live.
-    fn record(&self, edge: u32) -> Option<([u32; 3], bool)>;
+    /// Source, target, low and high, and whether the edge is live.
+    fn record(&self, edge: u32) -> Option<([u32; 4], bool)>;
+    /// How many entries the list has; of a node below the bound, as in the next.
+    fn degree(&self, direction: TraversalDirection, node: u32) -> u32;
+    /// The nodes at the other ends of the list.
+    fn neighbors(&self, direction: TraversalDirection, node: u32) -> Vec<u32>;
+    fn contains_node(&self, node: u32) -> bool;
+    fn contains_edge(&self, edge: u32) -> bool;
     fn live_nodes(&self) -> Vec<u32>;
     fn live_edges(&self) -> Vec<u32>;
+    /// Live nodes and edges, counted.
+    fn counts(&self) -> [usize; 2];
     fn bounds(&self) -> [usize; 2];
+    fn is_empty(&self) -> bool;
     fn is_compact(&self) -> bool;
     /// Compacts, and gives node map, edge map and work slice.
     fn compaction(&mut self) -> [Vec<u32>; 3];
@@ -36,7 +45,7 @@ impl Lots for Model {
         }
     }
 
-    fn operation(&mut self, words: [u32; 4]) -> Answer {
+    fn operation(&mut self, words: [u32; 5]) -> Answer {
         Self::operation(self, words)
     }
 
@@ -48,9 +57,29 @@ impl Lots for Model {
         self.plain.nodes.get(node as usize).map(|slot| slot.payload)
     }
 
-    fn record(&self, edge: u32) -> Option<([u32; 3], bool)> {
+    fn record(&self, edge: u32) -> Option<([u32; 4], bool)> {
         let slot = self.plain.edges.get(edge as usize)?;
         Some((self.plain.record(edge)?, slot.live))
+    }
+
+    fn degree(&self, direction: TraversalDirection, node: u32) -> u32 {
+        let walk = self.plain.walk(direction, node).expect("below the bound");
+        walk.len() as u32
+    }
+
+    fn neighbors(&self, direction: TraversalDirection, node: u32) -> Vec<u32> {
+        let neighbors = self.plain.neighbors(direction, node);
+        neighbors.expect("below the bound")
+    }
+
+    fn contains_node(&self, node: u32) -> bool {
+        let slot = self.plain.nodes.get(node as usize);
+        slot.is_some_and(|slot| slot.live)
+    }
+
+    fn contains_edge(&self, edge: u32) -> bool {
+        let slot = self.plain.edges.get(edge as usize);
+        slot.is_some_and(|slot| slot.live)
     }
 
     fn live_nodes(&self) -> Vec<u32> {
@@ -61,8 +90,16 @@ impl Lots for Model {
         self.plain.live_edges()
     }
 
+    fn counts(&self) -> [usize; 2] {
+        self.plain.live_counts()
+    }
+
     fn bounds(&self) -> [usize; 2] {
         [self.plain.nodes.len(), self.plain.edges.len()]
+    }
+
+    fn is_empty(&self) -> bool {
+        !self.plain.nodes.iter().any(|slot| slot.live)
     }
 
     fn is_compact(&self) -> bool {
@@ -87,9 +124,9 @@ fn fit<T>(words: Vec<T>, length: usize) -> Result<Vec<T>, Answer> {
     Ok(words)
 }
 
-/// "Order: strip 1, 3, 2." "strip not a multiple of four | 3 | its length".
+/// "Order: strip 1, 3, 2." "Number 3 now concerns multiples of five."
 pub fn strip(lots: &mut impl Lots, words: &[u32], length: usize) -> Result<Vec<Answer>, Answer> {
-    let (operations, rest) = words.as_chunks::<4>();
+    let (operations, rest) = words.as_chunks::<5>();
     if !rest.is_empty() {
         let value = words.len() as u64;
         return Err(Answer { number: 3, value });
@@ -127,13 +164,30 @@ pub fn payload(lots: &impl Lots, node: u32) -> Answer {
 }
 
 /// "Record 1, 7; live record 1, 7, 8." "A record's source, target and payload
-/// come beside the value 0; if refused, all three are 0."
-pub fn record(lots: &impl Lots, edge: u32, live_only: bool) -> (Answer, [u32; 3]) {
+/// come beside the value 0; if refused, all three are 0." The payload is low and
+/// high.
+pub fn record(lots: &impl Lots, edge: u32, live_only: bool) -> (Answer, [u32; 4]) {
     match lots.record(edge) {
-        None => (Answer::refused(7), [0; 3]),
-        Some((_, false)) if live_only => (Answer::refused(8), [0; 3]),
+        None => (Answer::refused(7), [0; 4]),
+        Some((_, false)) if live_only => (Answer::refused(8), [0; 4]),
         Some((record, _)) => (Answer::done(0), record),
     }
+}
+
+/// "the total of a lot's in-list and of its out-list as a low and a high sum, each
+/// exact in 64 bits"; "A total refuses 1, then 5, with both sums 0; done, its value
+/// is 0."
+pub fn total(lots: &impl Lots, direction: TraversalDirection, node: u32) -> (Answer, [u64; 2]) {
+    let Some(walk) = lots.walk(direction, node) else {
+        return (Answer::refused(5), [0; 2]);
+    };
+    let mut sums = [0; 2];
+    for edge in walk {
+        let ([_, _, low, high], _) = lots.record(edge).expect("a listed edge is there");
+        sums[0] += u64::from(low);
+        sums[1] += u64::from(high);
+    }
+    (Answer::done(0), sums)
 }
 
 /// "NONE (still number 0) if there is none and only then; 1, first 5, second 5."
@@ -202,7 +256,8 @@ pub const LOTSTRIP: Capacities = Capacities {
     edges: 1024,
 };
 
-/// All that `lotstrip` prints for an input: "a line per operation with position
+/// All that `lotstrip` prints for an input, "`lotstrip` takes 20 bytes" an
+/// operation: "a line per operation with position
 /// from 0, number and value in decimal", then the image "on one line in
 /// lower-case hexadecimal". Every line ends in a newline; empty input is a strip
 /// of no operations.
@@ -210,13 +265,14 @@ pub fn lotstrip<L: Lots>(input: &[u8]) -> String {
     if input.len() > 65_536 {
         return "strip 2\n".to_string();
     }
-    if !input.len().is_multiple_of(16) {
+    if !input.len().is_multiple_of(20) {
         return "strip 3\n".to_string();
     }
     let (words, _) = input.as_chunks::<4>();
     let words: Vec<u32> = words.iter().map(|&word| u32::from_be_bytes(word)).collect();
     let mut lots = L::fresh(LOTSTRIP);
-    let answers = strip(&mut lots, &words, words.len() / 2).expect("the length fits");
+    let room = 2 * (words.len() / 5);
+    let answers = strip(&mut lots, &words, room).expect("the length fits");
     let mut text = String::new();
     for (position, Answer { number, value }) in answers.into_iter().enumerate() {
         writeln!(text, "{position} {number} {value}").expect("a string takes any text");

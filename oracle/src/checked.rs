@@ -86,7 +86,7 @@ pub fn put_ring(value: &mut Value, chain: usize, node: usize, ring: &[u32], base
     }
 }
 
-fn perform(rust: &mut RustStore, operations: &[[u32; 4]]) {
+fn perform(rust: &mut RustStore, operations: &[[u32; 5]]) {
     for &words in operations {
         rust.operation(words);
     }
@@ -96,10 +96,10 @@ fn perform(rust: &mut RustStore, operations: &[[u32; 4]]) {
 /// and one back.
 fn sample() -> Store {
     let mut rust = RustStore::fresh(Capacities { nodes: 3, edges: 4 });
-    let node = [1, 0, 0, 7];
-    perform(&mut rust, &[node, node, [2, 0, 1, 5], [2, 0, 1, 5]]);
+    let node = [1, 0, 0, 7, 0];
+    perform(&mut rust, &[node, node, [2, 0, 1, 5, 5], [2, 0, 1, 5, 5]]);
     rust.graph.compact();
-    perform(&mut rust, &[node, [2, 0, 2, 5], [2, 2, 0, 5]]);
+    perform(&mut rust, &[node, [2, 0, 2, 5, 5], [2, 2, 0, 5, 5]]);
     rust.graph
 }
 
@@ -279,14 +279,17 @@ fn compare_foreign(
 /// port's keeps: no base part and the ring 1, 0; and the base part [0, 0], both
 /// dead, with the ring 3, 2.
 fn compare_smallest_reordered(tally: &mut Tally) -> Same {
-    let looped = [2, 0, 0, 5];
+    let looped = [2, 0, 0, 5, 5];
     let mut rust = RustStore::fresh(Capacities { nodes: 1, edges: 4 });
-    perform(&mut rust, &[[1, 0, 0, 7], looped, looped]);
+    perform(&mut rust, &[[1, 0, 0, 7, 0], looped, looped]);
     let ring_turned = ("/chains/last/0", json!([0, 0]));
     compare_reordered(&rust, std::slice::from_ref(&ring_turned), &[1, 0], tally)?;
 
     rust.graph.compact();
-    perform(&mut rust, &[[3, 0, 0, 0], [3, 1, 0, 0], looped, looped]);
+    perform(
+        &mut rust,
+        &[[3, 0, 0, 0, 0], [3, 1, 0, 0, 0], looped, looped],
+    );
     let twice = [
         ("/out_edges", json!([0, 0])),
         ("/in_edges", json!([0, 0])),

@@ -6,7 +6,7 @@ use crate::generate::Step;
 use crate::graph::store::Renumbering;
 use crate::image;
 use crate::model::{self, Capacities, Compaction, DIRECTIONS, Model, NONE, Operation, Plain};
-use crate::rust_store::{self, LOOKUPS, RustStore, edge, node};
+use crate::rust_store::{self, LOOKUPS, RustStore, node};
 use crate::sequences::{Same, Sides};
 use crate::shape::Shape;
 use crate::tally::{Difference, Tally, Thing};
@@ -63,7 +63,7 @@ impl Touched {
             }
         }
         let records = edges.iter().filter_map(|&edge| plain.record(edge));
-        nodes.extend(records.flat_map(|[source, target, _]| [source, target]));
+        nodes.extend(records.flat_map(|[source, target, ..]| [source, target]));
         nodes.sort_unstable();
         nodes.dedup();
         Self { nodes, edges }
@@ -131,7 +131,7 @@ impl Trio {
         }
     }
 
-    fn operation(&mut self, words: [u32; 4], tally: &mut Tally) -> Same {
+    fn operation(&mut self, words: [u32; 5], tally: &mut Tally) -> Same {
         let operation = Operation::decode(words);
         let touched = operation.map(|operation| Touched::by(operation, &self.model.plain));
         self.touched = touched.unwrap_or_default();
@@ -284,23 +284,29 @@ impl Trio {
     }
 
     fn compare_node(&self, slot: u32, tally: &mut Tally) -> Same {
-        let (plain, graph) = (&self.model.plain, &self.rust.graph);
+        let (model, rust) = (&self.model, &self.rust);
+        let (plain, graph) = (&model.plain, &rust.graph);
         let kept = plain.nodes[slot as usize];
         let place = || format!("node {slot}");
         let payload = *graph.node(node(slot));
         tally.same(Thing::Payload, place, kept.payload, payload)?;
-        let live = graph.contains_node(node(slot));
+        let live = rust.contains_node(slot);
         tally.same(Thing::Liveness, place, kept.live, live)?;
         for direction in DIRECTIONS {
             let place = || format!("node {slot}, {direction:?}");
             let expected = plain.walk(direction, slot).expect("below the bound");
             let given = rust_store::walk(graph, direction, slot);
             tally.same(Thing::Walk, place, expected, given)?;
-            let degree = rust_store::degree(graph, direction, slot);
-            tally.same(Thing::Degree, place, expected.len() as u32, degree)?;
-            let neighbors = rust_store::neighbors(graph, direction, slot);
-            let expected = plain.neighbors(direction, slot).expect("below the bound");
+            let degrees = [model.degree(direction, slot), rust.degree(direction, slot)];
+            tally.same(Thing::Degree, place, degrees[0], degrees[1])?;
+            let expected = model.neighbors(direction, slot);
+            let neighbors = rust.neighbors(direction, slot);
             tally.same(Thing::Neighbors, place, expected, neighbors)?;
+            let totals = [
+                calls::total(model, direction, slot),
+                calls::total(rust, direction, slot),
+            ];
+            tally.same(Thing::Total, place, totals[0], totals[1])?;
         }
         Ok(())
     }
@@ -312,7 +318,7 @@ impl Trio {
         let given = rust_store::record(graph, slot);
         tally.same(Thing::Record, place, expected, given)?;
         let live = plain.edges[slot as usize].live;
-        let contained = graph.contains_edge(edge(slot));
+        let contained = self.rust.contains_edge(slot);
         tally.same(Thing::Liveness, place, live, contained)?;
         if live {
             let given = rust_store::live_record(graph, slot);
@@ -323,23 +329,19 @@ impl Trio {
 
     /// Bounds, counts and the yes or no reads.
     fn compare_whole(&self, tally: &mut Tally) -> Same {
-        let (plain, graph) = (&self.model.plain, &self.rust.graph);
-        let live = |slots: &[model::Slot]| slots.iter().filter(|slot| slot.live).count();
-        let counts = [live(&plain.nodes), live(&plain.edges)];
-        let bounds = [plain.nodes.len(), plain.edges.len()];
+        let (model, rust) = (&self.model, &self.rust);
         let place = || "the store".to_string();
-        let given = [graph.node_count(), graph.edge_count()];
-        tally.same(Thing::Count, place, counts, given)?;
-        let given = [graph.node_bound(), graph.edge_bound()];
-        tally.same(Thing::Count, place, bounds, given)?;
-        tally.same(Thing::Empty, place, counts[0] == 0, graph.is_empty())?;
-        let compact = graph.is_compact();
-        tally.same(Thing::Compact, place, self.model.compact, compact)?;
+        tally.same(Thing::Count, place, model.counts(), rust.counts())?;
+        tally.same(Thing::Count, place, model.bounds(), rust.bounds())?;
+        tally.same(Thing::Empty, place, model.is_empty(), rust.is_empty())?;
+        let compact = rust.is_compact();
+        tally.same(Thing::Compact, place, model.compact, compact)?;
         tally.same(Thing::Compact, place, self.shape.is_compact(), compact)?;
         for above in [0, 1, NONE] {
-            let slots = bounds.map(|bound| (bound as u32).saturating_add(above));
-            let contained =
-                graph.contains_node(node(slots[0])) || graph.contains_edge(edge(slots[1]));
+            let slots = model
+                .bounds()
+                .map(|bound| (bound as u32).saturating_add(above));
+            let contained = rust.contains_node(slots[0]) || rust.contains_edge(slots[1]);
             tally.same(Thing::Liveness, place, false, contained)?;
         }
         Ok(())

@@ -1,5 +1,6 @@
-//! The examples M1 to M12 of document 01, executed on the model and, where the
-//! Rust has the call, on the Rust.
+//! The examples M1 to M12 of document 01, those with strips and images as request 8
+//! reissues them, executed on the model and, where the Rust has the call, on the
+//! Rust.
 
 use crate::calls::{self, Lots, lotstrip};
 use crate::compare::Trio;
@@ -19,7 +20,7 @@ struct Played {
 
 fn play(
     capacities: [u32; 2],
-    operations: &[[u32; 4]],
+    operations: &[[u32; 5]],
     tally: &mut Tally,
 ) -> Result<Played, Difference> {
     let [nodes, edges] = capacities;
@@ -33,23 +34,23 @@ fn play(
     Ok(Played { trio, last })
 }
 
-const NODE: [u32; 4] = [1, 0, 0, 7];
-const EDGE: [u32; 4] = [2, 0, 1, 5];
+const NODE: [u32; 5] = [1, 0, 0, 7, 0];
+const EDGE: [u32; 5] = [2, 0, 1, 5, 5];
 
 /// The words of M12.
-const M12: [[u32; 4]; 6] = [
-    [1, 0, 0, 7],
-    [1, 0, 0, 9],
-    [2, 0, 1, 5],
-    [2, 0, 1, 6],
-    [5, 0, 1, 0],
-    [5, 0, 0, 0],
+const M12: [[u32; 5]; 6] = [
+    [1, 0, 0, 7, 0],
+    [1, 0, 0, 9, 0],
+    [2, 0, 1, 5, 5],
+    [2, 0, 1, 6, 6],
+    [5, 0, 1, 0, 0],
+    [5, 0, 0, 0, 0],
 ];
 
 const M12_TEXT: &str = "0 0 0\n1 0 1\n2 0 0\n3 0 1\n4 0 0\n5 0 1\n\
-    000200020000000700000009400000015000000069\n";
+    0002000200000007000000094000000140000001500000006000000069\n";
 
-pub fn strip_bytes(operations: &[[u32; 4]]) -> Vec<u8> {
+pub fn strip_bytes(operations: &[[u32; 5]]) -> Vec<u8> {
     let words = operations.iter().flatten();
     words.flat_map(|word| word.to_be_bytes()).collect()
 }
@@ -85,13 +86,13 @@ fn plain_lists(tally: &mut Tally) -> Result<(), Difference> {
         [trio.model.is_compact(), trio.rust.is_compact()]
     );
 
-    let mut trio = play([2, 2], &[NODE, [2, 0, 0, 5]], tally)?.trio;
+    let mut trio = play([2, 2], &[NODE, [2, 0, 0, 5, 5]], tally)?.trio;
     for direction in DIRECTIONS {
         let walks = [trio.model.walk(direction, 0), trio.rust.walk(direction, 0)];
         same!(tally, "M3 self-loop", [Some([0]); 2], walks);
     }
-    trio.step(&Step::Operation([4, 0, 0, 0]), tally)?;
-    let removed = Some(([0, 0, 5], false));
+    trio.step(&Step::Operation([4, 0, 0, 0, 0]), tally)?;
+    let removed = Some(([0, 0, 5, 5], false));
     same!(
         tally,
         "M3 removed",
@@ -99,15 +100,15 @@ fn plain_lists(tally: &mut Tally) -> Result<(), Difference> {
         [trio.model.record(0), trio.rust.record(0)]
     );
 
-    let removed = [NODE, [4, 0, 0, 0]];
-    let moved = [&removed[..], &[[7, 0, 9_999, 0]]].concat();
+    let removed = [NODE, [4, 0, 0, 0, 0]];
+    let moved = [&removed[..], &[[7, 0, 9_999, 0, 0]]].concat();
     same!(
         tally,
         "M5",
         Answer::done(0),
         play([2, 2], &moved, tally)?.last
     );
-    let onto_itself = [&removed[..], &[[8, 0, 0, 0]]].concat();
+    let onto_itself = [&removed[..], &[[8, 0, 0, 0, 0]]].concat();
     same!(
         tally,
         "M6",
@@ -131,7 +132,7 @@ fn compactions(tally: &mut Tally) -> Result<(), Difference> {
     let mut trio = play([2, 2], &[NODE, NODE, EDGE], tally)?.trio;
     trio.compact(tally)?;
     for (code, end) in [(5, 0), (6, 1)] {
-        trio.step(&Step::Operation([code, 0, end, 0]), tally)?;
+        trio.step(&Step::Operation([code, 0, end, 0, 0]), tally)?;
         same!(
             tally,
             "M4",
@@ -140,7 +141,7 @@ fn compactions(tally: &mut Tally) -> Result<(), Difference> {
         );
     }
 
-    let three = [NODE, NODE, EDGE, EDGE, EDGE, [3, 0, 0, 0]];
+    let three = [NODE, NODE, EDGE, EDGE, EDGE, [3, 0, 0, 0, 0]];
     let mut trio = play([2, 4], &three, tally)?.trio;
     same!(tally, "M7", [NONE, 0, 1], trio.compact(tally)?.edge_map);
 
@@ -161,7 +162,7 @@ fn compactions(tally: &mut Tally) -> Result<(), Difference> {
         Answer::refused(10),
         play([1, 1], &[NODE, NODE], tally)?.last
     );
-    let mut full = play([1, 1], &[NODE, [4, 0, 0, 0], NODE], tally)?;
+    let mut full = play([1, 1], &[NODE, [4, 0, 0, 0, 0], NODE], tally)?;
     same!(tally, "M9 after removal", Answer::refused(10), full.last);
     full.trio.compact(tally)?;
     let answers = [
@@ -190,7 +191,7 @@ fn lengths_and_limits(tally: &mut Tally) -> Result<(), Difference> {
     );
 
     let refused = |number, value| Err::<Model, _>(Answer { number, value });
-    let bytes = [0, 0, 0, 1, 0, 0, 0, 0];
+    let bytes = [0, 0, 0, 1, 0, 0, 0, 0, 0, 0, 0, 0];
     same!(
         tally,
         "M11",
@@ -234,13 +235,13 @@ fn texts(tally: &mut Tally) -> Result<(), Difference> {
         tally,
         "M12 bytes",
         "strip 3\n",
-        lotstrip::<Model>(&input[..95])
+        lotstrip::<Model>(&input[..119])
     );
     same!(
         tally,
         "M12 words",
         "strip 3\n",
-        lotstrip::<Model>(&input[..92])
+        lotstrip::<Model>(&input[..116])
     );
     same!(
         tally,

@@ -4,12 +4,12 @@
 
 use crate::calls::LOTSTRIP;
 use crate::image;
-use crate::model::{Capacities, DIRECTIONS, Model, NONE, Plain, Slot};
+use crate::model::{Capacities, DIRECTIONS, EdgePayload, Model, NONE, Plain, Slot};
 use crate::rng::Rng;
 
 #[derive(Debug, Clone, PartialEq, Eq)]
 pub enum Step {
-    Operation([u32; 4]),
+    Operation([u32; 5]),
     Compact,
     /// Reading of these bytes in place of all.
     Read(Vec<u8>),
@@ -91,8 +91,22 @@ pub struct Mix {
     weights: [usize; 11],
     /// One slot in so many is not looked for among the live ones.
     stray: usize,
-    /// One operation in so many has an unknown code or an unused word set.
+    /// One operation in so many has an unknown code, an unused word set or a low
+    /// above its high.
     malformed: usize,
+    /// Whether a low may be below its high, which the Rust cannot hold.
+    ranges: bool,
+}
+
+impl Mix {
+    /// The same with ranges.
+    #[cfg(all(ported, feature = "serde"))]
+    pub const fn ranged(self) -> Self {
+        Self {
+            ranges: true,
+            ..self
+        }
+    }
 }
 
 const fn mix(weights: [usize; 11], stray: usize, malformed: usize) -> Mix {
@@ -100,6 +114,7 @@ const fn mix(weights: [usize; 11], stray: usize, malformed: usize) -> Mix {
         weights,
         stray,
         malformed,
+        ranges: false,
     }
 }
 
@@ -136,7 +151,11 @@ impl Generator<'_> {
                 code @ 1..=9 => return Step::Operation(self.operation(model, code)),
                 _ if !self.rng.one_in(self.size.rarity) => {}
                 10 => return Step::Compact,
-                _ => return Step::Read(image::write(&compact_lists(self.rng, capacities))),
+                _ => {
+                    let payload = if self.mix.ranges { range } else { one_weight };
+                    let plain = compact_lists(self.rng, capacities, payload);
+                    return Step::Read(image::write(&plain));
+                }
             }
         }
     }
@@ -153,30 +172,36 @@ impl Generator<'_> {
         unreachable!("the draw is below the sum of the weights")
     }
 
-    fn operation(&mut self, model: &Model, code: u32) -> [u32; 4] {
+    fn operation(&mut self, model: &Model, code: u32) -> [u32; 5] {
         let mut words = self.well_formed(model, code);
-        if self.rng.one_in(self.mix.malformed) {
-            let place = self.rng.below(4);
+        // Now and then in two places, so that the order of 4 and 16 comes up.
+        while self.rng.one_in(self.mix.malformed) {
+            let place = self.rng.below(5);
             words[place] = match place {
                 0 => self.rng.pick(&[0, 10, 11, 256, NONE]),
                 _ => self.rng.pick(&[1, 2, 1 << 31, NONE]),
             };
         }
+        let [code, _, _, low, high] = &mut words;
+        if matches!(code, 2 | 9) && low < high && !self.mix.ranges {
+            std::mem::swap(low, high);
+        }
         words
     }
 
-    fn well_formed(&mut self, model: &Model, code: u32) -> [u32; 4] {
+    fn well_formed(&mut self, model: &Model, code: u32) -> [u32; 5] {
         let plain = &model.plain;
         match code {
-            1 => [1, 0, 0, self.payload()],
+            1 => [1, 0, 0, self.payload(), 0],
             2 => {
                 let source = self.node(plain);
                 let self_loop = self.rng.one_in(6);
                 let target = if self_loop { source } else { self.node(plain) };
-                [2, source, target, self.payload()]
+                let EdgePayload { low, high } = self.weights();
+                [2, source, target, low, high]
             }
-            3 => [3, self.slot(&plain.edges), 0, 0],
-            4 => [4, self.node(plain), 0, 0],
+            3 => [3, self.slot(&plain.edges), 0, 0, 0],
+            4 => [4, self.node(plain), 0, 0, 0],
             5 | 6 => {
                 let edge = self.slot(&plain.edges);
                 let ends = &plain.incidence(DIRECTIONS[code as usize - 5]).ends;
@@ -184,13 +209,13 @@ impl Generator<'_> {
                     Some(&end) if self.rng.one_in(8) => end,
                     _ => self.node(plain),
                 };
-                [code, edge, node, 0]
+                [code, edge, node, 0, 0]
             }
             7 | 8 => {
                 let old = self.node(plain);
                 let same = self.rng.one_in(20);
                 let new = if same { old } else { self.node(plain) };
-                [code, old, new, 0]
+                [code, old, new, 0, 0]
             }
             _ => {
                 let any = plain.edges.len() + 1;
@@ -198,9 +223,20 @@ impl Generator<'_> {
                     true => self.rng.below(any) as u32,
                     false => self.slot(&plain.edges),
                 };
-                [9, edge, 0, self.payload()]
+                let EdgePayload { low, high } = self.weights();
+                [9, edge, 0, low, high]
             }
         }
+    }
+
+    fn weights(&mut self) -> EdgePayload {
+        let weight = self.payload();
+        let other = if self.mix.ranges {
+            self.payload()
+        } else {
+            weight
+        };
+        ordered([weight, other])
     }
 
     fn payload(&mut self) -> u32 {
@@ -223,7 +259,7 @@ impl Generator<'_> {
     }
 
     /// A slot, most of the time a live one.
-    fn slot(&mut self, slots: &[Slot]) -> u32 {
+    fn slot<P>(&mut self, slots: &[Slot<P>]) -> u32 {
         if slots.is_empty() || self.rng.one_in(self.mix.stray) {
             let bound = slots.len() as u32;
             let stray = [bound, bound + 1, 9_999, 32_768, 1 << 31, NONE];
@@ -238,22 +274,50 @@ impl Generator<'_> {
     }
 }
 
+/// Two weights, the lower one first.
+fn ordered(weights: [u32; 2]) -> EdgePayload {
+    EdgePayload {
+        low: weights[0].min(weights[1]),
+        high: weights[0].max(weights[1]),
+    }
+}
+
+/// Low equal to high, which the Rust can hold.
+pub fn one_weight(rng: &mut Rng) -> EdgePayload {
+    ordered([rng.word(); 2])
+}
+
+/// A low and a high, close to each other half of the time.
+pub fn range(rng: &mut Rng) -> EdgePayload {
+    let weight = rng.word();
+    let near = weight.saturating_add(rng.below(3) as u32);
+    let any = rng.word();
+    ordered([weight, rng.pick(&[near, any])])
+}
+
 /// The plain lists of a random compact store within the capacities, its lists in
-/// any order.
-pub fn compact_lists(rng: &mut Rng, capacities: Capacities) -> Plain {
+/// any order, its edges with these payloads.
+pub fn compact_lists(
+    rng: &mut Rng,
+    capacities: Capacities,
+    payload: fn(&mut Rng) -> EdgePayload,
+) -> Plain {
     let nodes = rng.below(capacities.nodes as usize + 1);
     let most = if nodes == 0 { 0 } else { capacities.edges };
     let edges = rng.below(most as usize + 1);
-    let mut slots = |count: usize| -> Vec<Slot> {
-        let slot = |payload| Slot {
-            payload,
-            live: true,
-        };
-        (0..count).map(|_| slot(rng.word())).collect()
+    let live = true;
+    let node = |_| Slot {
+        payload: rng.word(),
+        live,
+    };
+    let node_slots = (0..nodes).map(node).collect();
+    let edge = |_| Slot {
+        payload: payload(rng),
+        live,
     };
     let mut plain = Plain {
-        nodes: slots(nodes),
-        edges: slots(edges),
+        nodes: node_slots,
+        edges: (0..edges).map(edge).collect(),
         ..Plain::default()
     };
     for incidence in [&mut plain.outgoing, &mut plain.incoming] {

@@ -1,7 +1,7 @@
 //! Document 01's image of a compact store: plain lists to bytes and back, with
 //! the rules that an unreadable image breaks.
 
-use crate::model::{Incidence, LIMIT, Plain, Slot};
+use crate::model::{EdgePayload, Incidence, LIMIT, Plain, Slot};
 
 /// "w is the least width holding n−1, 0 if n is at most 1; v likewise for m."
 fn least_width(count: usize) -> usize {
@@ -12,10 +12,11 @@ fn least_width(count: usize) -> usize {
 
 /// "node count n and edge count m (16 bits each); n payloads (32); per edge
 /// source, target (w bits each), payload (32); the out-lists of nodes 0 up to
-/// n−1 joined, then the in-lists (v bits an entry)".
+/// n−1 joined, then the in-lists (v bits an entry)". Request 8: "the image's edge
+/// record holds low then high in 64 bits".
 fn bit_length(nodes: usize, edges: usize) -> usize {
     let (w, v) = (least_width(nodes), least_width(edges));
-    32 + 32 * nodes + (2 * w + 32) * edges + 2 * v * edges
+    32 + 32 * nodes + (2 * w + 64) * edges + 2 * v * edges
 }
 
 /// The image of plain lists without dead slots.
@@ -37,7 +38,8 @@ pub fn write(plain: &Plain) -> Vec<u8> {
     for (edge, slot) in plain.edges.iter().enumerate() {
         put(w, plain.outgoing.ends[edge]);
         put(w, plain.incoming.ends[edge]);
-        put(32, slot.payload);
+        put(32, slot.payload.low);
+        put(32, slot.payload.high);
     }
     for incidence in [&plain.outgoing, &plain.incoming] {
         for &entry in incidence.lists.iter().flatten() {
@@ -67,7 +69,8 @@ impl Fields<'_> {
 
 /// The plain lists of an image, or the first rule that it breaks: "(1) under 4
 /// bytes; (2) count above 32,768; (3) other length; (4) padding set; (5) end not
-/// below n; (6) list entry not below m, repeated, or at the wrong node."
+/// below n; (6) list entry not below m, repeated, or at the wrong node." Request 8:
+/// "a low above its high … breaks … an image rule 5 of reading".
 pub fn read(bytes: &[u8]) -> Result<Plain, u32> {
     if bytes.len() < 4 {
         return Err(1);
@@ -89,20 +92,23 @@ pub fn read(bytes: &[u8]) -> Result<Plain, u32> {
 
     let (w, v) = (least_width(nodes), least_width(edges));
     let mut plain = Plain::default();
-    let slot = |payload| Slot {
-        payload,
-        live: true,
-    };
+    let live = true;
     for _ in 0..nodes {
-        plain.nodes.push(slot(fields.take(32)));
+        let payload = fields.take(32);
+        plain.nodes.push(Slot { payload, live });
     }
     for _ in 0..edges {
         plain.outgoing.ends.push(fields.take(w));
         plain.incoming.ends.push(fields.take(w));
-        plain.edges.push(slot(fields.take(32)));
+        let [low, high] = [(); 2].map(|()| fields.take(32));
+        let payload = EdgePayload { low, high };
+        plain.edges.push(Slot { payload, live });
     }
     let mut ends = plain.outgoing.ends.iter().chain(&plain.incoming.ends);
     if ends.any(|&end| end as usize >= nodes) {
+        return Err(5);
+    }
+    if plain.edges.iter().any(|slot| slot.payload.inverted()) {
         return Err(5);
     }
     for incidence in [&mut plain.outgoing, &mut plain.incoming] {

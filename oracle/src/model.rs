@@ -31,7 +31,7 @@ impl Answer {
         Self { number: 0, value }
     }
 
-    /// Numbers 4 to 11 have the value NONE.
+    /// Numbers 4 to 11 and 16 have the value NONE.
     pub const fn refused(number: u32) -> Self {
         Self {
             number,
@@ -48,7 +48,21 @@ impl Answer {
     }
 }
 
-/// An operation as its four words say it; "the port has an operation that
+/// Request 8: "A transfer's payload becomes low and high, `u32` each".
+#[derive(Debug, Clone, Copy, PartialEq, Eq)]
+pub struct EdgePayload {
+    pub low: u32,
+    pub high: u32,
+}
+
+impl EdgePayload {
+    /// "a low above its high"
+    pub const fn inverted(self) -> bool {
+        self.high < self.low
+    }
+}
+
+/// An operation as its five words say it; "the port has an operation that
 /// carries its `TraversalDirection`".
 #[derive(Debug, Clone, Copy, PartialEq, Eq)]
 pub enum Operation {
@@ -58,7 +72,7 @@ pub enum Operation {
     AddEdge {
         source: u32,
         target: u32,
-        payload: u32,
+        payload: EdgePayload,
     },
     RemoveEdge {
         edge: u32,
@@ -78,14 +92,15 @@ pub enum Operation {
     },
     SetPayload {
         edge: u32,
-        payload: u32,
+        payload: EdgePayload,
     },
 }
 
 impl Operation {
-    /// "four words each: code, first, second, payload. Unused words are 0."
-    /// Nothing for an unknown code or an unused word that is not 0.
-    pub fn decode([code, first, second, payload]: [u32; 4]) -> Option<Self> {
+    /// "Strips take five words an operation (code, first, second, low, high; both
+    /// last are node payload and 0 for code 1)". "Unused words are 0." Nothing for
+    /// an unknown code or an unused word that is not 0.
+    pub fn decode([code, first, second, low, high]: [u32; 5]) -> Option<Self> {
         use TraversalDirection::{Incoming, Outgoing};
         let redirect = |direction| Self::Redirect {
             direction,
@@ -97,8 +112,9 @@ impl Operation {
             old: first,
             new: second,
         };
+        let payload = EdgePayload { low, high };
         let (operation, unused) = match code {
-            1 => (Self::AddNode { payload }, first | second),
+            1 => (Self::AddNode { payload: low }, first | second | high),
             2 => {
                 let (source, target) = (first, second);
                 let operation = Self::AddEdge {
@@ -108,12 +124,12 @@ impl Operation {
                 };
                 (operation, 0)
             }
-            3 => (Self::RemoveEdge { edge: first }, second | payload),
-            4 => (Self::RemoveNode { node: first }, second | payload),
-            5 => (redirect(Outgoing), payload),
-            6 => (redirect(Incoming), payload),
-            7 => (shift(Outgoing), payload),
-            8 => (shift(Incoming), payload),
+            3 => (Self::RemoveEdge { edge: first }, second | low | high),
+            4 => (Self::RemoveNode { node: first }, second | low | high),
+            5 => (redirect(Outgoing), low | high),
+            6 => (redirect(Incoming), low | high),
+            7 => (shift(Outgoing), low | high),
+            8 => (shift(Incoming), low | high),
             9 => {
                 let edge = first;
                 (Self::SetPayload { edge, payload }, second)
@@ -126,8 +142,8 @@ impl Operation {
 
 /// "A slot is a number given by the store; it is live until removed."
 #[derive(Debug, Clone, Copy, PartialEq, Eq)]
-pub struct Slot {
-    pub payload: u32,
+pub struct Slot<Payload> {
+    pub payload: Payload,
     pub live: bool,
 }
 
@@ -181,8 +197,8 @@ impl Incidence {
 /// The plain lists: what document 01 says a store holds, and nothing else.
 #[derive(Debug, Clone, Default, PartialEq, Eq)]
 pub struct Plain {
-    pub nodes: Vec<Slot>,
-    pub edges: Vec<Slot>,
+    pub nodes: Vec<Slot<u32>>,
+    pub edges: Vec<Slot<EdgePayload>>,
     pub outgoing: Incidence,
     pub incoming: Incidence,
 }
@@ -201,7 +217,7 @@ pub struct Compaction {
 #[derive(Debug, Clone, PartialEq, Eq)]
 pub struct Survivors {
     nodes: Vec<u32>,
-    edges: Vec<(u32, u32, u32)>,
+    edges: Vec<(u32, u32, EdgePayload)>,
     lists: Vec<[Vec<u32>; 2]>,
 }
 
@@ -236,11 +252,20 @@ impl Plain {
         Some(walk.iter().map(|&edge| far.ends[edge as usize]).collect())
     }
 
-    /// "A record's source, target and payload", for removed edges too.
-    pub fn record(&self, edge: u32) -> Option<[u32; 3]> {
-        let slot = self.edges.get(edge as usize)?;
+    /// "A record's source, target and payload", low and high, for removed edges
+    /// too.
+    pub fn record(&self, edge: u32) -> Option<[u32; 4]> {
+        let EdgePayload { low, high } = self.edges.get(edge as usize)?.payload;
         let (source, target) = self.ends(edge as usize);
-        Some([source, target, slot.payload])
+        Some([source, target, low, high])
+    }
+
+    /// Whether low equals high in every edge, so that the Rust, whose payload is one
+    /// word, can hold these lists.
+    #[cfg(all(ported, feature = "serde"))]
+    pub fn one_weight_each(&self) -> bool {
+        let mut payloads = self.edges.iter().map(|slot| slot.payload);
+        payloads.all(|EdgePayload { low, high }| low == high)
     }
 
     fn ends(&self, edge: usize) -> (u32, u32) {
@@ -257,7 +282,7 @@ impl Plain {
         slot
     }
 
-    fn add_edge(&mut self, source: u32, target: u32, payload: u32) -> u32 {
+    fn add_edge(&mut self, source: u32, target: u32, payload: EdgePayload) -> u32 {
         let slot = self.edges.len() as u32;
         let live = true;
         self.edges.push(Slot { payload, live });
@@ -299,6 +324,11 @@ impl Plain {
         live_slots(&self.edges)
     }
 
+    /// Live nodes and edges, counted.
+    pub fn live_counts(&self) -> [usize; 2] {
+        [live_count(&self.nodes), live_count(&self.edges)]
+    }
+
     /// "Compaction drops the dead slots, numbers the live ones from 0 in slot
     /// order, makes their counts the bounds and renumbers ends and lists, each
     /// list in its order." "Work then holds the new out adjacency, then the in
@@ -333,9 +363,6 @@ impl Plain {
     /// Stated by counting live slots below, and not through the maps, so that
     /// it is a second definition of what compaction keeps.
     pub fn survivors(&self) -> Survivors {
-        let rank = |slots: &[Slot], slot: u32| {
-            slots[..slot as usize].iter().filter(|s| s.live).count() as u32
-        };
         let edge = |edge: u32| {
             let (source, target) = self.ends(edge as usize);
             let payload = self.edges[edge as usize].payload;
@@ -363,16 +390,25 @@ impl Plain {
     }
 }
 
-fn live_slots(slots: &[Slot]) -> Vec<u32> {
+fn live_count<P>(slots: &[Slot<P>]) -> usize {
+    slots.iter().filter(|slot| slot.live).count()
+}
+
+/// How many live slots stand before a slot.
+fn rank<P>(slots: &[Slot<P>], slot: u32) -> u32 {
+    live_count(&slots[..slot as usize]) as u32
+}
+
+fn live_slots<P>(slots: &[Slot<P>]) -> Vec<u32> {
     (0..slots.len() as u32)
         .filter(|&slot| slots[slot as usize].live)
         .collect()
 }
 
 /// The new number of each live slot, NONE for the others.
-fn numbering(slots: &[Slot]) -> Vec<u32> {
+fn numbering<P>(slots: &[Slot<P>]) -> Vec<u32> {
     let mut next = 0;
-    let number = |slot: &Slot| {
+    let number = |slot: &Slot<P>| {
         if !slot.live {
             return NONE;
         }
@@ -383,7 +419,7 @@ fn numbering(slots: &[Slot]) -> Vec<u32> {
 }
 
 /// What belongs to the live slots, in slot order.
-fn kept<'a, T>(slots: &'a [Slot], values: &'a [T]) -> impl Iterator<Item = &'a T> {
+fn kept<'a, P, T>(slots: &'a [Slot<P>], values: &'a [T]) -> impl Iterator<Item = &'a T> {
     let pairs = slots.iter().zip(values);
     pairs.filter(|(slot, _)| slot.live).map(|(_, value)| value)
 }
@@ -431,7 +467,7 @@ impl Model {
 
     /// One operation of a strip. "A refused operation changes nothing and the
     /// strip goes on."
-    pub fn operation(&mut self, words: [u32; 4]) -> Answer {
+    pub fn operation(&mut self, words: [u32; 5]) -> Answer {
         let Some(operation) = Operation::decode(words) else {
             return Answer::refused(4);
         };
@@ -454,7 +490,8 @@ impl Model {
     /// The refusals in the order of document 01: "Add node: 4, 10. Removals: 4.
     /// Set payload: 4, 7. Add edge: 4, source 5, 6, target 5, 6, then 10.
     /// Redirect: 4, 7, 8, 5, 6. Move: 4, 9, old 5; an empty walk is done, value
-    /// 0; then new 5, 6."
+    /// 0; then new 5, 6." Request 8: "It refuses with 16 … for a low above its high
+    /// in codes 2 and 9, directly after 4."
     fn perform(&mut self, operation: Operation) -> Result<u32, u32> {
         match operation {
             Operation::AddNode { payload } => {
@@ -466,6 +503,7 @@ impl Model {
                 target,
                 payload,
             } => {
+                in_order(payload)?;
                 self.require_live_node(source)?;
                 self.require_live_node(target)?;
                 room(&self.plain.edges, self.capacities.edges)?;
@@ -497,6 +535,7 @@ impl Model {
                 Ok(self.plain.incidence_mut(direction).shift(old, new))
             }
             Operation::SetPayload { edge, payload } => {
+                in_order(payload)?;
                 self.plain
                     .edges
                     .get_mut(edge as usize)
@@ -532,8 +571,16 @@ pub fn capacities(nodes: u64, edges: u64) -> Result<Capacities, Answer> {
     })
 }
 
+/// "a low above its high": 16.
+const fn in_order(payload: EdgePayload) -> Result<(), u32> {
+    if payload.inverted() {
+        return Err(16);
+    }
+    Ok(())
+}
+
 /// "bound equals capacity | 10".
-fn room(slots: &[Slot], capacity: u32) -> Result<(), u32> {
+fn room<P>(slots: &[Slot<P>], capacity: u32) -> Result<(), u32> {
     if slots.len() == capacity as usize {
         return Err(10);
     }
@@ -541,7 +588,7 @@ fn room(slots: &[Slot], capacity: u32) -> Result<(), u32> {
 }
 
 /// At or above the bound the one number, removed the other.
-fn require_live(slots: &[Slot], slot: u32, above: u32, removed: u32) -> Result<(), u32> {
+fn require_live<P>(slots: &[Slot<P>], slot: u32, above: u32, removed: u32) -> Result<(), u32> {
     match slots.get(slot as usize) {
         None => Err(above),
         Some(slot) if !slot.live => Err(removed),

@@ -20,6 +20,8 @@ mod live;
 mod maps;
 mod memory;
 #[cfg(feature = "serde")]
+mod ranges;
+#[cfg(feature = "serde")]
 mod rules;
 mod strips;
 mod words;
@@ -377,7 +379,7 @@ pub fn compare(operations: u64, depth: usize, seed: u64, tally: &mut Tally) -> S
     #[cfg(feature = "serde")]
     {
         damaged::compare(60_000, seed, tally)?;
-        book::compare(operations, operations / 10, seed, tally)?;
+        compare_books(operations, seed, tally)?;
     }
     Ok(())
 }
@@ -390,9 +392,10 @@ pub fn compacted_walk(rust: &RustStore) -> Vec<u32> {
     book.outgoing(0).expect("a store")
 }
 
-/// The wrapper's lot books alone, on so many operations, and a tenth as many on
-/// damaged stores.
+/// The wrapper's lot books, on so many operations, and a tenth as many each on
+/// damaged stores and with ranges.
 #[cfg(feature = "serde")]
 pub fn compare_books(operations: u64, seed: u64, tally: &mut Tally) -> Same {
-    book::compare(operations, operations / 10, seed, tally)
+    book::compare(operations, operations / 10, seed, tally)?;
+    ranges::compare(operations / 10, seed, tally)
 }

@@ -4,14 +4,16 @@
 //! In `sequences.txt` every answer is the Rust's, and was compared with the
 //! model's; `images.txt` is the model's alone, for the Rust has no images.
 
-use std::fmt::{Debug, Write};
+use std::fmt::{Debug, Display, Write};
 
 use crate::calls::{self, LOTSTRIP, Lots, hexadecimal};
 use crate::compare::Trio;
-use crate::generate::{Generator, MEDIUM, MIXES, Mix, SHORT, STRIP, Size, Step, compact_lists};
+use crate::generate::{
+    Generator, MEDIUM, MIXES, Mix, SHORT, STRIP, Size, Step, compact_lists, one_weight, range,
+};
 use crate::graph::traverse::TraversalDirection;
 use crate::image;
-use crate::model::{Answer, Capacities, DIRECTIONS};
+use crate::model::{Answer, Capacities, DIRECTIONS, EdgePayload};
 use crate::rng::Rng;
 use crate::tally::{Difference, Tally, Thing};
 
@@ -35,7 +37,7 @@ macro_rules! line {
     };
 }
 
-fn joined(numbers: &[u32]) -> String {
+fn joined(numbers: &[impl Display]) -> String {
     numbers.iter().map(|number| format!(" {number}")).collect()
 }
 
@@ -55,7 +57,7 @@ impl Recorder<'_> {
             self.strip(&mut trio, size, mix)?;
             self.reads(&trio)?;
             if strip + 1 < strips && self.rng.one_in(3) {
-                let bytes = image::write(&compact_lists(&mut self.rng, capacities));
+                let bytes = image::write(&compact_lists(&mut self.rng, capacities, one_weight));
                 line!(self.text, "read {}", hexadecimal(&bytes));
                 trio.step(&Step::Read(bytes), self.tally)?;
             } else {
@@ -100,8 +102,8 @@ impl Recorder<'_> {
 
     /// A strip of zeros that is refused as a whole.
     fn refused_strip(&mut self, trio: &Trio) -> Result<(), Difference> {
-        let words = vec![0; self.rng.between(1, 9)];
-        let length = self.rng.below(words.len().div_ceil(2));
+        let words = vec![0; self.rng.between(1, 11)];
+        let length = self.rng.below((2 * words.len()).div_ceil(5));
         let call = format!("strip {} {length}", words.len());
         let (mut model, mut rust) = (trio.model.clone(), trio.rust.clone());
         let expected = calls::strip(&mut model, &words, length);
@@ -114,7 +116,7 @@ impl Recorder<'_> {
 
     fn strip(&mut self, trio: &mut Trio, size: Size, mix: Mix) -> Result<(), Difference> {
         let count = size.steps(&mut self.rng);
-        line!(self.text, "strip {} {} 0 0", 4 * count, 2 * count);
+        line!(self.text, "strip {} {} 0 0", 5 * count, 2 * count);
         let mut made = 0;
         while made < count {
             let mut generator = Generator {
@@ -128,10 +130,10 @@ impl Recorder<'_> {
             };
             made += 1;
             let Answer { number, value } = trio.rust.clone().operation(words);
-            let [code, first, second, payload] = words;
+            let [code, first, second, low, high] = words;
             line!(
                 self.text,
-                "{code} {first} {second} {payload} {number} {value}"
+                "{code} {first} {second} {low} {high} {number} {value}"
             );
             trio.step(&step, self.tally)?;
             trio.compare_everything(self.tally)?;
@@ -173,15 +175,13 @@ impl Recorder<'_> {
     /// The whole store's counts, lists and image, and some nodes and edges.
     fn reads(&mut self, trio: &Trio) -> Result<(), Difference> {
         let (model, rust) = (&trio.model, &trio.rust);
-        let graph = &rust.graph;
         let [nodes, edges] = rust.bounds();
+        let [live_nodes, live_edges] = rust.counts();
         line!(
             self.text,
-            "store {nodes} {edges} {} {} {} {}",
-            graph.node_count(),
-            graph.edge_count(),
-            u32::from(graph.is_empty()),
-            u32::from(graph.is_compact())
+            "store {nodes} {edges} {live_nodes} {live_edges} {} {}",
+            u32::from(rust.is_empty()),
+            u32::from(rust.is_compact())
         );
         for (name, expected, given) in [
             ("nodes", model.live_nodes(), rust.live_nodes()),
@@ -227,6 +227,11 @@ impl Recorder<'_> {
             let given = calls::walk(rust, direction, slot, length);
             let given = self.both(&call, expected, given)?;
             self.list(&call, given);
+            let call = format!("{name}-total {slot}");
+            let expected = calls::total(model, direction, slot);
+            let given = calls::total(rust, direction, slot);
+            let (Answer { number, value }, sums) = self.both(&call, expected, given)?;
+            line!(self.text, "{call} {number} {value}{}", joined(&sums));
         }
         let call = format!("payload {slot}");
         let (expected, given) = (calls::payload(model, slot), calls::payload(rust, slot));
@@ -278,9 +283,10 @@ fn sequences(seed: u64, tally: &mut Tally) -> Result<String, Difference> {
     Ok(recorder.text)
 }
 
-/// A random image, most of the time spoiled in its lists or in its bytes.
-pub fn spoiled_image(rng: &mut Rng) -> Vec<u8> {
-    let mut plain = compact_lists(rng, Capacities { nodes: 5, edges: 7 });
+/// A random image with these payloads, most of the time spoiled in its lists, its
+/// payloads or its bytes.
+pub fn spoiled_image(rng: &mut Rng, payload: fn(&mut Rng) -> EdgePayload) -> Vec<u8> {
+    let mut plain = compact_lists(rng, Capacities { nodes: 5, edges: 7 }, payload);
     let (nodes, edges) = (plain.nodes.len() as u32, plain.edges.len());
     let incidence = match rng.one_in(2) {
         true => &mut plain.outgoing,
@@ -288,7 +294,7 @@ pub fn spoiled_image(rng: &mut Rng) -> Vec<u8> {
     };
     let place = rng.below(edges.max(1));
     let other = rng.below(edges + 1) as u32;
-    match rng.below(6) {
+    match rng.below(7) {
         0 => {
             if let Some(end) = incidence.ends.get_mut(place) {
                 *end = nodes;
@@ -297,6 +303,13 @@ pub fn spoiled_image(rng: &mut Rng) -> Vec<u8> {
         1 => {
             if let Some(entry) = incidence.lists.iter_mut().flatten().nth(place) {
                 *entry = other;
+            }
+        }
+        2 => {
+            if let Some(slot) = plain.edges.get_mut(place) {
+                let high = slot.payload.high;
+                slot.payload.low = high.saturating_add(1);
+                slot.payload.high = high.min(u32::MAX - 1);
             }
         }
         _ => {}
@@ -320,7 +333,7 @@ fn images(seed: u64) -> String {
     let mut rng = Rng::new(seed);
     let mut text = format!("images of the lot store, seed {seed}\n");
     for _ in 0..240 {
-        let bytes = spoiled_image(&mut rng);
+        let bytes = spoiled_image(&mut rng, range);
         let mut capacity = || match rng.below(12) {
             0 => rng.pick(&[32_769, 1 << 32, u64::MAX]),
             1 => rng.below(8) as u64,
@@ -367,58 +380,64 @@ struct Replay {
 }
 
 impl Replay {
-    /// A line of the input: a kind and up to four arguments.
-    fn call(&mut self, kind: u32, arguments: &[u32]) {
+    /// A line of the input: five words.
+    fn line(&mut self, words: &[u64]) {
+        let words: Vec<String> = words.iter().map(|word| format!("{word:08x}")).collect();
+        line!(self.calls, "{}", words.join(" "));
+    }
+
+    /// A call: a kind and up to four arguments.
+    fn call(&mut self, kind: u64, arguments: &[u64]) {
         let mut words = [kind, 0, 0, 0, 0];
         words[1..=arguments.len()].copy_from_slice(arguments);
-        let [kind, a, b, c, d] = words;
-        line!(self.calls, "{kind:08x} {a:08x} {b:08x} {c:08x} {d:08x}");
+        self.line(&words);
     }
 
     /// A line of the output.
-    fn answer(&mut self, told: &[u32]) {
-        let told: Vec<String> = told.iter().map(u32::to_string).collect();
+    fn answer(&mut self, told: &[u64]) {
+        let told: Vec<String> = told.iter().map(u64::to_string).collect();
         line!(self.answers, "{}", told.join(" "));
     }
 
     /// A call of one line each way.
-    fn one(&mut self, kind: u32, arguments: &[u32], told: &[u32]) {
+    fn one(&mut self, kind: u64, arguments: &[u64], told: &[u64]) {
         self.call(kind, arguments);
         self.answer(told);
     }
 
     /// A walk, and the degree: "where NUMBER is 0 or 2, VALUE is the degree too".
-    fn walk(&mut self, kind: u32, numbers: &[u32]) {
+    fn walk(&mut self, kind: u64, numbers: &[u64]) {
         self.one(kind, &numbers[..2], &numbers[2..]);
         let number = if numbers[2] == 2 { 0 } else { numbers[2] };
         self.one(kind + 8, &numbers[..1], &[number, numbers[3]]);
     }
 
     /// A strip, and the lines of its operations.
-    fn strip<'l>(&mut self, numbers: &[u32], lines: &mut impl Iterator<Item = &'l str>) {
+    fn strip<'l>(&mut self, numbers: &[u64], lines: &mut impl Iterator<Item = &'l str>) {
         let [words, room, number, value] = *numbers else {
             unreachable!("a strip has four numbers")
         };
-        let operations = if number == 0 { words / 4 } else { 0 };
+        let operations = if number == 0 { words / 5 } else { 0 };
         self.call(1, &[words, room, operations]);
         let mut told = vec![number, value];
         for line in lines.take(operations as usize) {
             let operation = numbers_of(line);
-            self.call(1, &operation[..4]);
-            told.extend(&operation[4..]);
+            self.line(&operation[..5]);
+            told.extend(&operation[5..]);
         }
         self.answer(&told);
     }
 
     /// An image read: its bytes, sixteen a line, the last of them filled with 0.
-    fn reading(&mut self, bytes: &[u8], told: &[u32]) {
+    fn reading(&mut self, bytes: &[u8], told: &[u64]) {
         let lines = bytes.chunks(16);
-        self.call(15, &[bytes.len() as u32, lines.len() as u32]);
+        self.call(15, &[bytes.len() as u64, lines.len() as u64]);
         for line in lines {
             let mut sixteen = [0; 16];
             sixteen[..line.len()].copy_from_slice(line);
             let (words, _) = sixteen.as_chunks::<4>();
-            let words: Vec<u32> = words.iter().map(|&word| u32::from_be_bytes(word)).collect();
+            let word = |&word: &[u8; 4]| u32::from_be_bytes(word).into();
+            let words: Vec<u64> = words.iter().map(word).collect();
             self.call(15, &words);
         }
         self.answer(told);
@@ -430,7 +449,7 @@ impl Replay {
         let mut told = numbers[1..3].to_vec();
         if told[0] == 0 {
             let text = rest.rsplit(' ').next().expect("the bytes");
-            told.extend(bytes_of(text).into_iter().map(u32::from));
+            told.extend(bytes_of(text).into_iter().map(u64::from));
         }
         self.one(14, &numbers[..1], &told);
     }
@@ -447,8 +466,8 @@ impl Replay {
         }
         let [nodes, edges] =
             [(nodes, LOTSTRIP.nodes), (edges, LOTSTRIP.edges)].map(|(text, most)| {
-                text.parse()
-                    .map_or(most, |capacity: u32| capacity.min(most))
+                let capacity: u64 = text.parse().expect("a capacity");
+                capacity.min(most.into())
             });
         self.one(0, &[nodes, edges], &[0, 0]);
         let bytes = if bytes == "-" { "" } else { bytes };
@@ -457,7 +476,7 @@ impl Replay {
 
     /// A compaction: number and value beside each of the three slices that it
     /// leaves where it is done.
-    fn compaction<'l>(&mut self, numbers: &[u32], lines: &mut impl Iterator<Item = &'l str>) {
+    fn compaction<'l>(&mut self, numbers: &[u64], lines: &mut impl Iterator<Item = &'l str>) {
         self.call(12, &numbers[..3]);
         for _ in 0..3 {
             let mut told = numbers[3..].to_vec();
@@ -478,7 +497,7 @@ fn bytes_of(text: &str) -> Vec<u8> {
 }
 
 /// The numbers of a line's text.
-fn numbers_of(text: &str) -> Vec<u32> {
+fn numbers_of(text: &str) -> Vec<u64> {
     text.split(' ')
         .map_while(|number| number.parse().ok())
         .collect()
@@ -495,6 +514,8 @@ fn replay(sequences: &str, images: &str) -> [String; 2] {
             "strip" => replay.strip(&numbers, &mut lines),
             "out" => replay.walk(2, &numbers),
             "in" => replay.walk(3, &numbers),
+            "out-total" => replay.one(16, &numbers[..1], &numbers[1..]),
+            "in-total" => replay.one(17, &numbers[..1], &numbers[1..]),
             "nodes" => replay.one(4, &[0, numbers[0]], &numbers[1..]),
             "edges" => replay.one(5, &[0, numbers[0]], &numbers[1..]),
             "payload" => replay.one(6, &numbers[..1], &numbers[1..]),

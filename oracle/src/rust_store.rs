@@ -1,5 +1,6 @@
-//! The Rust store under document 01's operations: four words in, number and
-//! value out.
+//! The Rust store under document 01's operations: five words in, number and
+//! value out. Its payload of an edge is one word, which stands for low and high:
+//! "Oracle runs use low equal to high." (request 8).
 //!
 //! Where the Rust panics, document 01 has a number. It is decided beforehand by
 //! asking the store's own public reads; no panic is caught here (`panics.rs`
@@ -10,7 +11,7 @@ use crate::graph::edge_view::EdgeView;
 use crate::graph::store::{EdgeId, Graph, NodeId, Renumbering};
 use crate::graph::traverse::TraversalDirection;
 use crate::image;
-use crate::model::{Answer, Capacities, Incidence, NONE, Operation, Plain, Slot};
+use crate::model::{Answer, Capacities, EdgePayload, Incidence, NONE, Operation, Plain, Slot};
 #[cfg(ported)]
 use crate::shape::Shape;
 
@@ -30,7 +31,7 @@ pub struct RustStore {
 }
 
 impl RustStore {
-    pub fn operation(&mut self, words: [u32; 4]) -> Answer {
+    pub fn operation(&mut self, words: [u32; 5]) -> Answer {
         let Some(operation) = Operation::decode(words) else {
             return Answer::refused(4);
         };
@@ -41,10 +42,15 @@ impl RustStore {
     }
 
     /// The number of the first refusal, in the order in which the Rust asserts;
-    /// the Rust has one assertion for 7 and 8, and none for 10.
+    /// the Rust has one assertion for 7 and 8, and none for 10 and 16.
     pub fn refusal(&self, operation: Operation) -> Option<u32> {
         let graph = &self.graph;
         match operation {
+            Operation::AddEdge { payload, .. } | Operation::SetPayload { payload, .. }
+                if payload.inverted() =>
+            {
+                Some(16)
+            }
             Operation::AddNode { .. } => full(graph.node_bound(), self.capacities.nodes),
             Operation::AddEdge { source, target, .. } => self
                 .no_live_node(source)
@@ -102,9 +108,12 @@ impl RustStore {
             payload: *graph.node(node(slot)),
             live: graph.contains_node(node(slot)),
         };
-        let edge_slot = |slot| Slot {
-            payload: record(graph, slot)[2],
-            live: graph.contains_edge(edge(slot)),
+        let edge_slot = |slot| {
+            let [_, _, low, high] = record(graph, slot);
+            Slot {
+                payload: EdgePayload { low, high },
+                live: graph.contains_edge(edge(slot)),
+            }
         };
         Plain {
             outgoing: incidence(TraversalDirection::Outgoing, 0),
@@ -129,7 +138,10 @@ impl RustStore {
     /// Puts the nodes, edges and lists of an image in place of all.
     pub fn put(&mut self, plain: &Plain) {
         let payloads: Vec<u32> = plain.nodes.iter().map(|node| node.payload).collect();
-        let records: Vec<[u32; 3]> = (0..).map_while(|edge| plain.record(edge)).collect();
+        let records = (0..).map_while(|edge| plain.record(edge));
+        let records: Vec<[u32; 3]> = records
+            .map(|[source, target, low, high]| [source, target, one_word(low, high)])
+            .collect();
         let lists = [&*plain.outgoing.lists, &*plain.incoming.lists];
         self.graph = Graph::from_base(&payloads, &records, lists);
     }
@@ -143,7 +155,7 @@ impl Lots for RustStore {
         }
     }
 
-    fn operation(&mut self, words: [u32; 4]) -> Answer {
+    fn operation(&mut self, words: [u32; 5]) -> Answer {
         Self::operation(self, words)
     }
 
@@ -157,7 +169,7 @@ impl Lots for RustStore {
         known.then(|| *self.graph.node(node(slot)))
     }
 
-    fn record(&self, slot: u32) -> Option<([u32; 3], bool)> {
+    fn record(&self, slot: u32) -> Option<([u32; 4], bool)> {
         let known = self.no_edge(slot).is_none();
         known.then(|| {
             (
@@ -165,6 +177,22 @@ impl Lots for RustStore {
                 self.graph.contains_edge(edge(slot)),
             )
         })
+    }
+
+    fn degree(&self, direction: TraversalDirection, slot: u32) -> u32 {
+        degree(&self.graph, direction, slot)
+    }
+
+    fn neighbors(&self, direction: TraversalDirection, slot: u32) -> Vec<u32> {
+        neighbors(&self.graph, direction, slot)
+    }
+
+    fn contains_node(&self, slot: u32) -> bool {
+        self.graph.contains_node(node(slot))
+    }
+
+    fn contains_edge(&self, slot: u32) -> bool {
+        self.graph.contains_edge(edge(slot))
     }
 
     fn live_nodes(&self) -> Vec<u32> {
@@ -175,8 +203,16 @@ impl Lots for RustStore {
         self.graph.edge_ids().map(EdgeId::raw).collect()
     }
 
+    fn counts(&self) -> [usize; 2] {
+        [self.graph.node_count(), self.graph.edge_count()]
+    }
+
     fn bounds(&self) -> [usize; 2] {
         [self.graph.node_bound(), self.graph.edge_bound()]
+    }
+
+    fn is_empty(&self) -> bool {
+        self.graph.is_empty()
     }
 
     fn is_compact(&self) -> bool {
@@ -202,7 +238,10 @@ pub fn perform(graph: &mut Graph<u32, u32>, operation: Operation) -> u32 {
             source,
             target,
             payload,
-        } => graph.add_edge(node(source), node(target), payload).raw(),
+        } => {
+            let payload = one_word(payload.low, payload.high);
+            graph.add_edge(node(source), node(target), payload).raw()
+        }
         Operation::RemoveEdge { edge: slot } => u32::from(graph.remove_edge(edge(slot))),
         Operation::RemoveNode { node: slot } => u32::from(graph.remove_node(node(slot))),
         Operation::Redirect {
@@ -230,7 +269,7 @@ pub fn perform(graph: &mut Graph<u32, u32>, operation: Operation) -> u32 {
             edge: slot,
             payload,
         } => {
-            *graph.edge_mut(edge(slot)).payload_mut() = payload;
+            *graph.edge_mut(edge(slot)).payload_mut() = one_word(payload.low, payload.high);
             0
         }
     }
@@ -240,11 +279,19 @@ fn full(bound: usize, capacity: u32) -> Option<u32> {
     (bound == capacity as usize).then_some(10)
 }
 
-/// `Graph::edge`, which answers for removed edges too.
-pub fn record(graph: &Graph<u32, u32>, slot: u32) -> [u32; 3] {
+/// The Rust's payload of an edge with these weights.
+fn one_word(low: u32, high: u32) -> u32 {
+    assert_eq!(low, high, "the Rust holds one word: ranges are the model's");
+    low
+}
+
+/// Source, target, low and high by `Graph::edge`, which answers for removed edges
+/// too.
+pub fn record(graph: &Graph<u32, u32>, slot: u32) -> [u32; 4] {
     let record = graph.edge(edge(slot));
-    let ends = [record.source(), record.target()].map(NodeId::raw);
-    [ends[0], ends[1], *record.payload()]
+    let [source, target] = [record.source(), record.target()].map(NodeId::raw);
+    let weight = *record.payload();
+    [source, target, weight, weight]
 }
 
 /// The payloads of all nodes and of all edges, removed ones too.
@@ -258,11 +305,12 @@ pub fn payloads(graph: &Graph<u32, u32>) -> [Vec<u32>; 2] {
     ]
 }
 
-/// `EdgeView::edge`, which panics for removed edges.
-pub fn live_record(graph: &Graph<u32, u32>, slot: u32) -> [u32; 3] {
+/// The same by `EdgeView::edge`, which panics for removed edges.
+pub fn live_record(graph: &Graph<u32, u32>, slot: u32) -> [u32; 4] {
     let record = EdgeView::edge(graph, edge(slot));
-    let ends = [record.source(), record.target()].map(NodeId::raw);
-    [ends[0], ends[1], *record.data()]
+    let [source, target] = [record.source(), record.target()].map(NodeId::raw);
+    let weight = *record.data();
+    [source, target, weight, weight]
 }
 
 pub fn edges_of(

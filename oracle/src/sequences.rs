@@ -159,18 +159,18 @@ pub fn compare_random<S: Sides>(operations: u64, seed: u64, tally: &mut Tally) {
 
 /// All steps over two nodes and so many edges, a few refused ones among them.
 fn all_steps(edges: u32) -> Vec<Step> {
-    let mut words = vec![[1, 0, 0, 7], [9, 0, 0, 8]];
+    let mut words = vec![[1, 0, 0, 7, 0], [9, 0, 0, 8, 8], [9, 0, 0, 8, 7]];
     for a in 0..2 {
-        words.push([4, a, 0, 0]);
+        words.push([4, a, 0, 0, 0]);
         for b in 0..2 {
-            words.push([2, a, b, 5]);
-            words.extend([[7, a, b, 0], [8, a, b, 0]]);
+            words.push([2, a, b, 5, 5]);
+            words.extend([[7, a, b, 0, 0], [8, a, b, 0, 0]]);
         }
     }
     for edge in 0..edges {
-        words.push([3, edge, 0, 0]);
+        words.push([3, edge, 0, 0, 0]);
         for node in 0..2 {
-            words.extend([[5, edge, node, 0], [6, edge, node, 0]]);
+            words.extend([[5, edge, node, 0, 0], [6, edge, node, 0, 0]]);
         }
     }
     let operations = words.into_iter().map(Step::Operation);
@@ -183,12 +183,12 @@ fn all_steps(edges: u32) -> Vec<Step> {
 pub fn compare_exhaustive<S: Sides>(depth: usize, tally: &mut Tally) {
     let capacities = Capacities { nodes: 2, edges: 4 };
     let operation = |words| Step::Operation(words);
-    let added: Vec<Step> = [[1, 0, 0, 1], [1, 0, 0, 2]]
+    let added: Vec<Step> = [[1, 0, 0, 1, 0], [1, 0, 0, 2, 0]]
         .into_iter()
-        .chain([[2, 0, 1, 3]; 3])
+        .chain([[2, 0, 1, 3, 3]; 3])
         .map(operation)
         .collect();
-    let back = [operation([5, 0, 1, 0]), operation([5, 0, 0, 0])];
+    let back = [operation([5, 0, 1, 0, 0]), operation([5, 0, 0, 0, 0])];
     let compacted = [&added[..], &[Step::Compact]].concat();
     let starts = [
         (Vec::new(), 2),

@@ -30,6 +30,8 @@ things! {
         "a degree its length";
     Neighbors: "successors and predecessors",
         "A walk is the list; Removed edges keep their last ends.";
+    Total: "totals of out-lists and in-lists",
+        "the total of a lot's in-list and of its out-list as a low and a high sum, each exact in 64 bits";
     Record: "records, of removed edges too",
         "`Graph::edge` answers for removed edges too";
     LiveRecord: "live records",
@@ -136,6 +138,8 @@ things! {
         "Walk: 1, 5, 2. List of live nodes or edges in slot order: 1, 2.";
     BookDegree: "book: degrees",
         "Degree and node payload: 1, 5.";
+    BookTotal: "book: totals of out-lists and in-lists",
+        "A total refuses 1, then 5, with both sums 0; done, its value is 0.";
     BookSlot: "book: payloads, records in both readings, live or not",
         "Record 1, 7; live record 1, 7, 8.";
     BookFind: "book: found edges",
@@ -144,6 +148,8 @@ things! {
         "Against the Rust, run contents are from now on matched after dead entries are struck from both sides.";
     BookRun: "book: base parts, runs and rings, dead entries included, by the model",
         "`sweep` now drops dead slots at every edit of a run";
+    BookRange: "book: strips, compactions and image readings with ranges, by the model",
+        "A transfer's payload becomes low and high, `u32` each, in two slices";
     BookRefused: "book: calls on damaged stores that are refused, and the words afterwards",
         "words are no store | 1 | rule 1 to 7 | everything";
     Vectors: "recorded sequences",
@@ -178,8 +184,8 @@ impl fmt::Display for Difference {
 
 /// Codes 1 to 9, and 0 for any other.
 const CODES: usize = 10;
-/// Numbers 0 to 10, of which a strip's operations leave 0 and 4 to 10.
-const NUMBERS: usize = 11;
+/// Numbers 0 to 16, of which a strip's operations leave 0, 4 to 10 and 16.
+const NUMBERS: usize = 17;
 
 #[derive(Clone)]
 pub struct Tally {
@@ -224,7 +230,7 @@ impl Tally {
     }
 
     /// Counts an operation by its code and the number answered.
-    pub fn answered(&mut self, words: [u32; 4], answer: Answer) {
+    pub fn answered(&mut self, words: [u32; 5], answer: Answer) {
         let code = match words[0] as usize {
             code if code < CODES => code,
             _ => 0,
@@ -265,11 +271,11 @@ impl Tally {
     }
 
     /// Whether every code has come up, and every number that a strip's
-    /// operations can leave: 0 and 4 to 10.
+    /// operations can leave: 0, 4 to 10 and 16.
     pub fn covers_all(&self) -> bool {
         let codes = self.answers.iter().all(|row| row[0] + row[4] > 0);
         let number = |number: usize| self.answers.iter().any(|row| row[number] > 0);
-        codes && [0, 4, 5, 6, 7, 8, 9, 10].into_iter().all(number)
+        codes && [0, 4, 5, 6, 7, 8, 9, 10, 16].into_iter().all(number)
     }
 }
 

@@ -38,9 +38,10 @@ pub fn compare(inputs: usize, seed: u64, tally: &mut Tally) -> Result<(), Differ
         }
         compare_input(&input, tally)?;
     }
-    // 4,096 operations are the most; one byte more is too long.
-    for length in [65_520, 65_521, 65_535, 65_536, 65_537, 65_552] {
-        let node = strip_bytes(&[[1, 0, 0, 7]]);
+    // 3,276 operations are the most; up to 65,536 bytes more are no strip, then too
+    // long.
+    for length in [65_500, 65_519, 65_520, 65_521, 65_536, 65_537, 65_540] {
+        let node = strip_bytes(&[[1, 0, 0, 7, 0]]);
         let input: Vec<u8> = node.into_iter().cycle().take(length).collect();
         compare_input(&input, tally)?;
     }

@@ -41,6 +41,16 @@ pub struct Changed {
     pub counts: Counts,
 }
 
+/// The weights of an edge: `EdgePayload` of crate `plain`.
+#[repr(C)]
+#[derive(Debug, Clone, Copy, PartialEq, Eq)]
+pub struct EdgePayload {
+    /// The lowest weight.
+    pub low: u32,
+    /// The highest weight.
+    pub high: u32,
+}
+
 /// `Record` of crate `plain`.
 #[repr(C)]
 #[derive(Clone, Copy)]
@@ -49,7 +59,17 @@ pub struct Record {
     pub value: u64,
     pub source: u32,
     pub target: u32,
-    pub payload: u32,
+    pub payload: EdgePayload,
+}
+
+/// `Total` of crate `plain`.
+#[repr(C)]
+#[derive(Clone, Copy)]
+pub struct Total {
+    pub number: u32,
+    pub value: u64,
+    pub low: u64,
+    pub high: u64,
 }
 
 /// Declares reads of a store, each with its own arguments and whether it is lent a
@@ -57,15 +77,17 @@ pub struct Record {
 macro_rules! reads {
     ($($name:ident($($argument:ident),* $(; $slots:ident: $word:ty)?) -> $answer:ty;)*) => {
         mod reads {
-            use super::{Answer, Counts, Record};
+            use super::{Answer, Counts, Record, Total};
 
             unsafe extern "C" {
                 $(pub fn $name(
                     counts: Counts,
                     nodes: *const u32,
                     nodes_length: usize,
-                    edges: *const u32,
-                    edges_length: usize,
+                    lows: *const u32,
+                    lows_length: usize,
+                    highs: *const u32,
+                    highs_length: usize,
                     live_nodes: *const u64,
                     live_nodes_length: usize,
                     live_edges: *const u64,
@@ -89,8 +111,10 @@ macro_rules! reads {
                         self.counts,
                         self.nodes.as_ptr(),
                         self.nodes.len(),
-                        self.edges.as_ptr(),
-                        self.edges.len(),
+                        self.lows.as_ptr(),
+                        self.lows.len(),
+                        self.highs.as_ptr(),
+                        self.highs.len(),
                         self.live_nodes.as_ptr(),
                         self.live_nodes.len(),
                         self.live_edges.as_ptr(),
@@ -116,6 +140,8 @@ reads! {
     lot_predecessors(node; slots: u32) -> Answer;
     lot_out_degree(node) -> Answer;
     lot_in_degree(node) -> Answer;
+    lot_out_total(node) -> Total;
+    lot_in_total(node) -> Total;
     lot_find(first, second) -> Answer;
     lot_node_payload(node) -> Answer;
     lot_edge_record(edge) -> Record;
@@ -140,8 +166,10 @@ mod others {
         pub fn lot_fresh(
             nodes: *const u32,
             nodes_length: usize,
-            edges: *const u32,
-            edges_length: usize,
+            lows: *const u32,
+            lows_length: usize,
+            highs: *const u32,
+            highs_length: usize,
             live_nodes: *const u64,
             live_nodes_length: usize,
             live_edges: *const u64,
@@ -155,8 +183,10 @@ mod others {
             counts: Counts,
             nodes: *mut u32,
             nodes_length: usize,
-            edges: *mut u32,
-            edges_length: usize,
+            lows: *mut u32,
+            lows_length: usize,
+            highs: *mut u32,
+            highs_length: usize,
             live_nodes: *mut u64,
             live_nodes_length: usize,
             live_edges: *mut u64,
@@ -174,8 +204,10 @@ mod others {
             counts: Counts,
             nodes: *mut u32,
             nodes_length: usize,
-            edges: *mut u32,
-            edges_length: usize,
+            lows: *mut u32,
+            lows_length: usize,
+            highs: *mut u32,
+            highs_length: usize,
             live_nodes: *mut u64,
             live_nodes_length: usize,
             live_edges: *mut u64,
@@ -195,8 +227,10 @@ mod others {
             counts: Counts,
             nodes: *mut u32,
             nodes_length: usize,
-            edges: *mut u32,
-            edges_length: usize,
+            lows: *mut u32,
+            lows_length: usize,
+            highs: *mut u32,
+            highs_length: usize,
             live_nodes: *mut u64,
             live_nodes_length: usize,
             live_edges: *mut u64,
@@ -234,8 +268,10 @@ impl Memory {
             others::lot_fresh(
                 self.nodes.as_ptr(),
                 self.nodes.len(),
-                self.edges.as_ptr(),
-                self.edges.len(),
+                self.lows.as_ptr(),
+                self.lows.len(),
+                self.highs.as_ptr(),
+                self.highs.len(),
                 self.live_nodes.as_ptr(),
                 self.live_nodes.len(),
                 self.live_edges.as_ptr(),
@@ -257,8 +293,10 @@ impl Memory {
                 self.counts,
                 self.nodes.as_mut_ptr(),
                 self.nodes.len(),
-                self.edges.as_mut_ptr(),
-                self.edges.len(),
+                self.lows.as_mut_ptr(),
+                self.lows.len(),
+                self.highs.as_mut_ptr(),
+                self.highs.len(),
                 self.live_nodes.as_mut_ptr(),
                 self.live_nodes.len(),
                 self.live_edges.as_mut_ptr(),
@@ -288,8 +326,10 @@ impl Memory {
                 self.counts,
                 self.nodes.as_mut_ptr(),
                 self.nodes.len(),
-                self.edges.as_mut_ptr(),
-                self.edges.len(),
+                self.lows.as_mut_ptr(),
+                self.lows.len(),
+                self.highs.as_mut_ptr(),
+                self.highs.len(),
                 self.live_nodes.as_mut_ptr(),
                 self.live_nodes.len(),
                 self.live_edges.as_mut_ptr(),
@@ -317,8 +357,10 @@ impl Memory {
                 self.counts,
                 self.nodes.as_mut_ptr(),
                 self.nodes.len(),
-                self.edges.as_mut_ptr(),
-                self.edges.len(),
+                self.lows.as_mut_ptr(),
+                self.lows.len(),
+                self.highs.as_mut_ptr(),
+                self.highs.len(),
                 self.live_nodes.as_mut_ptr(),
                 self.live_nodes.len(),
                 self.live_edges.as_mut_ptr(),

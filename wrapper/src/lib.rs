@@ -8,7 +8,7 @@
 //! are as long as stated is what a Rust borrow means.
 //!
 //! ```
-//! use lots::{LotBook, Operation, Refused};
+//! use lots::{EdgePayload, LotBook, Operation, Refused};
 //!
 //! # fn main() -> Result<(), Refused> {
 //! // Room for 100 lots and 200 transfers.
@@ -16,16 +16,19 @@
 //!
 //! let malt = book.operation(Operation::AddNode { payload: 7 })?;
 //! let beer = book.operation(Operation::AddNode { payload: 9 })?;
+//! // The hopper's scales gave 249 at the lowest and 251 at the highest.
+//! let payload = EdgePayload { low: 249, high: 251 };
 //! let transfer = book.operation(Operation::AddEdge {
 //!     source: malt,
 //!     target: beer,
-//!     payload: 250,
+//!     payload,
 //! })?;
 //!
 //! assert_eq!(book.outgoing(malt)?, [transfer]);
 //! assert_eq!(book.predecessors(beer)?, [malt]);
 //! assert_eq!(book.find(malt, beer)?, Some(transfer));
-//! assert_eq!(book.edge_record(transfer)?.payload, 250);
+//! assert_eq!(book.edge_record(transfer)?.payload, payload);
+//! assert_eq!(book.in_total(beer)?.high, 251);
 //!
 //! // A lot that there is not: number 5.
 //! assert_eq!(book.out_degree(2).unwrap_err().number, 5);
@@ -53,7 +56,7 @@
 mod exports;
 pub mod maps;
 
-pub use exports::{Counts, Slots};
+pub use exports::{Counts, EdgePayload, Slots};
 
 use exports::Changed;
 
@@ -68,12 +71,30 @@ pub struct Refused {
     pub value: u64,
 }
 
+impl EdgePayload {
+    /// A weight that is known: low and high are one.
+    pub const fn exactly(weight: u32) -> Self {
+        Self {
+            low: weight,
+            high: weight,
+        }
+    }
+}
+
 /// The ends and the payload of an edge.
 #[derive(Debug, Clone, Copy, PartialEq, Eq)]
 pub struct EdgeRecord {
     pub source: u32,
     pub target: u32,
-    pub payload: u32,
+    pub payload: EdgePayload,
+}
+
+/// The total of a list: the sums of its edges' lows and of their highs. Weights
+/// within the edges' ranges sum to between them.
+#[derive(Debug, Clone, Copy, PartialEq, Eq)]
+pub struct Total {
+    pub low: u64,
+    pub high: u64,
 }
 
 /// What a compaction answers: the new slot of every old one, NONE where it was
@@ -86,7 +107,8 @@ pub struct Compaction {
     pub incoming: Vec<u32>,
 }
 
-/// An operation of a strip.
+/// An operation of a strip. One that gives an edge a low above its high is refused
+/// with 16.
 #[derive(Debug, Clone, Copy, PartialEq, Eq)]
 pub enum Operation {
     /// Answers the new slot.
@@ -95,7 +117,7 @@ pub enum Operation {
     AddEdge {
         source: u32,
         target: u32,
-        payload: u32,
+        payload: EdgePayload,
     },
     /// Answers 1, or 0 where nothing live was there.
     RemoveEdge { edge: u32 },
@@ -110,39 +132,44 @@ pub enum Operation {
     /// Moves the whole in-list. Answers the edges moved.
     MoveIncoming { old: u32, new: u32 },
     /// Of a removed edge too. Answers 0.
-    SetPayload { edge: u32, payload: u32 },
+    SetPayload { edge: u32, payload: EdgePayload },
 }
 
 impl Operation {
-    /// Its four words in a strip.
-    pub const fn words(self) -> [u32; 4] {
+    /// Its five words in a strip.
+    pub const fn words(self) -> [u32; 5] {
         match self {
-            Self::AddNode { payload } => [1, 0, 0, payload],
+            Self::AddNode { payload } => [1, 0, 0, payload, 0],
             Self::AddEdge {
                 source,
                 target,
-                payload,
-            } => [2, source, target, payload],
-            Self::RemoveEdge { edge } => [3, edge, 0, 0],
-            Self::RemoveNode { node } => [4, node, 0, 0],
-            Self::RedirectSource { edge, node } => [5, edge, node, 0],
-            Self::RedirectTarget { edge, node } => [6, edge, node, 0],
-            Self::MoveOutgoing { old, new } => [7, old, new, 0],
-            Self::MoveIncoming { old, new } => [8, old, new, 0],
-            Self::SetPayload { edge, payload } => [9, edge, 0, payload],
+                payload: EdgePayload { low, high },
+            } => [2, source, target, low, high],
+            Self::RemoveEdge { edge } => [3, edge, 0, 0, 0],
+            Self::RemoveNode { node } => [4, node, 0, 0, 0],
+            Self::RedirectSource { edge, node } => [5, edge, node, 0, 0],
+            Self::RedirectTarget { edge, node } => [6, edge, node, 0, 0],
+            Self::MoveOutgoing { old, new } => [7, old, new, 0, 0],
+            Self::MoveIncoming { old, new } => [8, old, new, 0, 0],
+            Self::SetPayload {
+                edge,
+                payload: EdgePayload { low, high },
+            } => [9, edge, 0, low, high],
         }
     }
 }
 
-/// The memory of a store: counts and six slices (`docs/ENTRIES.md` has the lengths
+/// The memory of a store: counts and seven slices (`docs/ENTRIES.md` has the lengths
 /// and `crates/shape` the columns). It may hold anything: the check judges it.
 #[derive(Debug, Clone, PartialEq, Eq)]
 pub struct Memory {
     pub counts: Counts,
     /// Payloads; the length is the capacity.
     pub nodes: Vec<u32>,
-    /// Payloads; the length is the capacity.
-    pub edges: Vec<u32>,
+    /// The lowest weight of each edge; the length is the capacity.
+    pub lows: Vec<u32>,
+    /// The highest weight of each edge.
+    pub highs: Vec<u32>,
     pub live_nodes: Vec<u64>,
     pub live_edges: Vec<u64>,
     /// Outgoing, incoming.
@@ -156,7 +183,8 @@ impl Memory {
         Self {
             counts: Counts::default(),
             nodes: vec![0; nodes],
-            edges: vec![0; edges],
+            lows: vec![0; edges],
+            highs: vec![0; edges],
             live_nodes: vec![0; nodes.div_ceil(64)],
             live_edges: vec![0; edges.div_ceil(64)],
             axes: [vec![0; axis], vec![0; axis]],
@@ -259,7 +287,7 @@ impl LotBook {
         done(number, value.into()).map(narrow)
     }
 
-    /// A strip as words, four an operation, with two words of answer each. Words of
+    /// A strip as words, five an operation, with two words of answer each. Words of
     /// `answers` past them keep their content.
     ///
     /// # Errors
@@ -280,12 +308,12 @@ impl LotBook {
         let Memory {
             counts,
             nodes,
-            edges,
+            lows,
             ..
         } = &self.memory;
         let mut node_map = vec![0; bound(counts.nodes, nodes.len())];
-        let mut edge_map = vec![0; bound(counts.edges, edges.len())];
-        let mut work = vec![0; 2 * edges.len().min(counts.edges.live as usize)];
+        let mut edge_map = vec![0; bound(counts.edges, lows.len())];
+        let mut work = vec![0; 2 * lows.len().min(counts.edges.live as usize)];
         self.compact_into(&mut node_map, &mut edge_map, &mut work)?;
         let incoming = work.split_off(work.len() / 2);
         Ok(Compaction {
@@ -385,6 +413,19 @@ impl LotBook {
 
     pub fn in_degree(&self, node: u32) -> Result<u32, Refused> {
         self.slot_answer(|memory| memory.lot_in_degree(node))
+    }
+
+    /// The total of a node's out-list.
+    ///
+    /// # Errors
+    /// 1, 5; and so the next.
+    pub fn out_total(&self, node: u32) -> Result<Total, Refused> {
+        self.memory.lot_out_total(node).into()
+    }
+
+    /// The total of a node's in-list.
+    pub fn in_total(&self, node: u32) -> Result<Total, Refused> {
+        self.memory.lot_in_total(node).into()
     }
 
     /// A node's list into a lent slice: how many entries it has. Words past them
@@ -534,6 +575,16 @@ impl From<exports::Record> for Result<EdgeRecord, Refused> {
             source: record.source,
             target: record.target,
             payload: record.payload,
+        })
+    }
+}
+
+impl From<exports::Total> for Result<Total, Refused> {
+    fn from(total: exports::Total) -> Self {
+        done(total.number, total.value)?;
+        Ok(Total {
+            low: total.low,
+            high: total.high,
         })
     }
 }

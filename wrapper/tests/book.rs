@@ -1,6 +1,6 @@
 //! Each entry once through the wrapper, with a refusal of each call that has one.
 
-use lots::{EdgeRecord, LotBook, Memory, Operation, Refused, maps};
+use lots::{EdgePayload, EdgeRecord, LotBook, Memory, Operation, Refused, Total, maps};
 
 const NONE: u64 = lots::NONE as u64;
 
@@ -8,18 +8,24 @@ const fn refused(number: u32, value: u64) -> Refused {
     Refused { number, value }
 }
 
-/// Nodes 0 to 2 and 17 edges from 0 to 1, then one from 1 to 2 and a loop at 1.
+/// An edge between these lots with weights from `low` to `high`.
+const fn add_edge([source, target]: [u32; 2], low: u32, high: u32) -> Operation {
+    Operation::AddEdge {
+        source,
+        target,
+        payload: EdgePayload { low, high },
+    }
+}
+
+/// Nodes 0 to 2 and 17 edges from 0 to 1, then one from 1 to 2 and a loop at 1. The
+/// lows are 100 and up, each high is one more.
 fn book() -> LotBook {
     let mut book = LotBook::new(3, 20).expect("capacities below the limit");
     let nodes = (0..3).map(|payload| Operation::AddNode { payload });
-    let ends = [(0, 1); 17].into_iter().chain([(1, 2), (1, 1)]);
+    let ends = [[0, 1]; 17].into_iter().chain([[1, 2], [1, 1]]);
     let edges = (100..)
         .zip(ends)
-        .map(|(payload, (source, target))| Operation::AddEdge {
-            source,
-            target,
-            payload,
-        });
+        .map(|(low, ends)| add_edge(ends, low, low + 1));
     let operations: Vec<_> = nodes.chain(edges).collect();
     let answers = book.strip(&operations).expect("a fresh store");
     let slots = (0..3).chain(0..19).map(Ok);
@@ -49,6 +55,58 @@ fn lists() {
 }
 
 #[test]
+fn totals() {
+    let mut book = book();
+    let total = |low, high| Ok(Total { low, high });
+    // 100 to 116, each high one more; then the loop, 118 to 119.
+    assert_eq!(book.out_total(0), total(1836, 1836 + 17));
+    assert_eq!(book.in_total(1), total(1836 + 118, 1836 + 118 + 18));
+    assert_eq!(book.in_total(0), total(0, 0));
+    assert_eq!(book.out_total(3), Err(refused(5, NONE)));
+    assert_eq!(book.in_total(lots::NONE), Err(refused(5, NONE)));
+    // A removed edge counts no more.
+    assert_eq!(book.operation(Operation::RemoveEdge { edge: 18 }), Ok(1));
+    assert_eq!(book.out_total(1), total(117, 118));
+    assert_eq!(book.operation(Operation::RemoveNode { node: 1 }), Ok(1));
+    assert_eq!(book.out_total(1), total(0, 0));
+    // Exact above 32 bits.
+    let heaviest = add_edge([0, 2], u32::MAX - 1, u32::MAX);
+    let mut book = LotBook::new(3, 3).unwrap();
+    let nodes = [Operation::AddNode { payload: 0 }; 3];
+    assert!(book.strip(&[&nodes[..], &[heaviest; 3]].concat()).is_ok());
+    let most = 3 * u64::from(u32::MAX);
+    assert_eq!(book.in_total(2), total(most - 3, most));
+}
+
+/// A low above its high: 16, directly after 4, and nothing changes.
+#[test]
+fn inverted() {
+    let mut book = book();
+    let before = book.clone();
+    let set = |edge, low, high| Operation::SetPayload {
+        edge,
+        payload: EdgePayload { low, high },
+    };
+    for operation in [
+        add_edge([0, 1], 2, 1),
+        add_edge([9, 9], u32::MAX, 0),
+        set(0, 2, 1),
+        set(99, 2, 1),
+    ] {
+        assert_eq!(book.operation(operation), Err(refused(16, NONE)));
+    }
+    let mut answers = [77; 2];
+    assert_eq!(book.strip_words(&[9, 0, 1, 2, 1], &mut answers), Ok(()));
+    assert_eq!(answers, [4, lots::NONE]);
+    assert_eq!(book, before);
+    assert_eq!(book.operation(set(0, 2, 2)), Ok(0));
+    assert_eq!(
+        book.edge_record(0).unwrap().payload,
+        EdgePayload::exactly(2)
+    );
+}
+
+#[test]
 fn lent_slices() {
     let book = book();
     for list in [LotBook::outgoing_into, LotBook::successors_into] {
@@ -74,7 +132,10 @@ fn slots() {
     let record = EdgeRecord {
         source: 1,
         target: 2,
-        payload: 117,
+        payload: EdgePayload {
+            low: 117,
+            high: 118,
+        },
     };
     assert_eq!(book.edge_record(17), Ok(record));
     assert_eq!(book.live_edge_record(17), Ok(record));
@@ -135,7 +196,7 @@ fn operations() {
         Operation::MoveIncoming { old: 1, new: 1 },
         Operation::SetPayload {
             edge: 17,
-            payload: 5,
+            payload: EdgePayload { low: 5, high: 9 },
         },
         Operation::RemoveEdge { edge: 17 },
         Operation::RemoveEdge { edge: 17 },
@@ -157,11 +218,11 @@ fn operations() {
     let before = book.clone();
     let mut answers = [77; 1];
     assert_eq!(
-        book.strip_words(&[1, 0, 0], &mut answers),
-        Err(refused(3, 3))
+        book.strip_words(&[1, 0, 0, 0], &mut answers),
+        Err(refused(3, 4))
     );
     assert_eq!(
-        book.strip_words(&[1, 0, 0, 0], &mut answers),
+        book.strip_words(&[1, 0, 0, 0, 0], &mut answers),
         Err(refused(2, 2))
     );
     assert_eq!((book, answers), (before, [77; 1]));
@@ -180,7 +241,14 @@ fn capacities() {
     );
     memory = Memory::zeros(65, 3);
     memory.live_nodes.pop();
+    let mut shorter = memory.clone();
     assert_eq!(LotBook::from_memory(memory).fresh(), Err(refused(2, 2)));
+    // The highs are the first of the slices beside the capacities.
+    shorter.highs.pop();
+    let mut book = LotBook::from_memory(shorter);
+    assert_eq!(book.fresh(), Err(refused(2, 3)));
+    assert_eq!(book.read_image(&[0; 4]), Err(refused(2, 3)));
+    assert_eq!(book.check(), Err(refused(1, 1)));
 }
 
 #[test]
@@ -190,13 +258,8 @@ fn compacted() {
     for payload in [7, 9] {
         book.operation(Operation::AddNode { payload }).unwrap();
     }
-    for payload in [5, 6, 8] {
-        book.operation(Operation::AddEdge {
-            source: 0,
-            target: 1,
-            payload,
-        })
-        .unwrap();
+    for low in [5, 6, 8] {
+        book.operation(add_edge([0, 1], low, 10)).unwrap();
     }
     book.operation(Operation::RemoveEdge { edge: 0 }).unwrap();
     let before = book.clone();
@@ -219,7 +282,8 @@ fn compacted() {
     assert_eq!(compaction.outgoing, [0, 1]);
     assert_eq!(compaction.incoming, [0, 1]);
     assert!(book.is_compact().unwrap());
-    assert_eq!(book.edge_record(1).unwrap().payload, 8);
+    let payload = book.edge_record(1).unwrap().payload;
+    assert_eq!(payload, EdgePayload { low: 8, high: 10 });
     assert_eq!(book.outgoing(0).unwrap(), [0, 1]);
     // Again: no word changes, and the maps leave every slot.
     let once = book.clone();
@@ -227,14 +291,7 @@ fn compacted() {
     assert!(maps::is_identity(&again.node_map, &again.edge_map));
     assert_eq!(book, once);
     // "Dead slots are usable again afterwards."
-    assert_eq!(
-        book.operation(Operation::AddEdge {
-            source: 1,
-            target: 0,
-            payload: 1
-        }),
-        Ok(2)
-    );
+    assert_eq!(book.operation(add_edge([1, 0], 1, 1)), Ok(2));
 }
 
 #[test]
@@ -264,12 +321,10 @@ fn images() {
     memory.axes[0].fill(77);
     let mut copy = LotBook::from_memory(memory);
     let before = copy.clone();
-    // M11: 00 00 00 01 is unreadable by rule 3; with four more zero bytes by rule 5.
-    assert_eq!(copy.read_image(&[0, 0, 0, 1]), Err(refused(12, 3)));
-    assert_eq!(
-        copy.read_image(&[0, 0, 0, 1, 0, 0, 0, 0]),
-        Err(refused(12, 5))
-    );
+    // M11: 00 00 00 01 is unreadable by rule 3; with eight more zero bytes by rule 5.
+    let bytes = [0, 0, 0, 1, 0, 0, 0, 0, 0, 0, 0, 0];
+    assert_eq!(copy.read_image(&bytes[..4]), Err(refused(12, 3)));
+    assert_eq!(copy.read_image(&bytes), Err(refused(12, 5)));
     assert_eq!(copy, before);
     assert_eq!(copy.read_image(&image), Ok(()));
     assert_eq!(copy.check(), Ok(()));
@@ -279,6 +334,46 @@ fn images() {
     assert_eq!(small.read_image(&image), Err(refused(2, 3)));
     let mut above = LotBook::from_memory(Memory::zeros(0, 32_769));
     assert_eq!(above.read_image(&image), Err(refused(13, 32_769)));
+}
+
+/// Low and high in 64 bits of the image, in this order; a low above its high breaks
+/// rule 5.
+#[test]
+fn image_of_a_range() {
+    let mut book = LotBook::new(2, 1).unwrap();
+    let nodes = [7, 9].map(|payload| Operation::AddNode { payload });
+    let answers = book.strip(&[nodes[0], nodes[1], add_edge([0, 1], 5, 6)]);
+    assert_eq!(answers, Ok(vec![Ok(0), Ok(1), Ok(0)]));
+    book.compact().unwrap();
+    let image = [
+        0, 2, 0, 1, 0, 0, 0, 7, 0, 0, 0, 9, 0x40, 0, 0, 1, 0x40, 0, 0, 1, 0x80,
+    ];
+    assert_eq!(book.image(), Ok(image.to_vec()));
+    let mut copy = LotBook::new(2, 1).unwrap();
+    assert_eq!(copy.read_image(&image), Ok(()));
+    assert_eq!(copy.edge_record(0), book.edge_record(0));
+    // 6 as the low and 5 as the high.
+    let mut inverted = image;
+    inverted[15..].copy_from_slice(&[1, 0x80, 0, 0, 1, 0x40]);
+    assert_eq!(copy.read_image(&inverted), Err(refused(12, 5)));
+    assert_eq!(copy.image(), Ok(image.to_vec()));
+}
+
+/// A low above its high breaks rule 3, at a removed edge too, but not above the
+/// bound.
+#[test]
+fn weights_out_of_order() {
+    let mut book = book();
+    assert_eq!(book.operation(Operation::RemoveEdge { edge: 3 }), Ok(1));
+    let memory = book.into_memory();
+    for edge in [0, 3, 18] {
+        let mut raised = memory.clone();
+        raised.lows[edge] = raised.highs[edge] + 1;
+        assert_eq!(LotBook::from_memory(raised).check(), Err(refused(1, 3)));
+    }
+    let mut above = memory;
+    above.lows[19] = 1;
+    assert_eq!(LotBook::from_memory(above).check(), Ok(()));
 }
 
 /// Every call on memory that is no store answers 1 and leaves every word.
@@ -296,6 +391,7 @@ fn damaged() {
     );
     assert_eq!(book.outgoing(0), Err(no_store));
     assert_eq!(book.edge_record(0), Err(no_store));
+    assert_eq!(book.out_total(0), Err(no_store));
     assert_eq!(book.node_count(), Err(no_store));
     assert_eq!(book.find(0, 1), Err(no_store));
     assert_eq!(book.image(), Err(no_store));

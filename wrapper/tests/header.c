@@ -7,16 +7,18 @@
 _Static_assert(sizeof(lot_counts) == 24 && offsetof(lot_counts, edges) == 12 && offsetof(lot_slots, live) == 8, "counts");
 _Static_assert(sizeof(lot_answer) == 16 && offsetof(lot_answer, value) == 8, "answer");
 _Static_assert(sizeof(lot_changed) == 40 && offsetof(lot_changed, counts) == 16, "changed");
+_Static_assert(sizeof(lot_payload) == 8 && offsetof(lot_payload, high) == 4, "payload");
 _Static_assert(sizeof(lot_record) == 32 && offsetof(lot_record, source) == 16 && offsetof(lot_record, payload) == 24, "record");
+_Static_assert(sizeof(lot_total) == 32 && offsetof(lot_total, low) == 16 && offsetof(lot_total, high) == 24, "total");
 
 enum { NODES = 3, EDGES = 4 };
 
-static uint32_t nodes[NODES], edges[EDGES], outgoing[LOT_AXIS_WORDS(NODES, EDGES)], incoming[LOT_AXIS_WORDS(NODES, EDGES)];
+static uint32_t nodes[NODES], lows[EDGES], highs[EDGES], outgoing[LOT_AXIS_WORDS(NODES, EDGES)], incoming[LOT_AXIS_WORDS(NODES, EDGES)];
 static uint64_t live_nodes[LOT_LIVE_WORDS(NODES)], live_edges[LOT_LIVE_WORDS(EDGES)];
 
 #define LENGTH(slice) (sizeof(slice) / sizeof(slice)[0])
 #define SLICE(slice) slice, LENGTH(slice)
-#define STORE SLICE(nodes), SLICE(edges), SLICE(live_nodes), SLICE(live_edges), SLICE(outgoing), SLICE(incoming)
+#define STORE SLICE(nodes), SLICE(lows), SLICE(highs), SLICE(live_nodes), SLICE(live_edges), SLICE(outgoing), SLICE(incoming)
 
 static int failed;
 
@@ -41,9 +43,10 @@ int main(void) {
     ANSWERS(lot_is_empty(counts, STORE), 0, 1);
     ANSWERS(lot_is_compact(counts, STORE), 0, 1);
 
-    /* Nodes 0 to 2; edges 0 and 1 from 0 to 1, 2 a loop at 1; node 2 removed; a move onto itself. */
-    static const uint32_t strip[] = {1, 0, 0, 7, 1, 0, 0, 9, 1, 0, 0, 11, 2, 0, 1, 5, 2, 0, 1, 6, 2, 1, 1, 8, 4, 2, 0, 0, 7, 0, 0, 0, 3, 1, 0, 0};
-    static const uint32_t expected[] = {0, 0, 0, 1, 0, 2, 0, 0, 0, 1, 0, 2, 0, 1, 9, LOT_NONE, 0, 1};
+    /* Nodes 0 to 2; edges 0 and 1 from 0 to 1, 2 a loop at 1; node 2 removed; a move onto itself; a low above its high; edge 1 removed. */
+    static const uint32_t strip[] = {1, 0, 0, 7, 0, 1, 0, 0, 9, 0, 1, 0, 0, 11, 0, 2, 0, 1, 5, 6, 2, 0, 1, 6, 6, 2, 1, 1, 8, 8,
+                                     4, 2, 0, 0, 0, 7, 0, 0, 0, 0, 9, 0, 0, 7, 6, 3, 1, 0, 0, 0};
+    static const uint32_t expected[] = {0, 0, 0, 1, 0, 2, 0, 0, 0, 1, 0, 2, 0, 1, 9, LOT_NONE, 16, LOT_NONE, 0, 1};
     uint32_t answers[LENGTH(expected)];
     changed = lot_strip(counts, STORE, SLICE(strip), answers, 3);
     expect("a strip with too few words of answer", changed.number, changed.value, 2, LENGTH(expected));
@@ -58,6 +61,14 @@ int main(void) {
     ANSWERS(lot_check(counts, STORE), 0, 0);
     ANSWERS(lot_out_degree(counts, STORE, 0), 0, 1);
     ANSWERS(lot_in_degree(counts, STORE, 1), 0, 2);
+    lot_total total = lot_in_total(counts, STORE, 1);
+    expect("total", total.number, total.value, 0, 0);
+    expect("sums", total.low, total.high, 5 + 8, 6 + 8);
+    total = lot_out_total(counts, STORE, 0);
+    expect("sums of the out-list", total.low, total.high, 5, 6);
+    total = lot_out_total(counts, STORE, 3);
+    expect("total out of range", total.number, total.value, 5, LOT_NONE);
+    expect("refused total", total.low, total.high, 0, 0);
     uint32_t slots[3] = {77, 77, 77};
     ANSWERS(lot_incoming(counts, STORE, 1, slots, 1), 2, 2);
     expect("refused", slots[0], slots[1], 77, 77);
@@ -76,10 +87,11 @@ int main(void) {
     lot_record record = lot_edge_record(counts, STORE, 1);
     expect("record", record.number, record.value, 0, 0);
     expect("ends", record.source, record.target, 0, 1);
-    expect("payload", record.payload, 0, 6, 0);
+    expect("payload", record.payload.low, record.payload.high, 6, 6);
+    expect("a range", lot_edge_record(counts, STORE, 0).payload.low, lot_edge_record(counts, STORE, 0).payload.high, 5, 6);
     record = lot_live_edge_record(counts, STORE, 1);
     expect("live record", record.number, record.value, 8, LOT_NONE);
-    expect("refused record", record.source | record.target, record.payload, 0, 0);
+    expect("refused record", record.source | record.target, record.payload.low | record.payload.high, 0, 0);
     ANSWERS(lot_contains_node(counts, STORE, 2), 0, 0);
     ANSWERS(lot_contains_edge(counts, STORE, 2), 0, 1);
     ANSWERS(lot_node_bound(counts, STORE), 0, 3);
@@ -95,7 +107,7 @@ int main(void) {
     expect("past the list", slots[2], 77, 77, 77);
 
     /* Compaction, and the image of what is left: two nodes, two edges. */
-    static const uint8_t image[] = {0, 2, 0, 2, 0, 0, 0, 7, 0, 0, 0, 9, 0x40, 0, 0, 1, 0x70, 0, 0, 0, 0x85};
+    static const uint8_t image[] = {0, 2, 0, 2, 0, 0, 0, 7, 0, 0, 0, 9, 0x40, 0, 0, 1, 0x40, 0, 0, 1, 0xb0, 0, 0, 0, 0x80, 0, 0, 0, 0x85};
     uint8_t bytes[LENGTH(image) + 1];
     bytes[LENGTH(image)] = 77;
     ANSWERS(lot_write_image(counts, STORE, SLICE(bytes)), 11, LOT_NONE);
@@ -116,9 +128,17 @@ int main(void) {
     counts = changed.counts;
     ANSWERS(lot_in_degree(counts, STORE, 1), 0, 2);
 
+    /* A low above its high: rule 3. */
+    lows[1] = 9;
+    ANSWERS(lot_check(counts, STORE), 1, 3);
+    lows[1] = 8;
+
     /* A count that is not true: rule 2. */
     counts.nodes.live = 3;
     ANSWERS(lot_node_count(counts, STORE), 1, 2);
+    total = lot_in_total(counts, STORE, 1);
+    expect("total of no store", total.number, total.value, 1, 2);
+    expect("refused total", total.low, total.high, 0, 0);
 
     static const uint32_t first[] = {1, LOT_NONE, 0}, second[] = {5}, identity[] = {0, 1};
     uint32_t result[3];

@@ -5,6 +5,7 @@ pub mod Cursor
 pub mod CursorLaws
 pub mod Reading
 pub mod Finding
+pub mod Summing
 pub mod Walk
 pub mod WalkLaws
 pub mod Axis

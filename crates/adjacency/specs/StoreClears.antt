@@ -10,6 +10,7 @@ use lib.Seq.{ext-getD, map-set-same}
 use lib.Dec.{eqb}
 use Rattle.plain.specs.declared.TraversalDirection.{TraversalDirection}
 use Rattle.plain.specs.declared.TraversalDirection.the-variants.{Outgoing, Incoming}
+use Rattle.plain.specs.declared.EdgePayload.{EdgePayload}
 use Rattle.plain.specs.declared.Counts.{Counts}
 use Rattle.plain.specs.declared.Slots.{Slots}
 use Rattle.plain.specs.Lists.{member, from}
@@ -21,7 +22,7 @@ use Rattle.liveness.specs.Flags.{live-flags}
 use Rattle.liveness.specs.FlagLaws.{length-flags}
 use Rattle.shape.specs.Columns.{mark-at}
 use Rattle.shape.specs.Chains.{In}
-use Rattle.shape.specs.Shape.{Words, node-capacity, edge-capacity, node-live, edge-live, axis-words, edge-slot-at, shape-of, adjacency-in, run-list, run-of, part, raw, live-in}
+use Rattle.shape.specs.Shape.{Words, node-capacity, edge-capacity, node-live, edge-live, axis-words, edge-payload-at, edge-slot-at, shape-of, adjacency-in, run-list, run-of, part, raw, live-in}
 use Rattle.shape.specs.Checked.{SlotsChecked, Checked}
 use Rattle.shape.specs.Steps.{retired, walk-in as walk-of-shape}
 use Rattle.shape.specs.Laws.Chains.{in-none}
@@ -44,7 +45,7 @@ checked-clearable k d x node long =
 abbrev live-of : EdgeSlot → Bool
 live-of s = s .live
 
-abbrev payload-of : EdgeSlot → ℕ
+abbrev payload-of : EdgeSlot → EdgePayload
 payload-of s = s .payload
 
 -- a slot is live afterwards where it was and is not among them
@@ -77,13 +78,13 @@ slots-ext (s ∷ a) (t ∷ b) p l =
     ap₂ {B = List EdgeSlot} (λ x xs. x ∷ xs) slot (slots-ext a b (cc) (cc))
 
 -- the payloads of a store's edge slots
-payloads-are : (w : Words) → map payload-of (shape-of w .edges) ≡ map (λ e. getD (w .edges) e 0) (from 0 (w .counts .edges .bound))
+payloads-are : (w : Words) → map payload-of (shape-of w .edges) ≡ map (λ e. edge-payload-at w e) (from 0 (w .counts .edges .bound))
 unfolding shape-of
 payloads-are w =
     map-map payload-of (edge-slot-at w) (from 0 (w .counts .edges .bound))
 
 -- A store v whose live words are those of w with the edges es made dead, all else of the edge slots as it was.
-module _ (w v : Words) (payloads : v .edges ≡ w .edges) (bound : v .counts .edges .bound ≡ w .counts .edges .bound) {es : List ℕ} {n : ℕ}
+module _ (w v : Words) (lows : v .lows ≡ w .lows) (highs : v .highs ≡ w .highs) (bound : v .counts .edges .bound ≡ w .counts .edges .bound) {es : List ℕ} {n : ℕ}
     (gone : Retired (w .counts .edges .bound) es (w .live-edges) (v .live-edges) n) where
   -- its flags are those of the slots made dead
   pub retired-flags : edge-live v ≡ map live-of (retired es (shape-of w .edges))
@@ -99,7 +100,7 @@ module _ (w v : Words) (payloads : v .edges ≡ w .edges) (bound : v .counts .ed
   pub retired-slots : shape-of v .edges ≡ retired es (shape-of w .edges)
   retired-slots =
       slots-ext (shape-of v .edges) (retired es (shape-of w .edges))
-      (payloads-are v ∙ rw (payloads, bound) (sym (slot-payloads es (shape-of w .edges) ∙ payloads-are w))) (edge-flags-are v ∙ retired-flags)
+      (payloads-are v ∙ rw (lows, highs, bound) (sym (slot-payloads es (shape-of w .edges) ∙ payloads-are w))) (edge-flags-are v ∙ retired-flags)
 
 -- ---- the live count
 

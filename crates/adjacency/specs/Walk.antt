@@ -67,6 +67,13 @@ pub record WalkFits (ws : List ℕ) (ce cn : ℕ) (counts : Counts) (live-edges 
   pub walkable : Walkable ws ce cn counts live-edges x
   pub fits : length (walk-in ws ce cn counts live-edges x live) ≤ length out
 
+-- What it takes to sum over it: both columns of weights hold a word an edge, and the walk is so short that no sum of 32-bit words wraps.
+pub record WalkSummable (ws : List ℕ) (ce cn : ℕ) (counts : Counts) (live-edges : List ℕ) (x : ℕ) (live : Bool) (lows highs : List ℕ) : Type 0 where
+  pub walkable : Walkable ws ce cn counts live-edges x
+  pub few : length (walk-in ws ce cn counts live-edges x live) ≤ LIMIT
+  pub lows-long : ce ≤ length lows
+  pub highs-long : ce ≤ length highs
+
 -- A walk that starts: the cursor has to read the run or base part and the ring of a live node, and nothing of a removed one.
 pub record Started (ws : List ℕ) (ce cn : ℕ) (counts : Counts) (x : ℕ) (live : Bool) (r : Start) : Type 0 where
   pub ready : Ready (r .linked) (entries-column ws ce (r .linked)) (next-column ws ce) (r .cursor)

@@ -11,6 +11,7 @@ ghost use Rattle.plain.specs.Lists.{written};
 ghost use Rattle.liveness.specs.Flags.{live-flags};
 ghost use Rattle.adjacency.specs.Cursor.{word, part-count, exhausted as exhausted-cursor, base-at, delta-at, ring-step, step-of, listed, listed-left, Ready, Seekable, Sought, Writable, ListWritten};
 ghost use Rattle.adjacency.specs.Finding.{first-of, ends-at};
+ghost use Rattle.adjacency.specs.Summing.{sums-of, Summable};
 use plain::NONE;
 
 // Where a walk stands. Of a base part `base` and `base_end` are positions in the adjacency column. Of a run `base` is the entry to read next
@@ -40,6 +41,13 @@ pub struct Step {
 pub struct Start {
     pub linked: bool,
     pub cursor: AdjacencyCursor,
+}
+
+// The sum of the lowest and the sum of the highest weights of some edges.
+#[repr(C)]
+pub struct Sums {
+    pub low: u64,
+    pub high: u64,
 }
 
 // Whether an edge is listed: where no edge is removed, every edge is, and the bit is spared.
@@ -308,6 +316,44 @@ impl AdjacencyCursor {
                 }
                 Found::Done => {
                     return NONE;
+                }
+            }
+            cursor = step.cursor;
+        }
+    }
+
+    // The sums over the listed entries that are left of what two columns have at each.
+    pub fn total(
+        self,
+        linked: bool,
+        entries: &[u32],
+        next: &[u32],
+        tombstoned: bool,
+        live: &[u64],
+        slots: usize,
+        lows: &[u32],
+        highs: &[u32],
+    ) -> Sums
+        requires { ⌜ Summable linked (now entries) (now next) tombstoned (now live) slots self (now lows) (now highs) ⌝ }
+        ensures { λ r. ⌜ r ≡ sums-of (now (lows .entry)) (now (highs .entry)) (listed-left linked (now (entries .entry)) (now (next .entry)) tombstoned (now (live .entry)) slots self) ⌝ }
+    {
+        let mut cursor = self;
+        let mut low: u64 = 0;
+        let mut high: u64 = 0;
+        loop {
+            let step = cursor.seek(linked, entries, next, tombstoned, live, slots);
+            let found = step.found;
+            match found {
+                Found::Edge(edge) => {
+                    let at = edge as usize;
+                    low += lows[at] as u64;
+                    high += highs[at] as u64;
+                }
+                Found::Done => {
+                    return Sums {
+                        low: low,
+                        high: high,
+                    };
                 }
             }
             cursor = step.cursor;

@@ -9,10 +9,12 @@ ghost use lib.ListN.{length};
 ghost use Rattle.plain.specs.Lists.{written};
 ghost use Rattle.shape.specs.Columns.{end-at};
 ghost use Rattle.adjacency.specs.Cursor.{ListWritten};
-ghost use Rattle.adjacency.specs.Walk.{walk-in, tombstoned-in, entries-column, next-column, ColumnsThere, Readable, Walkable, WalkFits, Started};
+ghost use Rattle.adjacency.specs.Walk.{walk-in, tombstoned-in, entries-column, next-column, ColumnsThere, Readable, Walkable, WalkFits, WalkSummable, Started};
 ghost use Rattle.adjacency.specs.Finding.{first-of, ends-at};
+ghost use Rattle.adjacency.specs.Summing.{sums-of};
 use crate::cursor::AdjacencyCursor;
 use crate::cursor::Start;
+use crate::cursor::Sums;
 use crate::index;
 use crate::rings;
 use plain::Counts;
@@ -227,5 +229,37 @@ pub fn find(
         slots,
         far,
         end,
+    )
+}
+
+// The sum of the lowest and the sum of the highest weights of a node's walk.
+pub fn total(
+    axis: &[u32],
+    edges: usize,
+    nodes: usize,
+    counts: Counts,
+    live_edges: &[u64],
+    node: usize,
+    live: bool,
+    lows: &[u32],
+    highs: &[u32],
+) -> Sums
+    requires { ⌜ WalkSummable (now axis) edges nodes counts (now «live_edges») node live (now lows) (now highs) ⌝ }
+    ensures { λ r. ⌜ r ≡ sums-of (now (lows .entry)) (now (highs .entry)) (walk-in (now (axis .entry)) edges nodes counts (now («live_edges» .entry)) node live) ⌝ }
+{
+    let start = start(axis, edges, nodes, counts, node, live);
+    let linked = start.linked;
+    let slots = counts.edges.bound as usize;
+    let entries = entries_of(axis, edges, linked);
+    let next = next_of(axis, edges);
+    start.cursor.total(
+        linked,
+        entries,
+        next,
+        tombstoned(counts),
+        live_edges,
+        slots,
+        lows,
+        highs,
     )
 }

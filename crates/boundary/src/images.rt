@@ -11,7 +11,8 @@ ghost use Rattle.image.specs.Calls.{written-image, ReadOf};
 pub extern "C" fn lot_write_image(
     counts: Counts,
     nodes: &[u32],
-    edges: &[u32],
+    lows: &[u32],
+    highs: &[u32],
     live_nodes: &[u64],
     live_edges: &[u64],
     outgoing: &[u32],
@@ -19,13 +20,14 @@ pub extern "C" fn lot_write_image(
     bytes: &mut [u8],
 ) -> Answer
     ensures { λ r. ⌜ Replied
-        (at-entry counts nodes edges «live_nodes» «live_edges» outgoing incoming)
+        (at-entry counts nodes lows highs «live_nodes» «live_edges» outgoing incoming)
         written-image (now (bytes .entry)) r (now (bytes .exit)) ⌝ }
 {
     image::write::write_image(
         counts,
         nodes,
-        edges,
+        lows,
+        highs,
         live_nodes,
         live_edges,
         outgoing,
@@ -38,7 +40,8 @@ pub extern "C" fn lot_write_image(
 pub extern "C" fn lot_read_image(
     counts: Counts,
     nodes: &mut [u32],
-    edges: &mut [u32],
+    lows: &mut [u32],
+    highs: &mut [u32],
     live_nodes: &mut [u64],
     live_edges: &mut [u64],
     outgoing: &mut [u32],
@@ -46,14 +49,15 @@ pub extern "C" fn lot_read_image(
     bytes: &[u8],
 ) -> Changed
     ensures { λ r. ⌜ ReadOf
-        (at-entry counts nodes edges «live_nodes» «live_edges» outgoing incoming)
+        (at-entry counts nodes lows highs «live_nodes» «live_edges» outgoing incoming)
         (now (bytes .entry)) (r .number) (r .value)
-        (at-exit (r .counts) nodes edges «live_nodes» «live_edges» outgoing incoming) ⌝ }
+        (at-exit (r .counts) nodes lows highs «live_nodes» «live_edges» outgoing incoming) ⌝ }
 {
     image::read::read_image(
         counts,
         nodes,
-        edges,
+        lows,
+        highs,
         live_nodes,
         live_edges,
         outgoing,

@@ -12,7 +12,8 @@ ghost use Rattle.view.specs.Calls.{Answered, Recorded};
 pub extern "C" fn lot_node_payload(
     counts: Counts,
     nodes: &[u32],
-    edges: &[u32],
+    lows: &[u32],
+    highs: &[u32],
     live_nodes: &[u64],
     live_edges: &[u64],
     outgoing: &[u32],
@@ -20,13 +21,14 @@ pub extern "C" fn lot_node_payload(
     node: u32,
 ) -> Answer
     ensures { λ r. ⌜ Answered
-        (at-entry counts nodes edges «live_nodes» «live_edges» outgoing incoming)
+        (at-entry counts nodes lows highs «live_nodes» «live_edges» outgoing incoming)
         (λ w. node-payload (lists w) node) r ⌝ }
 {
     view::slots::node_payload(
         counts,
         nodes,
-        edges,
+        lows,
+        highs,
         live_nodes,
         live_edges,
         outgoing,
@@ -39,7 +41,8 @@ pub extern "C" fn lot_node_payload(
 pub extern "C" fn lot_edge_record(
     counts: Counts,
     nodes: &[u32],
-    edges: &[u32],
+    lows: &[u32],
+    highs: &[u32],
     live_nodes: &[u64],
     live_edges: &[u64],
     outgoing: &[u32],
@@ -47,13 +50,14 @@ pub extern "C" fn lot_edge_record(
     edge: u32,
 ) -> Record
     ensures { λ r. ⌜ Recorded
-        (at-entry counts nodes edges «live_nodes» «live_edges» outgoing incoming)
+        (at-entry counts nodes lows highs «live_nodes» «live_edges» outgoing incoming)
         (λ w. edge-record (lists w) edge) r ⌝ }
 {
     view::slots::edge_record(
         counts,
         nodes,
-        edges,
+        lows,
+        highs,
         live_nodes,
         live_edges,
         outgoing,
@@ -66,7 +70,8 @@ pub extern "C" fn lot_edge_record(
 pub extern "C" fn lot_live_edge_record(
     counts: Counts,
     nodes: &[u32],
-    edges: &[u32],
+    lows: &[u32],
+    highs: &[u32],
     live_nodes: &[u64],
     live_edges: &[u64],
     outgoing: &[u32],
@@ -74,13 +79,14 @@ pub extern "C" fn lot_live_edge_record(
     edge: u32,
 ) -> Record
     ensures { λ r. ⌜ Recorded
-        (at-entry counts nodes edges «live_nodes» «live_edges» outgoing incoming)
+        (at-entry counts nodes lows highs «live_nodes» «live_edges» outgoing incoming)
         (λ w. live-edge-record (lists w) edge) r ⌝ }
 {
     view::slots::live_edge_record(
         counts,
         nodes,
-        edges,
+        lows,
+        highs,
         live_nodes,
         live_edges,
         outgoing,
@@ -93,7 +99,8 @@ pub extern "C" fn lot_live_edge_record(
 pub extern "C" fn lot_contains_node(
     counts: Counts,
     nodes: &[u32],
-    edges: &[u32],
+    lows: &[u32],
+    highs: &[u32],
     live_nodes: &[u64],
     live_edges: &[u64],
     outgoing: &[u32],
@@ -101,13 +108,14 @@ pub extern "C" fn lot_contains_node(
     node: u32,
 ) -> Answer
     ensures { λ r. ⌜ Answered
-        (at-entry counts nodes edges «live_nodes» «live_edges» outgoing incoming)
+        (at-entry counts nodes lows highs «live_nodes» «live_edges» outgoing incoming)
         (λ w. contains-node (lists w) node) r ⌝ }
 {
     view::slots::contains_node(
         counts,
         nodes,
-        edges,
+        lows,
+        highs,
         live_nodes,
         live_edges,
         outgoing,
@@ -120,7 +128,8 @@ pub extern "C" fn lot_contains_node(
 pub extern "C" fn lot_contains_edge(
     counts: Counts,
     nodes: &[u32],
-    edges: &[u32],
+    lows: &[u32],
+    highs: &[u32],
     live_nodes: &[u64],
     live_edges: &[u64],
     outgoing: &[u32],
@@ -128,13 +137,14 @@ pub extern "C" fn lot_contains_edge(
     edge: u32,
 ) -> Answer
     ensures { λ r. ⌜ Answered
-        (at-entry counts nodes edges «live_nodes» «live_edges» outgoing incoming)
+        (at-entry counts nodes lows highs «live_nodes» «live_edges» outgoing incoming)
         (λ w. contains-edge (lists w) edge) r ⌝ }
 {
     view::slots::contains_edge(
         counts,
         nodes,
-        edges,
+        lows,
+        highs,
         live_nodes,
         live_edges,
         outgoing,

@@ -1,4 +1,4 @@
-// A store: the counts by value and the six lent slices.
+// A store: the counts by value and the seven lent slices.
 
 use plain::Answer;
 use plain::Changed;
@@ -14,35 +14,46 @@ ghost use Rattle.compact.specs.Calls.{CompactOf};
 #[no_mangle]
 pub extern "C" fn lot_fresh(
     nodes: &[u32],
-    edges: &[u32],
+    lows: &[u32],
+    highs: &[u32],
     live_nodes: &[u64],
     live_edges: &[u64],
     outgoing: &[u32],
     incoming: &[u32],
 ) -> Changed
     ensures { λ r. ⌜ FreshOf
-        (at-entry (r .counts) nodes edges «live_nodes» «live_edges» outgoing incoming)
+        (at-entry (r .counts) nodes lows highs «live_nodes» «live_edges» outgoing incoming)
         (r .number) (r .value) ⌝ }
 {
-    strip::fresh(nodes, edges, live_nodes, live_edges, outgoing, incoming)
+    strip::fresh(
+        nodes,
+        lows,
+        highs,
+        live_nodes,
+        live_edges,
+        outgoing,
+        incoming,
+    )
 }
 
 #[no_mangle]
 pub extern "C" fn lot_check(
     counts: Counts,
     nodes: &[u32],
-    edges: &[u32],
+    lows: &[u32],
+    highs: &[u32],
     live_nodes: &[u64],
     live_edges: &[u64],
     outgoing: &[u32],
     incoming: &[u32],
 ) -> Answer
-    ensures { λ r. ⌜ r ≡ check-answer (broken (at-entry counts nodes edges «live_nodes» «live_edges» outgoing incoming)) ⌝ }
+    ensures { λ r. ⌜ r ≡ check-answer (broken (at-entry counts nodes lows highs «live_nodes» «live_edges» outgoing incoming)) ⌝ }
 {
     validate::check(
         counts,
         nodes,
-        edges,
+        lows,
+        highs,
         live_nodes,
         live_edges,
         outgoing,
@@ -54,7 +65,8 @@ pub extern "C" fn lot_check(
 pub extern "C" fn lot_strip(
     counts: Counts,
     nodes: &mut [u32],
-    edges: &mut [u32],
+    lows: &mut [u32],
+    highs: &mut [u32],
     live_nodes: &mut [u64],
     live_edges: &mut [u64],
     outgoing: &mut [u32],
@@ -63,15 +75,16 @@ pub extern "C" fn lot_strip(
     answers: &mut [u32],
 ) -> Changed
     ensures { λ r. ⌜ StripOf
-        (at-entry counts nodes edges «live_nodes» «live_edges» outgoing incoming)
+        (at-entry counts nodes lows highs «live_nodes» «live_edges» outgoing incoming)
         (now (words .entry)) (now (answers .entry)) (r .number) (r .value)
-        (at-exit (r .counts) nodes edges «live_nodes» «live_edges» outgoing incoming)
+        (at-exit (r .counts) nodes lows highs «live_nodes» «live_edges» outgoing incoming)
         (now (answers .exit)) ⌝ }
 {
     strip::strip(
         counts,
         nodes,
-        edges,
+        lows,
+        highs,
         live_nodes,
         live_edges,
         outgoing,
@@ -85,7 +98,8 @@ pub extern "C" fn lot_strip(
 pub extern "C" fn lot_compact(
     counts: Counts,
     nodes: &mut [u32],
-    edges: &mut [u32],
+    lows: &mut [u32],
+    highs: &mut [u32],
     live_nodes: &mut [u64],
     live_edges: &mut [u64],
     outgoing: &mut [u32],
@@ -95,15 +109,16 @@ pub extern "C" fn lot_compact(
     work: &mut [u32],
 ) -> Changed
     ensures { λ r. ⌜ CompactOf
-        (at-entry counts nodes edges «live_nodes» «live_edges» outgoing incoming)
+        (at-entry counts nodes lows highs «live_nodes» «live_edges» outgoing incoming)
         (now («node_map» .entry)) (now («edge_map» .entry)) (now (work .entry)) (r .number) (r .value)
-        (at-exit (r .counts) nodes edges «live_nodes» «live_edges» outgoing incoming)
+        (at-exit (r .counts) nodes lows highs «live_nodes» «live_edges» outgoing incoming)
         (now («node_map» .exit)) (now («edge_map» .exit)) (now (work .exit)) ⌝ }
 {
     compact::compact(
         counts,
         nodes,
-        edges,
+        lows,
+        highs,
         live_nodes,
         live_edges,
         outgoing,

@@ -2,18 +2,20 @@
 
 use plain::Answer;
 use plain::Counts;
+use plain::Total;
 use plain::TraversalDirection;
 ghost use Rattle.plain.specs.declared.TraversalDirection.the-variants.{Outgoing, Incoming};
-ghost use Rattle.plain.specs.Reads.{degree as degree-of, walk as walk-of, neighbors as neighbors-of, find as find-of};
+ghost use Rattle.plain.specs.Reads.{degree as degree-of, total as total-of, walk as walk-of, neighbors as neighbors-of, find as find-of};
 ghost use Rattle.shape.specs.Shape.{lists};
 ghost use Rattle.shape.specs.Lent.{at-entry};
-ghost use Rattle.view.specs.Calls.{Answered, Replied};
+ghost use Rattle.view.specs.Calls.{Answered, Totalled, Replied};
 
 #[no_mangle]
 pub extern "C" fn lot_out_degree(
     counts: Counts,
     nodes: &[u32],
-    edges: &[u32],
+    lows: &[u32],
+    highs: &[u32],
     live_nodes: &[u64],
     live_edges: &[u64],
     outgoing: &[u32],
@@ -21,13 +23,14 @@ pub extern "C" fn lot_out_degree(
     node: u32,
 ) -> Answer
     ensures { λ r. ⌜ Answered
-        (at-entry counts nodes edges «live_nodes» «live_edges» outgoing incoming)
+        (at-entry counts nodes lows highs «live_nodes» «live_edges» outgoing incoming)
         (λ w. degree-of Outgoing (lists w) node) r ⌝ }
 {
     view::walks::degree(
         counts,
         nodes,
-        edges,
+        lows,
+        highs,
         live_nodes,
         live_edges,
         outgoing,
@@ -41,7 +44,8 @@ pub extern "C" fn lot_out_degree(
 pub extern "C" fn lot_in_degree(
     counts: Counts,
     nodes: &[u32],
-    edges: &[u32],
+    lows: &[u32],
+    highs: &[u32],
     live_nodes: &[u64],
     live_edges: &[u64],
     outgoing: &[u32],
@@ -49,13 +53,74 @@ pub extern "C" fn lot_in_degree(
     node: u32,
 ) -> Answer
     ensures { λ r. ⌜ Answered
-        (at-entry counts nodes edges «live_nodes» «live_edges» outgoing incoming)
+        (at-entry counts nodes lows highs «live_nodes» «live_edges» outgoing incoming)
         (λ w. degree-of Incoming (lists w) node) r ⌝ }
 {
     view::walks::degree(
         counts,
         nodes,
-        edges,
+        lows,
+        highs,
+        live_nodes,
+        live_edges,
+        outgoing,
+        incoming,
+        TraversalDirection::Incoming,
+        node,
+    )
+}
+
+#[no_mangle]
+pub extern "C" fn lot_out_total(
+    counts: Counts,
+    nodes: &[u32],
+    lows: &[u32],
+    highs: &[u32],
+    live_nodes: &[u64],
+    live_edges: &[u64],
+    outgoing: &[u32],
+    incoming: &[u32],
+    node: u32,
+) -> Total
+    ensures { λ r. ⌜ Totalled
+        (at-entry counts nodes lows highs «live_nodes» «live_edges» outgoing incoming)
+        (λ w. total-of Outgoing (lists w) node) r ⌝ }
+{
+    view::walks::total(
+        counts,
+        nodes,
+        lows,
+        highs,
+        live_nodes,
+        live_edges,
+        outgoing,
+        incoming,
+        TraversalDirection::Outgoing,
+        node,
+    )
+}
+
+#[no_mangle]
+pub extern "C" fn lot_in_total(
+    counts: Counts,
+    nodes: &[u32],
+    lows: &[u32],
+    highs: &[u32],
+    live_nodes: &[u64],
+    live_edges: &[u64],
+    outgoing: &[u32],
+    incoming: &[u32],
+    node: u32,
+) -> Total
+    ensures { λ r. ⌜ Totalled
+        (at-entry counts nodes lows highs «live_nodes» «live_edges» outgoing incoming)
+        (λ w. total-of Incoming (lists w) node) r ⌝ }
+{
+    view::walks::total(
+        counts,
+        nodes,
+        lows,
+        highs,
         live_nodes,
         live_edges,
         outgoing,
@@ -69,7 +134,8 @@ pub extern "C" fn lot_in_degree(
 pub extern "C" fn lot_outgoing(
     counts: Counts,
     nodes: &[u32],
-    edges: &[u32],
+    lows: &[u32],
+    highs: &[u32],
     live_nodes: &[u64],
     live_edges: &[u64],
     outgoing: &[u32],
@@ -78,13 +144,14 @@ pub extern "C" fn lot_outgoing(
     slots: &mut [u32],
 ) -> Answer
     ensures { λ r. ⌜ Replied
-        (at-entry counts nodes edges «live_nodes» «live_edges» outgoing incoming)
+        (at-entry counts nodes lows highs «live_nodes» «live_edges» outgoing incoming)
         (λ w room. walk-of Outgoing (lists w) node room) (now (slots .entry)) r (now (slots .exit)) ⌝ }
 {
     view::walks::walk(
         counts,
         nodes,
-        edges,
+        lows,
+        highs,
         live_nodes,
         live_edges,
         outgoing,
@@ -99,7 +166,8 @@ pub extern "C" fn lot_outgoing(
 pub extern "C" fn lot_incoming(
     counts: Counts,
     nodes: &[u32],
-    edges: &[u32],
+    lows: &[u32],
+    highs: &[u32],
     live_nodes: &[u64],
     live_edges: &[u64],
     outgoing: &[u32],
@@ -108,13 +176,14 @@ pub extern "C" fn lot_incoming(
     slots: &mut [u32],
 ) -> Answer
     ensures { λ r. ⌜ Replied
-        (at-entry counts nodes edges «live_nodes» «live_edges» outgoing incoming)
+        (at-entry counts nodes lows highs «live_nodes» «live_edges» outgoing incoming)
         (λ w room. walk-of Incoming (lists w) node room) (now (slots .entry)) r (now (slots .exit)) ⌝ }
 {
     view::walks::walk(
         counts,
         nodes,
-        edges,
+        lows,
+        highs,
         live_nodes,
         live_edges,
         outgoing,
@@ -129,7 +198,8 @@ pub extern "C" fn lot_incoming(
 pub extern "C" fn lot_successors(
     counts: Counts,
     nodes: &[u32],
-    edges: &[u32],
+    lows: &[u32],
+    highs: &[u32],
     live_nodes: &[u64],
     live_edges: &[u64],
     outgoing: &[u32],
@@ -138,13 +208,14 @@ pub extern "C" fn lot_successors(
     slots: &mut [u32],
 ) -> Answer
     ensures { λ r. ⌜ Replied
-        (at-entry counts nodes edges «live_nodes» «live_edges» outgoing incoming)
+        (at-entry counts nodes lows highs «live_nodes» «live_edges» outgoing incoming)
         (λ w room. neighbors-of Outgoing (lists w) node room) (now (slots .entry)) r (now (slots .exit)) ⌝ }
 {
     view::walks::neighbors(
         counts,
         nodes,
-        edges,
+        lows,
+        highs,
         live_nodes,
         live_edges,
         outgoing,
@@ -159,7 +230,8 @@ pub extern "C" fn lot_successors(
 pub extern "C" fn lot_predecessors(
     counts: Counts,
     nodes: &[u32],
-    edges: &[u32],
+    lows: &[u32],
+    highs: &[u32],
     live_nodes: &[u64],
     live_edges: &[u64],
     outgoing: &[u32],
@@ -168,13 +240,14 @@ pub extern "C" fn lot_predecessors(
     slots: &mut [u32],
 ) -> Answer
     ensures { λ r. ⌜ Replied
-        (at-entry counts nodes edges «live_nodes» «live_edges» outgoing incoming)
+        (at-entry counts nodes lows highs «live_nodes» «live_edges» outgoing incoming)
         (λ w room. neighbors-of Incoming (lists w) node room) (now (slots .entry)) r (now (slots .exit)) ⌝ }
 {
     view::walks::neighbors(
         counts,
         nodes,
-        edges,
+        lows,
+        highs,
         live_nodes,
         live_edges,
         outgoing,
@@ -189,7 +262,8 @@ pub extern "C" fn lot_predecessors(
 pub extern "C" fn lot_find(
     counts: Counts,
     nodes: &[u32],
-    edges: &[u32],
+    lows: &[u32],
+    highs: &[u32],
     live_nodes: &[u64],
     live_edges: &[u64],
     outgoing: &[u32],
@@ -198,13 +272,14 @@ pub extern "C" fn lot_find(
     second: u32,
 ) -> Answer
     ensures { λ r. ⌜ Answered
-        (at-entry counts nodes edges «live_nodes» «live_edges» outgoing incoming)
+        (at-entry counts nodes lows highs «live_nodes» «live_edges» outgoing incoming)
         (λ w. find-of (lists w) first second) r ⌝ }
 {
     view::finding::find(
         counts,
         nodes,
-        edges,
+        lows,
+        highs,
         live_nodes,
         live_edges,
         outgoing,

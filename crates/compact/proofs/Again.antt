@@ -140,7 +140,8 @@ module _ {w : Words} {node-map work : List ℕ} {v : Words} (pre : Droppable w n
   dropped-again =
       let counts : v .counts ≡ w .counts = r .counts ∙ counts-again in
       let nodes : v .nodes ≡ w .nodes = kept-all-live (node-live w) (w .counts .nodes .bound) (node-flags-on k s) (r .nodes) in
-      let edges : v .edges ≡ w .edges = kept-all-live (edge-live w) (w .counts .edges .bound) (edge-flags-on k s) (r .edges) in
+      let lows : v .lows ≡ w .lows = kept-all-live (edge-live w) (w .counts .edges .bound) (edge-flags-on k s) (r .weights .lows-kept) in
+      let highs : v .highs ≡ w .highs = kept-all-live (edge-live w) (w .counts .edges .bound) (edge-flags-on k s) (r .weights .highs-kept) in
       let live-nodes : v .live-nodes ≡ w .live-nodes =
       r .live-nodes .words ∙ ap (λ (n : ℕ). written (all-live n) (w .live-nodes)) (s .nodes .live) ∙ sym (s .nodes .words-set .words) in
       let live-edges : v .live-edges ≡ w .live-edges =
@@ -152,7 +153,8 @@ module _ {w : Words} {node-map work : List ℕ} {v : Words} (pre : Droppable w n
       λ i. record {
         counts = counts i;
         nodes = nodes i;
-        edges = edges i;
+        lows = lows i;
+        highs = highs i;
         live-nodes = live-nodes i;
         live-edges = live-edges i;
         outgoing = outgoing i;

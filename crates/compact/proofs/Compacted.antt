@@ -12,20 +12,20 @@ use Rattle.plain.specs.declared.TraversalDirection.the-variants.{Outgoing, Inco
 use Rattle.plain.specs.declared.Counts.{Counts}
 use Rattle.plain.specs.Numbers.{LIMIT}
 use Rattle.plain.specs.Lists.{joined, from}
-use Rattle.plain.specs.Plain.{no-node, no-edge, node-flags, edge-flags, end-of}
+use Rattle.plain.specs.Plain.{low-of, high-of, no-node, no-edge, node-flags, edge-flags, end-of}
 use Rattle.plain.specs.Reads.{live-count, live-slots}
 use Rattle.plain.specs.Compaction.{Survivors, rank, survivors, surviving-edge, source-of, target-of}
 use Rattle.plain.specs.WellFormed.{Fitted, Sound}
 use Rattle.plain.specs.Laws.ListLaws.{map-same, map-getD, member-below}
 use Rattle.plain.specs.Laws.Rank.{live-below, live-slot-live, length-live-slots, member-live-slots}
 use Rattle.plain.specs.Laws.Compacting.{survivors-sound, length-surviving-nodes, length-surviving-edges}
-use Rattle.plain.specs.Laws.ImageBits.{payload-of}
+use Rattle.plain.specs.Laws.ImageBits.{record-low, record-high}
 use Rattle.liveness.specs.Flags.{live-flags}
 use Rattle.liveness.specs.Calls.{Reset}
 use Rattle.liveness.specs.FlagLaws.{length-flags}
 use Rattle.shape.specs.Columns.{Sized, end-at}
 use Rattle.shape.specs.Shape.{Words, capacities, node-live, edge-live, axis-words, shape-of, plain-of, lists, node-capacity, edge-capacity}
-use Rattle.shape.specs.Kept.{AxisRenewed, Renewed, same-nodes, same-edges, same-live-nodes, same-live-edges, same-axis}
+use Rattle.shape.specs.Kept.{AxisRenewed, Renewed, same-nodes, same-edges, same-highs, same-live-nodes, same-live-edges, same-axis}
 use Rattle.shape.specs.Index.{Rewritten, ends-of}
 use Rattle.shape.specs.Laws.NewBase.{NewBase}
 use Rattle.shape.specs.Laws.Reading.{plain-node-flags, plain-edge-flags, plain-end, node-at, edge-at}
@@ -172,10 +172,15 @@ module _ {w : Words} {node-map work : List ℕ} {v : Words} (pre : Droppable w n
           nodes = kept-payloads (node-live w) (λ x. getD (shape-of w .nodes) x no-node .payload) (length (left .nodes)) (r .nodes) (left-nodes ∙ k .nodes .live .live-right)
               (λ x l. sym (node-at w x (slot-low (w .live-nodes) (w .counts .nodes .bound) x l)))
               ∙ ap (λ (f : List Bool). map (λ x. getD (shape-of w .nodes) x no-node .payload) (live-slots f)) (sym (plain-node-flags w));
-          edges = kept-payloads (edge-live w) (λ e. getD (shape-of w .edges) e no-edge .payload) (length (left .edges)) (r .edges) (left-edges ∙ k .edges .live .live-right)
-              (λ e l. sym (edge-at w e (slot-low (w .live-edges) (w .counts .edges .bound) e l)))
-              ∙ ap (λ (f : List Bool). map (λ e. getD (shape-of w .edges) e no-edge .payload) (live-slots f)) (sym (plain-edge-flags w))
-              ∙ sym (map-map payload-of (surviving-edge (lists w)) (live-slots (edge-flags (lists w))));
+          highs-long = rw (same-edges same, same-highs same) (k .highs-long);
+          lows = kept-payloads (edge-live w) (λ e. getD (shape-of w .edges) e no-edge .payload .low) (length (left .edges)) (r .weights .lows-kept)
+              (left-edges ∙ k .edges .live .live-right) (λ e l. ap low-of (sym (edge-at w e (slot-low (w .live-edges) (w .counts .edges .bound) e l))))
+              ∙ ap (λ (f : List Bool). map (λ e. getD (shape-of w .edges) e no-edge .payload .low) (live-slots f)) (sym (plain-edge-flags w))
+              ∙ sym (map-map record-low (surviving-edge (lists w)) (live-slots (edge-flags (lists w))));
+          highs = kept-payloads (edge-live w) (λ e. getD (shape-of w .edges) e no-edge .payload .high) (length (left .edges)) (r .weights .highs-kept)
+              (left-edges ∙ k .edges .live .live-right) (λ e l. ap high-of (sym (edge-at w e (slot-low (w .live-edges) (w .counts .edges .bound) e l))))
+              ∙ ap (λ (f : List Bool). map (λ e. getD (shape-of w .edges) e no-edge .payload .high) (live-slots f)) (sym (plain-edge-flags w))
+              ∙ sym (map-map record-high (surviving-edge (lists w)) (live-slots (edge-flags (lists w))));
           live-nodes = subst (λ (n : ℕ). Reset (v .live-nodes) n (v .live-nodes)) (sym left-nodes) (reset-same (r .live-nodes));
           live-edges = subst (λ (n : ℕ). Reset (v .live-edges) n (v .live-edges)) (sym left-edges) (reset-same (r .live-edges));
           outgoing = subst₂ (λ (ce cn : ℕ). NewBase (v .outgoing) ce cn (v .counts) (map source-of (left .edges)) (left .outs)) (sym (same-edges same)) (sym (same-nodes same)) out-base;
@@ -200,9 +205,10 @@ module _ {w : Words} {node-map work : List ℕ} {v : Words} (pre : Droppable w n
       live = λ i h. reset-word (r .live-nodes) i (omega (arith, nodes-bound));
     };
     edges = record {
-      payloads = λ i h. r .edges .above i (omega (arith, edges-bound, pre .checked .edges .live .live-right));
+      payloads = λ i h. r .weights .lows-kept .above i (omega (arith, edges-bound, pre .checked .edges .live .live-right));
       live = λ i h. reset-word (r .live-edges) i (omega (arith, edges-bound));
     };
+    highs = λ i h. r .weights .highs-kept .above i (omega (arith, edges-bound, pre .checked .edges .live .live-right));
     axis = λ d. subst₂ (λ (n m : ℕ). AxisRenewed (axis-words d w) (axis-words d v) (edge-capacity w) (node-capacity w) n m) (sym nodes-bound) (sym edges-bound)
         (axis-left d);
   }

@@ -19,7 +19,7 @@ use Rattle.shape.specs.Checked.{Checked}
 use Rattle.shape.specs.Kept.{SameLengths}
 use Rattle.shape.specs.Index.{Rewritten}
 use Rattle.relocate.specs.Stores.{checked-end}
-use Rattle.compact.specs.Slots.{kept-word, Keepable}
+use Rattle.compact.specs.Slots.{kept-word, Keepable, WeightsKeepable, WeightsKept}
 use Rattle.compact.specs.Holding.{based}
 use Rattle.compact.specs.Bases.{Compactable, AxisCompacted}
 
@@ -34,7 +34,7 @@ pub record Dropped (w : Words) (node-map work : List ℕ) (v : Words) : Type 0 w
   pub lengths : SameLengths w v
   pub counts : v .counts ≡ record { nodes = based (w .counts .nodes .live); edges = based (w .counts .edges .live) }
   pub nodes : Rewritten (w .nodes) (v .nodes) 0 (live-count (node-live w)) (kept-word (w .nodes) (node-live w))
-  pub edges : Rewritten (w .edges) (v .edges) 0 (live-count (edge-live w)) (kept-word (w .edges) (edge-live w))
+  pub weights : WeightsKept (w .lows) (w .highs) (edge-live w) (v .lows) (v .highs)
   pub live-nodes : Reset (w .live-nodes) (w .counts .nodes .live) (v .live-nodes)
   pub live-edges : Reset (w .live-edges) (w .counts .edges .live) (v .live-edges)
   pub outgoing : AxisCompacted (w .outgoing) (edge-capacity w) (node-capacity w) (w .live-edges) (w .counts .edges .bound) node-map (w .counts .nodes .live)
@@ -107,8 +107,13 @@ module _ {w : Words} {node-map work : List ℕ} (pre : Droppable w node-map work
   pub nodes-keepable : Keepable (w .nodes) (w .live-nodes) (w .counts .nodes .bound)
   nodes-keepable = record { there = nodes-there; room = pre .checked .nodes .bounded .bound-within }
 
-  pub edges-keepable : Keepable (w .edges) (w .live-edges) (w .counts .edges .bound)
-  edges-keepable = record { there = edges-there; room = pre .checked .edges .bounded .bound-within }
+  pub weights-keepable : WeightsKeepable (w .lows) (w .highs) (w .live-edges) (w .counts .edges .bound)
+  weights-keepable =
+      let k = pre .checked in
+      record {
+        lows-keepable = record { there = edges-there; room = k .edges .bounded .bound-within };
+        highs-keepable = record { there = edges-there; room = omega (arith, k .highs-long, k .edges .bounded .bound-within) };
+      }
 
   pub nodes-resettable : w .counts .nodes .live ≤ 64 * length (w .live-nodes)
   nodes-resettable = omega (arith, node-count, nodes-there)

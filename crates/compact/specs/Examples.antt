@@ -18,7 +18,7 @@ use Rattle.plain.specs.Calls.{compaction}
 use Rattle.liveness.specs.Flags.{bit, live-bit, live-flags, packed}
 use Rattle.shape.specs.Chains.{chain, until, ring}
 use Rattle.shape.specs.Shape.{Words, store, axis-words, base-of, run-list, run-of, ring-of, axis-of, shape-of, plain-of, lists}
-use Rattle.shape.specs.Rules.{rule-1, rule-2, rule-3, rule-4, rule-5, rule-6, rule-7, index-right, ring-right, last-of, runs-right, walks-right, broken}
+use Rattle.shape.specs.Rules.{rule-1, rule-2, rule-3, rule-4, rule-5, rule-6, rule-7, index-right, ring-right, last-of, runs-right, walks-right, weights-right, broken}
 use Rattle.compact.specs.Lists.{live-walks}
 use Rattle.compact.specs.Calls.{compacting-of}
 
@@ -31,7 +31,7 @@ abbrev ring-axis : List ℕ
 ring-axis = 0 ∷ 0 ∷ 9 ∷ 9 ∷ 1 ∷ 0 ∷ 9 ∷ 9 ∷ 0 ∷ 9 ∷ 9 ∷ 9 ∷ 0 ∷ 9 ∷ 9 ∷ []
 
 abbrev smallest : Words
-smallest = store (record { nodes = slots 1 0 1; edges = slots 2 0 2 }) (7 ∷ []) (5 ∷ 6 ∷ []) (1 ∷ []) (3 ∷ []) ring-axis ring-axis
+smallest = store (record { nodes = slots 1 0 1; edges = slots 2 0 2 }) (7 ∷ []) (5 ∷ 6 ∷ []) (5 ∷ 8 ∷ []) (1 ∷ []) (3 ∷ []) ring-axis ring-axis
 
 -- One node and four edges to itself: outgoing the base part 1, 0, incoming the run 1, 0 before a hidden base, and the ring 3, 2 in both. The columns, at 0 ends,
 -- 4 adjacency, 8 next, 12 link, 16 last, 17 first, 18 tail, 19 count, 20 mark, 21 offsets.
@@ -43,11 +43,11 @@ run-axis = 0 ∷ 0 ∷ 0 ∷ 0 ∷ 0 ∷ 1 ∷ 9 ∷ 9 ∷ 9 ∷ 9 ∷ 3 ∷ 2 �
 
 abbrev behind-a-part : Words
 behind-a-part =
-    store (record { nodes = slots 1 1 1; edges = slots 4 2 4 }) (7 ∷ []) (5 ∷ 6 ∷ 7 ∷ 8 ∷ []) (1 ∷ []) (15 ∷ []) base-axis run-axis
+    store (record { nodes = slots 1 1 1; edges = slots 4 2 4 }) (7 ∷ []) (5 ∷ 6 ∷ 7 ∷ 8 ∷ []) (5 ∷ 6 ∷ 7 ∷ 8 ∷ []) (1 ∷ []) (15 ∷ []) base-axis run-axis
 
 -- the walks that the program writes for compaction
 abbrev walks : TraversalDirection → Words → List ℕ
-walks d w = live-walks (axis-words d w) (length (w .edges)) (length (w .nodes)) (w .counts) (w .live-nodes) (w .live-edges)
+walks d w = live-walks (axis-words d w) (length (w .lows)) (length (w .nodes)) (w .counts) (w .live-nodes) (w .live-edges)
 
 pub record Examples : Type 0 where
   -- the ring 1, 0 is compacted as 1, 0
@@ -55,7 +55,7 @@ pub record Examples : Type 0 where
   pub smallest-walks : walks Outgoing smallest ≡ 1 ∷ 0 ∷ []
   pub smallest-compacted : compacting-of smallest 1 2 4 .work ≡ 1 ∷ 0 ∷ 1 ∷ 0 ∷ []
   pub smallest-after : list-of Incoming (compacting-of smallest 1 2 4 .after .lists) 0 ≡ 1 ∷ 0 ∷ []
-  pub smallest-image : image (survivors (lists smallest)) ≡ 0 ∷ 1 ∷ 0 ∷ 2 ∷ 0 ∷ 0 ∷ 0 ∷ 7 ∷ 0 ∷ 0 ∷ 0 ∷ 5 ∷ 0 ∷ 0 ∷ 0 ∷ 6 ∷ 160 ∷ []
+  pub smallest-image : image (survivors (lists smallest)) ≡ 0 ∷ 1 ∷ 0 ∷ 2 ∷ 0 ∷ 0 ∷ 0 ∷ 7 ∷ 0 ∷ 0 ∷ 0 ∷ 5 ∷ 0 ∷ 0 ∷ 0 ∷ 5 ∷ 0 ∷ 0 ∷ 0 ∷ 6 ∷ 0 ∷ 0 ∷ 0 ∷ 8 ∷ 160 ∷ []
   -- and so is a ring behind a base part or a run that do not ascend either
   pub behind-passes : broken behind-a-part ≡ 0
   pub behind-a-base : walks Outgoing behind-a-part ≡ 1 ∷ 0 ∷ 3 ∷ 2 ∷ []
@@ -63,7 +63,7 @@ pub record Examples : Type 0 where
   pub behind-compacted : compacting-of behind-a-part 1 4 8 .work ≡ 1 ∷ 0 ∷ 3 ∷ 2 ∷ 1 ∷ 0 ∷ 3 ∷ 2 ∷ []
 
 examples : Examples
-unfolding broken rule-1 rule-2 rule-3 rule-4 rule-5 rule-6 rule-7 index-right ring-right last-of runs-right walks-right base-of run-list run-of ring-of axis-of shape-of plain-of chain until ring member distinct from keep all count joined bit live-bit live-flags packed live-from rank survivors adjacency of-survivors compacted bits-of value-of row bytes-of pack least-from least-width edge-bits image-bits image first-short compaction live-walks
+unfolding broken rule-1 rule-2 rule-3 weights-right rule-4 rule-5 rule-6 rule-7 index-right ring-right last-of runs-right walks-right base-of run-list run-of ring-of axis-of shape-of plain-of chain until ring member distinct from keep all count joined bit live-bit live-flags packed live-from rank survivors adjacency of-survivors compacted bits-of value-of row bytes-of pack least-from least-width edge-bits image-bits image first-short compaction live-walks
 examples = record {
   smallest-passes = refl;
   smallest-walks = refl;

@@ -21,23 +21,24 @@ use borrow.Author.Tests.{lt-ltb, ltb-true, eqb-false}
 use Rattle.plain.specs.declared.TraversalDirection.{TraversalDirection}
 use Rattle.plain.specs.declared.TraversalDirection.the-variants.{Outgoing, Incoming}
 use Rattle.plain.specs.declared.Slots.{Slots}
+use Rattle.plain.specs.declared.EdgePayload.{EdgePayload}
 use Rattle.plain.specs.declared.Counts.{Counts}
 use Rattle.plain.specs.Lists.{joined, from}
 use Rattle.plain.specs.Plain.{Plain, NodeSlot, EdgeSlot, list-of}
 use Rattle.plain.specs.Reads.{live-count}
 use Rattle.plain.specs.Memory.{live-words}
-use Rattle.plain.specs.Compaction.{Survivors, kept-node, kept-edge, source-of, target-of, of-survivors}
+use Rattle.plain.specs.Compaction.{EdgeRecord, Survivors, kept-node, kept-edge, source-of, target-of, payload-of, of-survivors}
 use Rattle.plain.specs.WellFormed.{Sound, WellFormed}
 use Rattle.plain.specs.Laws.Booleans.{by-test}
 use Rattle.plain.specs.Laws.ListLaws.{map-same, map-getD, member-below}
 use Rattle.plain.specs.Laws.Rank.{live-all-live, live-count-all-live}
 use Rattle.plain.specs.Laws.Fitting.{fitted-many}
 use Rattle.plain.specs.Laws.Compacting.{of-survivors-well-formed}
-use Rattle.plain.specs.Laws.ImageBits.{payload-of}
+use Rattle.plain.specs.Laws.ImageBits.{record-low, record-high}
 use Rattle.liveness.specs.Flags.{live-flags}
 use Rattle.liveness.specs.Calls.{Reset, all-live}
 use Rattle.shape.specs.Columns.{Sized, cell}
-use Rattle.shape.specs.Shape.{Words, capacities, node-live, edge-live, axis-words, shape-of, plain-of, lists, node-capacity, edge-capacity}
+use Rattle.shape.specs.Shape.{Words, capacities, node-live, edge-live, edge-payload-at, axis-words, shape-of, plain-of, lists, node-capacity, edge-capacity}
 use Rattle.shape.specs.Checked.{AxisChecked, Checked, SlotsChecked}
 use Rattle.shape.specs.Kept.{SameLengths, Renewed}
 use Rattle.shape.specs.Fields.{RenewalLeaves}
@@ -64,11 +65,13 @@ pub record Holding (v : Words) (s : Survivors) : Type 0 where
   pub counts : v .counts ≡ record { nodes = based (length (s .nodes)); edges = based (length (s .edges)) }
   pub nodes-fit : length (s .nodes) ≤ node-capacity v
   pub edges-fit : length (s .edges) ≤ edge-capacity v
+  pub highs-long : edge-capacity v ≤ length (v .highs)
   pub live-nodes-long : live-words (node-capacity v) ≤ length (v .live-nodes)
   pub live-edges-long : live-words (edge-capacity v) ≤ length (v .live-edges)
   pub sized : (d : TraversalDirection) → Sized (axis-words d v) (edge-capacity v) (node-capacity v)
   pub nodes : front (v .nodes) (length (s .nodes)) ≡ s .nodes
-  pub edges : front (v .edges) (length (s .edges)) ≡ map payload-of (s .edges)
+  pub lows : front (v .lows) (length (s .edges)) ≡ map record-low (s .edges)
+  pub highs : front (v .highs) (length (s .edges)) ≡ map record-high (s .edges)
   pub live-nodes : Reset (v .live-nodes) (length (s .nodes)) (v .live-nodes)
   pub live-edges : Reset (v .live-edges) (length (s .edges)) (v .live-edges)
   pub outgoing : NewBase (v .outgoing) (edge-capacity v) (node-capacity v) (v .counts) (map source-of (s .edges)) (s .outs)
@@ -113,17 +116,34 @@ sized-as same sized = record { edges-within = sized .edges-within; nodes-within 
 abbrev node-slot : ℕ → Bool → NodeSlot
 node-slot payload live = record { payload = payload; live = live }
 
-abbrev edge-slot : ℕ → Bool → EdgeSlot
+abbrev edge-slot : EdgePayload → Bool → EdgeSlot
 edge-slot payload live = record { payload = payload; live = live }
 
+-- an edge's payload, from the functions that give its weights
+abbrev weights : (ℕ → ℕ) → (ℕ → ℕ) → ℕ → EdgePayload
+weights low high e = record { low = low e; high = high e }
+
 -- slots that are all live, from their payloads
-slots-held : {A : Type 0} (make : ℕ → Bool → A) (words : List ℕ) (flags : List Bool) (n : ℕ) → flags ≡ replicate n true
-    → map (λ x. make (getD words x 0) (getD flags x false)) (from 0 n) ≡ map (λ p. make p true) (front words n)
-slots-held {A} make words flags n on =
-    map-same (λ x. make (getD words x 0) (getD flags x false)) (λ x. make (getD words x 0) true) (from 0 n)
-    (λ x m. ap (make (getD words x 0))
+slots-held : {P A : Type 0} (make : P → Bool → A) (payload : ℕ → P) (flags : List Bool) (n : ℕ) → flags ≡ replicate n true
+    → map (λ x. make (payload x) (getD flags x false)) (from 0 n) ≡ map (λ p. make p true) (map payload (from 0 n))
+slots-held make payload flags n on =
+    map-same (λ x. make (payload x) (getD flags x false)) (λ x. make (payload x) true) (from 0 n)
+    (λ x m. ap (make (payload x))
     (ap (λ (f : List Bool). getD f x false) on ∙ live-all-live n x ∙ lt-ltb x n (ltb-true x n (sym (member-below x n) ∙ m))))
-    ∙ sym (map-map (λ p. make p true) (λ x. getD words x 0) (from 0 n))
+    ∙ sym (map-map (λ p. make p true) payload (from 0 n))
+
+-- lows and highs of edges, slot by slot, are their payloads
+payloads-held : (low high : ℕ → ℕ) (slots : List ℕ) (edges : List EdgeRecord) → map low slots ≡ map record-low edges → map high slots ≡ map record-high edges
+    → map (weights low high) slots ≡ map payload-of edges
+payloads-held low high [] [] p q = refl
+payloads-held low high [] (x ∷ edges) p q = absurd (omega (arith, ap length p))
+payloads-held low high (e ∷ slots) [] p q = absurd (omega (arith, ap length p))
+payloads-held low high (e ∷ slots) (x ∷ edges) p q =
+    let a : low e ≡ x .payload .low = cc in
+    let b : high e ≡ x .payload .high = cc in
+    let ps : map low slots ≡ map record-low edges = cc in
+    let qs : map high slots ≡ map record-high edges = cc in
+    ap₂ {C = List EdgePayload} (λ (y : EdgePayload) (l : List EdgePayload). y ∷ l) (λ i. record { low = a i; high = b i }) (payloads-held low high slots edges ps qs)
 
 -- slots that are all live and all in the base pass the check
 slots-checked : {c : ℕ} {words : List ℕ} {slots : Slots} (n : ℕ) → slots ≡ based n → n ≤ c → live-words c ≤ length words → Reset words n words → SlotsChecked c words slots
@@ -181,16 +201,18 @@ module _ {v : Words} {s : Survivors} (h : Holding v s) where
   unfolding shape-of
   nodes-held =
       ap (λ (n : ℕ). map (λ x. node-slot (getD (v .nodes) x 0) (getD (node-live v) x false)) (from 0 n)) nodes-bound
-      ∙ slots-held node-slot (v .nodes) (node-live v) (length (s .nodes)) (ap (live-flags (v .live-nodes)) nodes-bound ∙ h .live-nodes .flags)
+      ∙ slots-held node-slot (λ x. getD (v .nodes) x 0) (node-live v) (length (s .nodes)) (ap (live-flags (v .live-nodes)) nodes-bound ∙ h .live-nodes .flags)
       ∙ ap (map kept-node) (h .nodes)
 
   -- the edge slots
   edges-held : shape-of v .edges ≡ map kept-edge (s .edges)
   unfolding shape-of
   edges-held =
-      ap (λ (n : ℕ). map (λ x. edge-slot (getD (v .edges) x 0) (getD (edge-live v) x false)) (from 0 n)) edges-bound
-      ∙ slots-held edge-slot (v .edges) (edge-live v) (length (s .edges)) (ap (live-flags (v .live-edges)) edges-bound ∙ h .live-edges .flags)
-      ∙ ap (map (λ p. edge-slot p true)) (h .edges) ∙ map-map (λ p. edge-slot p true) payload-of (s .edges)
+      ap (λ (n : ℕ). map (λ e. edge-slot (edge-payload-at v e) (getD (edge-live v) e false)) (from 0 n)) edges-bound
+      ∙ slots-held edge-slot (edge-payload-at v) (edge-live v) (length (s .edges)) (ap (live-flags (v .live-edges)) edges-bound ∙ h .live-edges .flags)
+      ∙ ap (map (λ p. edge-slot p true))
+      (payloads-held (λ e. getD (v .lows) e 0) (λ e. getD (v .highs) e 0) (from 0 (length (s .edges))) (s .edges) (h .lows) (h .highs))
+      ∙ map-map (λ p. edge-slot p true) payload-of (s .edges)
 
   -- the shape is that of the survivors
   pub holding-shape : shape-of v ≡ shape-of-survivors s
@@ -213,6 +235,7 @@ module _ {v : Words} {s : Survivors} (h : Holding v s) where
   holding-checked = record {
     nodes = slots-checked (length (s .nodes)) node-slots (h .nodes-fit) (h .live-nodes-long) (h .live-nodes);
     edges = slots-checked (length (s .edges)) edge-slots (h .edges-fit) (h .live-edges-long) (h .live-edges);
+    highs-long = h .highs-long;
     axis = axis-held;
     walks = subst (WellFormed (capacities v)) (sym plain-held) (of-survivors-well-formed (capacities v) s (h .sound) (h .nodes-fit) (h .edges-fit));
   }

@@ -34,6 +34,11 @@ pub record Keepable (words live : List ℕ) (bound : ℕ) : Type 0 where
   pub there : bound ≤ 64 * length live
   pub room : bound ≤ length words
 
+-- So have the edges' slots, of both weights.
+pub record WeightsKeepable (lows highs live : List ℕ) (bound : ℕ) : Type 0 where
+  pub lows-keepable : Keepable lows live bound
+  pub highs-keepable : Keepable highs live bound
+
 -- The first words are entries of the map.
 pub record Translatable (words : List ℕ) (count : ℕ) (entries : List ℕ) : Type 0 where
   pub room : count ≤ length words
@@ -44,6 +49,11 @@ pub record Translatable (words : List ℕ) (count : ℕ) (entries : List ℕ) : 
 -- the word of live slot number i
 abbrev pub kept-word : List ℕ → List Bool → ℕ → ℕ
 kept-word words flags i = getD words (getD (live-slots flags) i 0) 0
+
+-- Both weights of the live edges have moved down.
+pub record WeightsKept (lows highs : List ℕ) (flags : List Bool) (lows' highs' : List ℕ) : Type 0 where
+  pub lows-kept : Rewritten lows lows' 0 (live-count flags) (kept-word lows flags)
+  pub highs-kept : Rewritten highs highs' 0 (live-count flags) (kept-word highs flags)
 
 -- what the map holds at word i
 abbrev pub translated-word : List ℕ → List ℕ → ℕ → ℕ

@@ -35,7 +35,8 @@ pub fn all_based(count: u32) -> Slots
 fn write_work(
     counts: Counts,
     nodes: &[u32],
-    edges: &[u32],
+    lows: &[u32],
+    highs: &[u32],
     live_nodes: &[u64],
     live_edges: &[u64],
     outgoing: &[u32],
@@ -43,16 +44,16 @@ fn write_work(
     edge_map: &[u32],
     work: &mut [u32],
 )
-    requires { ⌜ Workable (lent counts nodes edges «live_nodes» «live_edges» outgoing incoming) (now «edge_map») (now work) ⌝ }
+    requires { ⌜ Workable (lent counts nodes lows highs «live_nodes» «live_edges» outgoing incoming) (now «edge_map») (now work) ⌝ }
     ensures { λ _. ⌜ now (work .exit) ≡ written (adjacency (survivors (lists
-        (at-entry counts nodes edges «live_nodes» «live_edges» outgoing incoming))))
+        (at-entry counts nodes lows highs «live_nodes» «live_edges» outgoing incoming))))
         (now (work .entry)) ⌝ }
 {
     let edge_slots = counts.edges;
     let m = edge_slots.live as usize;
     lists::write_lists(
         outgoing,
-        edges.len(),
+        lows.len(),
         nodes.len(),
         counts,
         live_nodes,
@@ -61,7 +62,7 @@ fn write_work(
     );
     lists::write_lists(
         incoming,
-        edges.len(),
+        lows.len(),
         nodes.len(),
         counts,
         live_nodes,
@@ -76,7 +77,8 @@ fn write_work(
 fn drop_dead(
     counts: Counts,
     nodes: &mut [u32],
-    edges: &mut [u32],
+    lows: &mut [u32],
+    highs: &mut [u32],
     live_nodes: &mut [u64],
     live_edges: &mut [u64],
     outgoing: &mut [u32],
@@ -84,11 +86,11 @@ fn drop_dead(
     node_map: &[u32],
     work: &[u32],
 ) -> Counts
-    requires { ⌜ Droppable (lent counts nodes edges «live_nodes» «live_edges» outgoing incoming) (now «node_map») (now work) ⌝ }
+    requires { ⌜ Droppable (lent counts nodes lows highs «live_nodes» «live_edges» outgoing incoming) (now «node_map») (now work) ⌝ }
     ensures { λ r. ⌜ Dropped
-        (at-entry counts nodes edges «live_nodes» «live_edges» outgoing incoming)
+        (at-entry counts nodes lows highs «live_nodes» «live_edges» outgoing incoming)
         (now («node_map» .entry)) (now (work .entry))
-        (at-exit r nodes edges «live_nodes» «live_edges» outgoing incoming) ⌝ }
+        (at-exit r nodes lows highs «live_nodes» «live_edges» outgoing incoming) ⌝ }
 {
     let node_slots = counts.nodes;
     let edge_slots = counts.edges;
@@ -97,7 +99,7 @@ fn drop_dead(
     let bound = edge_slots.bound as usize;
     base::compact_axis(
         outgoing,
-        edges.len(),
+        lows.len(),
         nodes.len(),
         live_edges,
         bound,
@@ -108,7 +110,7 @@ fn drop_dead(
     );
     base::compact_axis(
         incoming,
-        edges.len(),
+        lows.len(),
         nodes.len(),
         live_edges,
         bound,
@@ -118,7 +120,7 @@ fn drop_dead(
         &work[m..],
     );
     slots::keep_live(nodes, live_nodes, node_slots.bound as usize);
-    slots::keep_live(edges, live_edges, bound);
+    slots::keep_weights(lows, highs, live_edges, bound);
     liveness::reset_all_live(live_nodes, n);
     liveness::reset_all_live(live_edges, m);
     Counts {
@@ -131,7 +133,8 @@ fn drop_dead(
 fn settle(
     counts: Counts,
     nodes: &mut [u32],
-    edges: &mut [u32],
+    lows: &mut [u32],
+    highs: &mut [u32],
     live_nodes: &mut [u64],
     live_edges: &mut [u64],
     outgoing: &mut [u32],
@@ -140,11 +143,11 @@ fn settle(
     edge_map: &mut [u32],
     work: &mut [u32],
 ) -> Counts
-    requires { ⌜ Settleable (lent counts nodes edges «live_nodes» «live_edges» outgoing incoming) (now «node_map») (now «edge_map») (now work) ⌝ }
+    requires { ⌜ Settleable (lent counts nodes lows highs «live_nodes» «live_edges» outgoing incoming) (now «node_map») (now «edge_map») (now work) ⌝ }
     ensures { λ r. ⌜ Settling
-        (at-entry counts nodes edges «live_nodes» «live_edges» outgoing incoming)
+        (at-entry counts nodes lows highs «live_nodes» «live_edges» outgoing incoming)
         (now («node_map» .entry)) (now («edge_map» .entry)) (now (work .entry))
-        (at-exit r nodes edges «live_nodes» «live_edges» outgoing incoming)
+        (at-exit r nodes lows highs «live_nodes» «live_edges» outgoing incoming)
         (now («node_map» .exit)) (now («edge_map» .exit)) (now (work .exit)) ⌝ }
 {
     let node_slots = counts.nodes;
@@ -154,7 +157,8 @@ fn settle(
     write_work(
         counts,
         nodes,
-        edges,
+        lows,
+        highs,
         live_nodes,
         live_edges,
         outgoing,
@@ -165,7 +169,8 @@ fn settle(
     drop_dead(
         counts,
         nodes,
-        edges,
+        lows,
+        highs,
         live_nodes,
         live_edges,
         outgoing,
@@ -179,7 +184,8 @@ fn settle(
 pub fn compact(
     counts: Counts,
     nodes: &mut [u32],
-    edges: &mut [u32],
+    lows: &mut [u32],
+    highs: &mut [u32],
     live_nodes: &mut [u64],
     live_edges: &mut [u64],
     outgoing: &mut [u32],
@@ -189,15 +195,16 @@ pub fn compact(
     work: &mut [u32],
 ) -> Changed
     ensures { λ r. ⌜ CompactOf
-        (at-entry counts nodes edges «live_nodes» «live_edges» outgoing incoming)
+        (at-entry counts nodes lows highs «live_nodes» «live_edges» outgoing incoming)
         (now («node_map» .entry)) (now («edge_map» .entry)) (now (work .entry)) (r .number) (r .value)
-        (at-exit (r .counts) nodes edges «live_nodes» «live_edges» outgoing incoming)
+        (at-exit (r .counts) nodes lows highs «live_nodes» «live_edges» outgoing incoming)
         (now («node_map» .exit)) (now («edge_map» .exit)) (now (work .exit)) ⌝ }
 {
     let rule = validate::judging::judge(
         counts,
         nodes,
-        edges,
+        lows,
+        highs,
         live_nodes,
         live_edges,
         outgoing,
@@ -237,7 +244,8 @@ pub fn compact(
     let after = settle(
         counts,
         nodes,
-        edges,
+        lows,
+        highs,
         live_nodes,
         live_edges,
         outgoing,

@@ -9,7 +9,7 @@ ghost use Rattle.plain.specs.Reads.{live-count};
 ghost use Rattle.plain.specs.Compaction.{renumbering};
 ghost use Rattle.liveness.specs.Flags.{live-flags};
 ghost use Rattle.shape.specs.Index.{Rewritten};
-ghost use Rattle.compact.specs.Slots.{MapFits, Keepable, kept-word, Translatable, translated-word};
+ghost use Rattle.compact.specs.Slots.{MapFits, Keepable, kept-word, WeightsKeepable, WeightsKept, Translatable, translated-word};
 
 // Writes the new number of every live slot, and NONE for the dead ones, to the start of `map`.
 pub fn write_map(live: &[u64], bound: usize, map: &mut [u32])
@@ -46,6 +46,15 @@ pub fn keep_live(words: &mut [u32], live: &[u64], bound: usize)
             to += 1;
         }
     }
+}
+
+// Moves the lows and the highs of the live edges down.
+pub fn keep_weights(lows: &mut [u32], highs: &mut [u32], live: &[u64], bound: usize)
+    requires { ⌜ WeightsKeepable (now lows) (now highs) (now live) bound ⌝ }
+    ensures { λ _. ⌜ WeightsKept (now (lows .entry)) (now (highs .entry)) (live-flags (now (live .entry)) bound) (now (lows .exit)) (now (highs .exit)) ⌝ }
+{
+    keep_live(lows, live, bound);
+    keep_live(highs, live, bound);
 }
 
 // Puts the first words through a map: each becomes what the map holds at it.

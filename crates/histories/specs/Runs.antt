@@ -21,7 +21,7 @@ pub data Request : Type 0 where
   StripInto : List ℕ → List ℕ → Request
   -- the node map, the edge map and the work slice
   CompactionInto : List ℕ → List ℕ → List ℕ → Request
-  -- an image's bytes, read into the store's own six slices
+  -- an image's bytes, read into the store's own seven slices
   ReadingOf : List ℕ → Request
 
 -- the call of a history: "the calls' arguments, lengths included"

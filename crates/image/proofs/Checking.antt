@@ -1,29 +1,29 @@
 -- The rules of an image by the tests of src/check.rt: what the counts and the length say, where the parts stand in the bytes, and that the passes over them
 -- answer rules 4 to 6.
 use Prim.Native.Nat.{ℕ, _+_, _-_, _*_, _^_, _≤_, _<_}
-use mathlib.Core.Path.{_≡_, refl, sym, ap, ap₂, _∙_}
+use mathlib.Core.Path.{_≡_, refl, sym, ap, ap₂, subst, _∙_}
 use mathlib.Core.Bool.{Bool, true, false, cond, _&&_}
 use mathlib.Core.Logic.{inl, inr}
 use mathlib.Core.List.{List, [], _∷_, map}
 use native.Mathlib.Omega.{arith}
 use native.Mathlib.Nat.{mul-le-mul, mul-le-mul-left}
 use lib.ListN.{length, getD}
-use lib.Dec.{eqb, ltb}
-use borrow.Author.Tests.{ltb-true, ltb-false, lt-ltb, eqb-true, eqb-false}
+use lib.Dec.{eqb, leb, ltb}
+use borrow.Author.Tests.{leb-true, leb-false, ltb-true, ltb-false, lt-ltb, eqb-true, eqb-false}
 use Rattle.plain.specs.Numbers.{LIMIT}
 use Rattle.plain.specs.Lists.{member, distinct, all, from}
 use Rattle.plain.specs.Compaction.{source-of, target-of}
 use Rattle.plain.specs.Bits.{field-at, fields-at, bytes-for, least-width}
-use Rattle.plain.specs.Image.{nodes-in, edges-in, edges-start, outs-start, image-size, record-width, cut, list-lengths, parsed, lists-right, broken-image}
+use Rattle.plain.specs.Image.{weight-width, nodes-in, edges-in, edges-start, outs-start, image-size, record-width, cut, list-lengths, parsed, lists-right, broken-image}
 use Rattle.plain.specs.Laws.Booleans.{by-test, true-false}
 use Rattle.plain.specs.Laws.ListLaws.{all-member, map-same, member-first, member-later, member-below}
 use Rattle.plain.specs.Laws.Below.{Below, below-of}
 use Rattle.plain.specs.Laws.Bits.{length-fields-at}
 use Rattle.plain.specs.Laws.Width.{width-most}
 use Rattle.plain.specs.Laws.Ascending.{ascending, right-by-order}
-use Rattle.plain.specs.Laws.Refusals.{Counted, Sized, Padded, Ended, sources-in, targets-in, size-in, padding-in, length-edges-in, refused-3, refused-4, refused-5, refused-6, accepted}
-use Rattle.image.specs.Spread.{spread-at, sources-spread, targets-spread}
-use Rattle.image.specs.Checks.{end-in, ends-within, ordered, Few, Filled, Ends, Entries, Whole}
+use Rattle.plain.specs.Laws.Refusals.{Counted, Sized, Padded, Ended, sources-in, targets-in, lows-in, highs-in, size-in, padding-in, length-edges-in, refused-3, refused-4, refused-5, refused-6, accepted}
+use Rattle.image.specs.Spread.{spread-at, sources-spread, targets-spread, lows-spread, highs-spread}
+use Rattle.image.specs.Checks.{field-in, end-in, ends-within, weights-ordered, ordered, Few, Filled, Column, Ends, Weights, Entries, Whole}
 
 -- ---- sizes
 
@@ -40,8 +40,8 @@ small n m f =
     record { nodes = a; edges = b; size = omega arith }
 
 -- the records of fewer edges
-pub ends-fewer : {bytes : List ℕ} {at w m : ℕ} (e : ℕ) → Ends bytes at w m → e < m → Ends bytes at w (e + 1)
-ends-fewer {bytes} {at} {w} {m} e t h =
+pub column-fewer : {bytes : List ℕ} {at w width m : ℕ} (e : ℕ) → Column bytes at w width m → e < m → Column bytes at w width (e + 1)
+column-fewer {bytes} {at} {w} {width} {m} e t h =
     let fewer : record-width w * (e + 1) ≤ record-width w * m = mul-le-mul-left (record-width w) (omega arith) in
     record { narrow = t .narrow; within = omega arith; small = t .small }
 
@@ -70,6 +70,10 @@ record Direction (bytes : List ℕ) (at : ℕ) (ends : List ℕ) : Type 0 where
   long : length ends ≡ edges-in bytes
   read : (e : ℕ) → e < edges-in bytes → getD ends e 0 ≡ end-in bytes at (least-width (nodes-in bytes)) e
 
+-- where the weights begin
+abbrev weights-start : List ℕ → ℕ
+weights-start bytes = edges-start (nodes-in bytes) + (least-width (nodes-in bytes) + least-width (nodes-in bytes))
+
 module _ (bytes : List ℕ) where
   sources : Direction bytes (edges-start (nodes-in bytes)) (sources-in bytes)
   unfolding parsed
@@ -88,6 +92,21 @@ module _ (bytes : List ℕ) where
         long = length-edges-in bytes target-of;
         read = spread-at (end-in bytes (edges-start n + least-width n) (least-width n)) (edges-in bytes) (targets-spread bytes (least-width n) (edges-start n) (edges-in bytes));
       }
+
+  -- the weights
+  lows-read : (e : ℕ) → e < edges-in bytes → getD (lows-in bytes) e 0 ≡ field-in bytes (weights-start bytes) (least-width (nodes-in bytes)) weight-width e
+  unfolding parsed
+  lows-read =
+      let n : ℕ = nodes-in bytes in
+      spread-at (field-in bytes (edges-start n + (least-width n + least-width n)) (least-width n) weight-width) (edges-in bytes)
+      (lows-spread bytes (least-width n) (edges-start n) (edges-in bytes))
+
+  highs-read : (e : ℕ) → e < edges-in bytes → getD (highs-in bytes) e 0 ≡ field-in bytes (weights-start bytes + weight-width) (least-width (nodes-in bytes)) weight-width e
+  unfolding parsed
+  highs-read =
+      let n : ℕ = nodes-in bytes in
+      spread-at (field-in bytes (edges-start n + (least-width n + least-width n) + weight-width) (least-width n) weight-width) (edges-in bytes)
+      (highs-spread bytes (least-width n) (edges-start n) (edges-in bytes))
 
 -- ---- rules 5 and 6 of one direction
 
@@ -135,13 +154,39 @@ module _ {bytes : List ℕ} {at : ℕ} {ends : List ℕ} (d : Direction bytes at
       (map-same (λ e. getD ends e 0) end entries (λ e k. d .read e (ltb-true e m (all-member (λ e. ltb e m) entries h e k)))))
       (λ h. rw h))
 
+-- ---- rule 5 of the weights
+
+module _ (bytes : List ℕ) where
+  -- whether the low of edge e is not above its high
+  weight-test : ℕ → Bool
+  weight-test e =
+      leb (field-in bytes (weights-start bytes) (least-width (nodes-in bytes)) weight-width e)
+      (field-in bytes (weights-start bytes + weight-width) (least-width (nodes-in bytes)) weight-width e)
+
+  -- the weights pass
+  weights-pass : weights-ordered bytes (weights-start bytes) (least-width (nodes-in bytes)) (edges-in bytes) ≡ true
+      → (e : ℕ) → e < edges-in bytes → getD (lows-in bytes) e 0 ≤ getD (highs-in bytes) e 0
+  unfolding weights-ordered weight-test
+  weights-pass h e l =
+      rw (lows-read bytes e l, highs-read bytes e l)
+      (leb-true _ _ (all-member weight-test (from 0 (edges-in bytes)) h e (member-below e (edges-in bytes) ∙ lt-ltb e (edges-in bytes) l)))
+
+  -- a low is above its high
+  weights-astray : weights-ordered bytes (weights-start bytes) (least-width (nodes-in bytes)) (edges-in bytes) ≡ false
+      → (e : ℕ) × (e < edges-in bytes) × (getD (highs-in bytes) e 0 < getD (lows-in bytes) e 0)
+  unfolding weights-ordered weight-test
+  weights-astray h =
+      let found = fails-at weight-test (from 0 (edges-in bytes)) h in
+      let low : found .0 < edges-in bytes = ltb-true _ _ (sym (member-below (found .0) (edges-in bytes)) ∙ found .1) in
+      (found .0, low, rw (lows-read bytes (found .0) low, highs-read bytes (found .0) low) (leb-false _ _ (found .2)))
+
 -- ---- rules 4 to 6
 
--- The first of five tests that fails decides the rule: the padding, the ends of both directions, the lists of both.
-pub record Decides (padding sources targets outs ins : Bool) (rule : ℕ) : Type 0 where
-  pub first : cond padding (cond sources (cond targets (cond outs (cond ins 0 6) 6) 5) 5) 4 ≡ rule
+-- The first of six tests that fails decides the rule: the padding, the ends of both directions, the weights, the lists of both directions.
+pub record Decides (padding sources targets weights outs ins : Bool) (rule : ℕ) : Type 0 where
+  pub first : cond padding (cond sources (cond targets (cond weights (cond outs (cond ins 0 6) 6) 5) 5) 5) 4 ≡ rule
 
-module _ {p s t o i : Bool} {rule : ℕ} (d : Decides p s t o i rule) where
+module _ {p s t k o i : Bool} {rule : ℕ} (d : Decides p s t k o i rule) where
   pub padding-set : p ≡ false → 4 ≡ rule
   padding-set a = rw a at (d .first)
 
@@ -151,23 +196,27 @@ module _ {p s t o i : Bool} {rule : ℕ} (d : Decides p s t o i rule) where
   pub target-astray : p ≡ true → s ≡ true → t ≡ false → 5 ≡ rule
   target-astray a b c = rw (a, b, c) at (d .first)
 
-  pub outs-wrong : p ≡ true → s ≡ true → t ≡ true → o ≡ false → 6 ≡ rule
-  outs-wrong a b c e = rw (a, b, c, e) at (d .first)
+  pub weight-astray : p ≡ true → s ≡ true → t ≡ true → k ≡ false → 5 ≡ rule
+  weight-astray a b c e = rw (a, b, c, e) at (d .first)
 
-  pub ins-wrong : p ≡ true → s ≡ true → t ≡ true → o ≡ true → i ≡ false → 6 ≡ rule
-  ins-wrong a b c e f = rw (a, b, c, e, f) at (d .first)
+  pub outs-wrong : p ≡ true → s ≡ true → t ≡ true → k ≡ true → o ≡ false → 6 ≡ rule
+  outs-wrong a b c e f = rw (a, b, c, e, f) at (d .first)
 
-  pub all-right : p ≡ true → s ≡ true → t ≡ true → o ≡ true → i ≡ true → 0 ≡ rule
-  all-right a b c e f = rw (a, b, c, e, f) at (d .first)
+  pub ins-wrong : p ≡ true → s ≡ true → t ≡ true → k ≡ true → o ≡ true → i ≡ false → 6 ≡ rule
+  ins-wrong a b c e f g = rw (a, b, c, e, f, g) at (d .first)
+
+  pub all-right : p ≡ true → s ≡ true → t ≡ true → k ≡ true → o ≡ true → i ≡ true → 0 ≡ rule
+  all-right a b c e f g = rw (a, b, c, e, f, g) at (d .first)
 
 -- What the check of rules 4 to 6 reads, by the two counts, the two widths, the starts of the records and of the out-lists, and the size of one direction's: each
--- part stands in the bytes, and the five tests decide.
+-- part stands in the bytes, and the six tests decide.
 pub record Standing (bytes : List ℕ) (n m w v records outs size : ℕ) : Type 0 where
   pub filled : Filled bytes (outs + size + size)
   pub out-entries : Entries bytes records w outs v m
   pub in-entries : Entries bytes (records + w) w (outs + size) v m
+  pub weights : Weights bytes (records + w + w) w m
   pub decides : Decides (eqb (field-at bytes (outs + size + size) (8 * length bytes - (outs + size + size))) 0)
-      (ends-within bytes records w n m) (ends-within bytes (records + w) w n m)
+      (ends-within bytes records w n m) (ends-within bytes (records + w) w n m) (weights-ordered bytes (records + w + w) w m)
       (ordered (end-in bytes records w) m (fields-at bytes outs v m)) (ordered (end-in bytes (records + w) w) m (fields-at bytes (outs + size) v m))
       (broken-image bytes)
 
@@ -199,7 +248,15 @@ module _ (bytes : List ℕ) (s : Sized bytes) where
     small = omega (arith, s .length-right, bounded .size);
   }
 
-  -- ---- the five tests, and what the rules say where they pass
+  -- so are the weights
+  standing-weights : Weights bytes (weights-start bytes) (node-width bytes) (edges-in bytes)
+  standing-weights =
+      record {
+        lows = record { narrow = omega arith; within = omega (arith, s .length-right); small = omega (arith, s .length-right, bounded .size) };
+        highs = record { narrow = omega arith; within = omega (arith, s .length-right); small = omega (arith, s .length-right, bounded .size) };
+      }
+
+  -- ---- the six tests, and what the rules say where they pass
 
   padded : eqb (padding-in bytes) 0 ≡ true → Padded bytes
   padded p = record { sized = s; padding-clear = eqb-true (padding-in bytes) 0 p }
@@ -210,6 +267,9 @@ module _ (bytes : List ℕ) (s : Sized bytes) where
   target-test : Bool
   target-test = ends-within bytes (edges-start (nodes-in bytes) + node-width bytes) (node-width bytes) (nodes-in bytes) (edges-in bytes)
 
+  weights-test : Bool
+  weights-test = weights-ordered bytes (weights-start bytes) (node-width bytes) (edges-in bytes)
+
   out-test : Bool
   out-test = ordered (end-in bytes (edges-start (nodes-in bytes)) (node-width bytes)) (edges-in bytes) (fields-at bytes (outs-in bytes) (edge-width bytes) (edges-in bytes))
 
@@ -218,9 +278,14 @@ module _ (bytes : List ℕ) (s : Sized bytes) where
       ordered (end-in bytes (edges-start (nodes-in bytes) + node-width bytes) (node-width bytes)) (edges-in bytes)
       (fields-at bytes (outs-in bytes + size-of bytes) (edge-width bytes) (edges-in bytes))
 
-  ended : eqb (padding-in bytes) 0 ≡ true → source-test ≡ true → target-test ≡ true → Ended bytes
-  unfolding source-test target-test
-  ended p a b = record { padded = padded p; sources-below = ends-pass (sources bytes) a; targets-below = ends-pass (targets bytes) b }
+  ended : eqb (padding-in bytes) 0 ≡ true → source-test ≡ true → target-test ≡ true → weights-test ≡ true → Ended bytes
+  unfolding source-test target-test weights-test
+  ended p a b c = record {
+    padded = padded p;
+    sources-below = ends-pass (sources bytes) a;
+    targets-below = ends-pass (targets bytes) b;
+    in-order = weights-pass bytes c;
+  }
 
   -- the last two are rule 6
   out-rule : Ended bytes → out-test ≡ lists-right (sources-in bytes) (parsed bytes .outs)
@@ -232,26 +297,32 @@ module _ (bytes : List ℕ) (s : Sized bytes) where
   in-rule e = lists-pass (targets bytes) (outs-in bytes + size-of bytes) (e .targets-below)
 
   -- the first that fails is the first broken rule
-  decided : Decides (eqb (padding-in bytes) 0) source-test target-test out-test in-test (broken-image bytes)
-  unfolding source-test target-test
+  decided : Decides (eqb (padding-in bytes) 0) source-test target-test weights-test out-test in-test (broken-image bytes)
+  unfolding source-test target-test weights-test
   decided =
       by-test (eqb (padding-in bytes) 0)
       (λ p. by-test source-test
       (λ a. by-test target-test
-      (λ b. let e = ended p a b in
+      (λ b. by-test weights-test
+      (λ c. let e = ended p a b c in
       by-test out-test
       (λ x. by-test in-test
-      (λ y. record { first = rw (p, a, b, x, y) (sym (accepted bytes (record { ended = e; outs-right = sym (out-rule e) ∙ x; ins-right = sym (in-rule e) ∙ y }))) })
-      (λ y. record { first = rw (p, a, b, x, y) (sym (refused-6 bytes e (inr (sym (in-rule e) ∙ y)))) }))
-      (λ x. record { first = rw (p, a, b, x) (sym (refused-6 bytes e (inl (sym (out-rule e) ∙ x)))) }))
+      (λ y. record { first = rw (p, a, b, c, x, y) (sym (accepted bytes (record { ended = e; outs-right = sym (out-rule e) ∙ x; ins-right = sym (in-rule e) ∙ y }))) })
+      (λ y. record { first = rw (p, a, b, c, x, y) (sym (refused-6 bytes e (inr (sym (in-rule e) ∙ y)))) }))
+      (λ x. record { first = rw (p, a, b, c, x) (sym (refused-6 bytes e (inl (sym (out-rule e) ∙ x)))) }))
+      (λ c. let found = weights-astray bytes c in
+      record { first = rw (p, a, b, c) (sym (refused-5 bytes (padded p) (found .0) (found .1) (inr (inr (found .2))))) }))
       (λ b. let found = end-astray (targets bytes) b in
-      record { first = rw (p, a, b) (sym (refused-5 bytes (padded p) (found .0) (found .1) (inr (found .2)))) }))
+      record { first = rw (p, a, b) (sym (refused-5 bytes (padded p) (found .0) (found .1) (inr (inl (found .2))))) }))
       (λ a. let found = end-astray (sources bytes) a in
       record { first = rw (p, a) (sym (refused-5 bytes (padded p) (found .0) (found .1) (inl (found .2)))) }))
       (λ p. record { first = rw p (sym (refused-4 bytes s (eqb-false (padding-in bytes) 0 p))) })
 
+  weights-place : weights-start bytes ≡ edges-start (nodes-in bytes) + node-width bytes + node-width bytes
+  weights-place = omega arith
+
   stands : Standing bytes (nodes-in bytes) (edges-in bytes) (node-width bytes) (edge-width bytes) (edges-start (nodes-in bytes)) (outs-in bytes) (size-of bytes)
-  unfolding source-test target-test out-test in-test
+  unfolding source-test target-test weights-test out-test in-test
   stands = record {
     filled = record { long = s .length-right; small = bounded .size };
     out-entries = record {
@@ -266,7 +337,9 @@ module _ (bytes : List ℕ) (s : Sized bytes) where
       narrow = width-most (edges-in bytes);
       within = omega (arith, s .length-right);
     };
-    decides = decided;
+    weights = subst (λ (z : ℕ). Weights bytes z (node-width bytes) (edges-in bytes)) weights-place standing-weights;
+    decides = subst (λ (z : ℕ). Decides (eqb (padding-in bytes) 0) source-test target-test (weights-ordered bytes z (node-width bytes) (edges-in bytes)) out-test in-test (broken-image bytes))
+        weights-place decided;
   }
 
 -- the same, where the counts, the widths and the places are answers

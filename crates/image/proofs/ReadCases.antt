@@ -37,13 +37,13 @@ module _ (w : Words) (bytes : List ℕ) (answer : Answer) (told : answer ≡ rea
     accepted = read-accepted (lengths-of w) bytes (ap (λ (a : Answer). a .number) (sym told) ∙ done)
 
     -- "the result equals what compaction leaves"
-    pub read-done : (counts : Counts) {v : Words} → ImagePlaced (store counts (w .nodes) (w .edges) (w .live-nodes) (w .live-edges) (w .outgoing) (w .incoming)) bytes v
+    pub read-done : (counts : Counts) {v : Words} → ImagePlaced (store counts (w .nodes) (w .lows) (w .highs) (w .live-nodes) (w .live-edges) (w .outgoing) (w .incoming)) bytes v
         → ReadOf w bytes (answer .number) (answer .value) v
     read-done counts {v} placed =
         let holding = placed-holding accepted placed in
         let same = placed .lengths in
         let left = placed-renewed accepted placed in
-        let renewed : Renewed w v = record { nodes = left .nodes; edges = left .edges; axis = axis-left placed } in
+        let renewed : Renewed w v = record { nodes = left .nodes; edges = left .edges; highs = left .highs; axis = axis-left placed } in
         record {
           answered = told;
           state = λ h. holding-state holding;
@@ -58,7 +58,7 @@ module _ (w : Words) (bytes : List ℕ) (answer : Answer) (told : answer ≡ rea
           leaves = canonical-leaves w v same (holding-canonical holding) renewed;
         }
       where
-        axis-left : {v : Words} → ImagePlaced (store counts (w .nodes) (w .edges) (w .live-nodes) (w .live-edges) (w .outgoing) (w .incoming)) bytes v → (d : TraversalDirection)
+        axis-left : {v : Words} → ImagePlaced (store counts (w .nodes) (w .lows) (w .highs) (w .live-nodes) (w .live-edges) (w .outgoing) (w .incoming)) bytes v → (d : TraversalDirection)
             → AxisRenewed (axis-words d w) (axis-words d v) (edge-capacity w) (node-capacity w) (v .counts .nodes .bound) (v .counts .edges .bound)
         axis-left placed Outgoing = placed-renewed accepted placed .axis Outgoing
         axis-left placed Incoming = placed-renewed accepted placed .axis Incoming

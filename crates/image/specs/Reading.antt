@@ -12,7 +12,7 @@ use Rattle.plain.specs.Numbers.{LIMIT}
 use Rattle.plain.specs.Lists.{from}
 use Rattle.plain.specs.Bits.{fields-at, least-width}
 use Rattle.plain.specs.Compaction.{EdgeRecord, source-of, target-of}
-use Rattle.plain.specs.Image.{count-width, node-payload-width, edge-payload-width, record-width, nodes-in, edges-in, nodes-start, edges-start, outs-start, ins-start, image-size, cut, list-lengths, parsed, broken-image}
+use Rattle.plain.specs.Image.{count-width, node-payload-width, weight-width, edge-payload-width, record-width, nodes-in, edges-in, nodes-start, edges-start, outs-start, ins-start, image-size, cut, list-lengths, parsed, broken-image}
 use Rattle.plain.specs.Memory.{Lengths, axis-length}
 use Rattle.plain.specs.Calls.{limits}
 use Rattle.plain.specs.WellFormed.{Fitted, Sound}
@@ -26,7 +26,7 @@ use Rattle.memory.specs.Laws.{Roomy}
 use Rattle.liveness.specs.Calls.{Reset}
 use Rattle.shape.specs.Columns.{Sized}
 use Rattle.shape.specs.Shape.{Words, node-capacity, edge-capacity, lengths-of, axis-words as words-of}
-use Rattle.shape.specs.Kept.{SameLengths, AxisRenewed, Renewed, same-nodes, same-edges, same-live-nodes, same-live-edges, same-axis}
+use Rattle.shape.specs.Kept.{SameLengths, AxisRenewed, Renewed, same-nodes, same-edges, same-highs, same-live-nodes, same-live-edges, same-axis}
 use Rattle.shape.specs.Index.{Rewritten}
 use Rattle.shape.specs.Laws.NewBase.{NewBase}
 use Rattle.compact.specs.Slots.{rewritten-range}
@@ -34,7 +34,7 @@ use Rattle.compact.specs.Bases.{rebuilt-renewed}
 use Rattle.compact.specs.Holding.{based, front, Holding, reset-same, reset-word, sized-as}
 use Rattle.bits.specs.Fields.{Room}
 use Rattle.image.specs.Places.{records-small, entries-small}
-use Rattle.image.specs.Spread.{spread, SpreadFits, spread-in, fields-spread, spread-at, sources-spread, targets-spread, payloads-spread}
+use Rattle.image.specs.Spread.{spread, SpreadFits, spread-in, fields-spread, spread-at, sources-spread, targets-spread, lows-spread, highs-spread}
 use Rattle.image.specs.Directions.{AxisReadable, AxisRead, base-readable, read-base}
 
 -- ---- what is asked
@@ -48,21 +48,36 @@ pub record Accepted (l : Lengths) (bytes : List ℕ) : Type 0 where
 
 -- ---- what is read
 
--- the payloads of n nodes, and of m edges out of their records
+-- the payloads of n nodes, and the weights of m edges out of their records
 abbrev pub node-payload : List ℕ → ℕ → ℕ
 node-payload bytes = spread bytes nodes-start node-payload-width node-payload-width
 
-abbrev pub edge-payload : List ℕ → ℕ → ℕ → ℕ
-edge-payload bytes n = spread bytes (edges-start n + (least-width n + least-width n)) (record-width (least-width n)) edge-payload-width
+-- where the first low stands
+abbrev pub lows-start : ℕ → ℕ
+lows-start n = edges-start n + (least-width n + least-width n)
 
-pub record PayloadsReadable (nodes edges bytes : List ℕ) (n m : ℕ) : Type 0 where
+abbrev pub edge-low : List ℕ → ℕ → ℕ → ℕ
+edge-low bytes n = spread bytes (lows-start n) (record-width (least-width n)) weight-width
+
+abbrev pub edge-high : List ℕ → ℕ → ℕ → ℕ
+edge-high bytes n = spread bytes (lows-start n + weight-width) (record-width (least-width n)) weight-width
+
+pub record WeightsReadable (lows highs bytes : List ℕ) (n m : ℕ) : Type 0 where
   pub few : n ≤ LIMIT
-  pub nodes-there : SpreadFits bytes nodes-start node-payload-width node-payload-width nodes 0 n
-  pub edges-there : SpreadFits bytes (edges-start n + (least-width n + least-width n)) (record-width (least-width n)) edge-payload-width edges 0 m
+  pub lows-there : SpreadFits bytes (lows-start n) (record-width (least-width n)) weight-width lows 0 m
+  pub highs-there : SpreadFits bytes (lows-start n + weight-width) (record-width (least-width n)) weight-width highs 0 m
 
-pub record PayloadsRead (nodes edges bytes : List ℕ) (n m : ℕ) (nodes' edges' : List ℕ) : Type 0 where
+pub record WeightsRead (lows highs bytes : List ℕ) (n m : ℕ) (lows' highs' : List ℕ) : Type 0 where
+  pub lows-read : Rewritten lows lows' 0 m (edge-low bytes n)
+  pub highs-read : Rewritten highs highs' 0 m (edge-high bytes n)
+
+pub record PayloadsReadable (nodes lows highs bytes : List ℕ) (n m : ℕ) : Type 0 where
+  pub nodes-there : SpreadFits bytes nodes-start node-payload-width node-payload-width nodes 0 n
+  pub weights-there : WeightsReadable lows highs bytes n m
+
+pub record PayloadsRead (nodes lows highs bytes : List ℕ) (n m : ℕ) (nodes' lows' highs' : List ℕ) : Type 0 where
   pub nodes-read : Rewritten nodes nodes' 0 n (node-payload bytes)
-  pub edges-read : Rewritten edges edges' 0 m (edge-payload bytes n)
+  pub weights-read : WeightsRead lows highs bytes n m lows' highs'
 
 -- both directions: the sources and the out-lists, the targets and the in-lists
 pub record AxesReadable (outgoing incoming : List ℕ) (ce cn : ℕ) (bytes : List ℕ) (n m : ℕ) : Type 0 where
@@ -74,9 +89,10 @@ pub record AxesRead (outgoing incoming : List ℕ) (ce cn : ℕ) (bytes : List �
   pub targets : AxisRead incoming ce cn n m bytes (edges-start n + least-width n) (ins-start n m) incoming'
 
 -- counts that were read
-pub payloads-of : {nodes edges bytes : List ℕ} {n m n' m' : ℕ} {nodes' edges' : List ℕ} → n ≡ n' → m ≡ m' → PayloadsRead nodes edges bytes n m nodes' edges'
-    → PayloadsRead nodes edges bytes n' m' nodes' edges'
-payloads-of {nodes} {edges} {bytes} {nodes' = nodes'} {edges'} a b r = subst₂ (λ (n m : ℕ). PayloadsRead nodes edges bytes n m nodes' edges') a b r
+pub payloads-of : {nodes lows highs bytes : List ℕ} {n m n' m' : ℕ} {nodes' lows' highs' : List ℕ} → n ≡ n' → m ≡ m'
+    → PayloadsRead nodes lows highs bytes n m nodes' lows' highs' → PayloadsRead nodes lows highs bytes n' m' nodes' lows' highs'
+payloads-of {nodes} {lows} {highs} {bytes} {nodes' = nodes'} {lows'} {highs'} a b r =
+    subst₂ (λ (n m : ℕ). PayloadsRead nodes lows highs bytes n m nodes' lows' highs') a b r
 
 pub axes-of : {outgoing incoming : List ℕ} {ce cn : ℕ} {bytes : List ℕ} {n m n' m' : ℕ} {outgoing' incoming' : List ℕ} → n ≡ n' → m ≡ m'
     → AxesRead outgoing incoming ce cn bytes n m outgoing' incoming' → AxesRead outgoing incoming ce cn bytes n' m' outgoing' incoming'
@@ -90,7 +106,7 @@ reset-of {entry} {exit} a r = subst (λ (n : ℕ). Reset entry n exit) a r
 pub record ImagePlaced (w : Words) (bytes : List ℕ) (v : Words) : Type 0 where
   pub lengths : SameLengths w v
   pub counts : v .counts ≡ record { nodes = based (nodes-in bytes); edges = based (edges-in bytes) }
-  pub payloads : PayloadsRead (w .nodes) (w .edges) bytes (nodes-in bytes) (edges-in bytes) (v .nodes) (v .edges)
+  pub payloads : PayloadsRead (w .nodes) (w .lows) (w .highs) bytes (nodes-in bytes) (edges-in bytes) (v .nodes) (v .lows) (v .highs)
   pub axes : AxesRead (w .outgoing) (w .incoming) (edge-capacity w) (node-capacity w) bytes (nodes-in bytes) (edges-in bytes) (v .outgoing) (v .incoming)
   pub live-nodes : Reset (w .live-nodes) (nodes-in bytes) (v .live-nodes)
   pub live-edges : Reset (w .live-edges) (edges-in bytes) (v .live-edges)
@@ -124,12 +140,22 @@ module _ {l : Lengths} {bytes : List ℕ} (a : Accepted l bytes) where
   small : image-size n m + (64 + edge-payload-width) < 2 ^ 64
   small = omega (arith, counted .nodes-within, counted .edges-within, records-small n m, entries-small m)
 
-  pub payloads-readable : (nodes edges : List ℕ) → n ≤ length nodes → m ≤ length edges → PayloadsReadable nodes edges bytes n m
-  payloads-readable nodes edges nodes-room edges-room = record {
-    few = omega (arith, a .nodes-room, a .roomy .few-nodes);
+  -- a field of the edges' records at bit k
+  weights-fit : (words : List ℕ) (k : ℕ) → k + weight-width ≤ record-width (least-width n) → m ≤ length words
+      → SpreadFits bytes (edges-start n + k) (record-width (least-width n)) weight-width words 0 m
+  weights-fit words k inside room =
+      spread-in (edges-start n) k (edges-start n + k) (record-width (least-width n)) weight-width m refl inside (omega arith) (omega (arith, whole))
+      (omega (arith, small, width-most n)) (omega arith)
+
+  pub payloads-readable : (nodes lows highs : List ℕ) → n ≤ length nodes → m ≤ length lows → m ≤ length highs → PayloadsReadable nodes lows highs bytes n m
+  payloads-readable nodes lows highs nodes-room lows-room highs-room = record {
     nodes-there = spread-in nodes-start 0 nodes-start node-payload-width node-payload-width n refl (omega arith) (omega arith) (omega (arith, whole)) (omega (arith, small)) (omega arith);
-    edges-there = spread-in (edges-start n) (least-width n + least-width n) (edges-start n + (least-width n + least-width n)) (record-width (least-width n)) edge-payload-width m refl
-        (omega arith) (omega arith) (omega (arith, whole)) (omega (arith, small, width-most n)) (omega arith);
+    weights-there = record {
+      few = omega (arith, a .nodes-room, a .roomy .few-nodes);
+      lows-there = weights-fit lows (least-width n + least-width n) (omega arith) lows-room;
+      highs-there = subst (λ (p : ℕ). SpreadFits bytes p (record-width (least-width n)) weight-width highs 0 m) (omega arith)
+          (weights-fit highs (least-width n + least-width n + weight-width) (omega arith) highs-room);
+    };
   }
 
   -- each end is below n where they all are
@@ -222,12 +248,15 @@ module _ {w : Words} {bytes : List ℕ} {v : Words} (a : Accepted (lengths-of w)
         counts = r .counts ∙ ap₂ {C = Counts} (λ (n m : ℕ). record { nodes = based n; edges = based m }) (sym many-nodes) (sym many-edges);
         nodes-fit = omega (arith, a .nodes-room, same-nodes same);
         edges-fit = omega (arith, a .edges-room, same-edges same);
+        highs-long = rw (same-edges same, same-highs same) (a .roomy .highs-room);
         live-nodes-long = rw (same-nodes same, same-live-nodes same) (a .roomy .live-nodes-room);
         live-edges-long = rw (same-edges same, same-live-edges same) (a .roomy .live-edges-room);
         sized = sized-again;
         nodes = ap (front (v .nodes)) many-nodes ∙ rewritten-range (r .payloads .nodes-read) ∙ fields-spread bytes nodes-start node-payload-width (nodes-in bytes);
-        edges = ap (front (v .edges)) many-edges ∙ rewritten-range (r .payloads .edges-read)
-            ∙ payloads-spread bytes (least-width (nodes-in bytes)) (edges-start (nodes-in bytes)) (edges-in bytes);
+        lows = ap (front (v .lows)) many-edges ∙ rewritten-range (r .payloads .weights-read .lows-read)
+            ∙ lows-spread bytes (least-width (nodes-in bytes)) (edges-start (nodes-in bytes)) (edges-in bytes);
+        highs = ap (front (v .highs)) many-edges ∙ rewritten-range (r .payloads .weights-read .highs-read)
+            ∙ highs-spread bytes (least-width (nodes-in bytes)) (edges-start (nodes-in bytes)) (edges-in bytes);
         live-nodes = subst (λ (k : ℕ). Reset (v .live-nodes) k (v .live-nodes)) (sym many-nodes) (reset-same (r .live-nodes));
         live-edges = subst (λ (k : ℕ). Reset (v .live-edges) k (v .live-edges)) (sym many-edges) (reset-same (r .live-edges));
         outgoing = subst₂ (λ (ce cn : ℕ). NewBase (v .outgoing) ce cn (v .counts) (map source-of (parsed bytes .edges)) (parsed bytes .outs)) (sym (same-edges same))
@@ -257,7 +286,8 @@ module _ {w : Words} {bytes : List ℕ} {v : Words} (a : Accepted (lengths-of w)
       let edges-bound = ap (λ (c : Counts). c .edges .bound) (r .counts) in
       record {
         nodes = record { payloads = λ i h. r .payloads .nodes-read .above i (omega arith); live = λ i h. reset-word (r .live-nodes) i (omega arith) };
-        edges = record { payloads = λ i h. r .payloads .edges-read .above i (omega arith); live = λ i h. reset-word (r .live-edges) i (omega arith) };
+        edges = record { payloads = λ i h. r .payloads .weights-read .lows-read .above i (omega arith); live = λ i h. reset-word (r .live-edges) i (omega arith) };
+        highs = λ i h. r .payloads .weights-read .highs-read .above i (omega arith);
         axis = λ d. subst₂ (λ (n m : ℕ). AxisRenewed (words-of d w) (words-of d v) (edge-capacity w) (node-capacity w) n m) (sym nodes-bound) (sym edges-bound)
             (axis-left d);
       }

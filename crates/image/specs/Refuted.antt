@@ -13,7 +13,7 @@ use Rattle.image.specs.Calls.{ReadOf}
 pub reading-writes-no-payload-past-the-bound : (w v : Words) (bytes : List ℕ) (number value word : ℕ) → v .counts .nodes .bound < node-capacity v
     → (getD (w .nodes) (v .counts .nodes .bound) 0 ≡ word → ⊥)
     → ReadOf w bytes number value
-    (store (v .counts) (set (v .nodes) (v .counts .nodes .bound) word) (v .edges) (v .live-nodes) (v .live-edges) (v .outgoing) (v .incoming)) → ⊥
+    (store (v .counts) (set (v .nodes) (v .counts .nodes .bound) word) (v .lows) (v .highs) (v .live-nodes) (v .live-edges) (v .outgoing) (v .incoming)) → ⊥
 reading-writes-no-payload-past-the-bound w v bytes number value word room differs read =
     differs (sym (read .renewed .nodes .payloads (v .counts .nodes .bound) (le-refl (v .counts .nodes .bound)))
     ∙ getD-set-same (v .nodes) (v .counts .nodes .bound) word 0 room)

@@ -8,9 +8,9 @@ use lib.ListN.{length, getD}
 use Rattle.plain.specs.Lists.{from}
 use Rattle.plain.specs.Bits.{field-at, fields-at}
 use Rattle.plain.specs.Compaction.{EdgeRecord, source-of, target-of}
-use Rattle.plain.specs.Image.{edge-payload-width, payload-at, record-width, records-at}
+use Rattle.plain.specs.Image.{weight-width, payload-at, record-width, records-at}
 use Rattle.plain.specs.Laws.ListLaws.{length-from, getD-from, getD-map, from-suc}
-use Rattle.plain.specs.Laws.ImageBits.{payload-of}
+use Rattle.plain.specs.Laws.ImageBits.{record-low, record-high}
 use Rattle.shape.specs.Laws.Indexing.{map-from-same}
 use Rattle.bits.specs.Fields.{Room}
 
@@ -106,5 +106,11 @@ sources-spread bytes w p m =
 pub targets-spread : (bytes : List ℕ) (w p m : ℕ) → map (spread bytes (p + w) (record-width w) w) (from 0 m) ≡ map target-of (records-at bytes p w m)
 targets-spread bytes w p m = records-spread target-of w w bytes w (λ p. refl) p m
 
-pub payloads-spread : (bytes : List ℕ) (w p m : ℕ) → map (spread bytes (p + (w + w)) (record-width w) edge-payload-width) (from 0 m) ≡ map payload-of (records-at bytes p w m)
-payloads-spread bytes w p m = records-spread payload-of (w + w) edge-payload-width bytes w (λ p. refl) p m
+pub lows-spread : (bytes : List ℕ) (w p m : ℕ) → map (spread bytes (p + (w + w)) (record-width w) weight-width) (from 0 m) ≡ map record-low (records-at bytes p w m)
+lows-spread bytes w p m = records-spread record-low (w + w) weight-width bytes w (λ p. refl) p m
+
+pub highs-spread : (bytes : List ℕ) (w p m : ℕ)
+    → map (spread bytes (p + (w + w) + weight-width) (record-width w) weight-width) (from 0 m) ≡ map record-high (records-at bytes p w m)
+highs-spread bytes w p m =
+    ap (λ (z : ℕ). map (spread bytes z (record-width w) weight-width) (from 0 m)) (omega arith)
+    ∙ records-spread record-high (w + w + weight-width) weight-width bytes w (λ p. ap (λ (z : ℕ). field-at bytes z weight-width) (omega arith)) p m

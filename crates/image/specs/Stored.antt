@@ -15,7 +15,7 @@ use Rattle.plain.specs.declared.TraversalDirection.{TraversalDirection}
 use Rattle.plain.specs.declared.TraversalDirection.the-variants.{Outgoing, Incoming}
 use Rattle.plain.specs.Numbers.{NONE, LIMIT}
 use Rattle.plain.specs.Lists.{all, from, joined}
-use Rattle.plain.specs.Plain.{Plain, NodeSlot, EdgeSlot, no-node, no-edge, node-bound, node-flags, edge-flags, incidence, list-of, end-of}
+use Rattle.plain.specs.Plain.{Plain, NodeSlot, EdgeSlot, low-of, high-of, no-node, no-edge, node-bound, node-flags, edge-flags, incidence, list-of, end-of}
 use Rattle.plain.specs.Reads.{live-slots}
 use Rattle.plain.specs.Compaction.{Survivors, rank, surviving-edge, survivors, of-survivors, compacted}
 use Rattle.plain.specs.Bits.{pack}
@@ -28,7 +28,7 @@ use Rattle.plain.specs.Laws.Operating.{incident}
 use Rattle.plain.specs.Laws.Rank.{live-from-all-live}
 use Rattle.shape.specs.Columns.{cell, offset-at}
 use Rattle.shape.specs.Chains.{In, ring, until}
-use Rattle.shape.specs.Shape.{Words, node-capacity, edge-capacity, Shape, Adjacency, capacities, axis-words, axis-in, adjacency-of, no-adjacency, base-of, ring-of, raw, part, hiding, live-in, walk-of, has-run, node-flags-of, edge-flags-of, shape-of, plain-of, lists, is-compact}
+use Rattle.shape.specs.Shape.{Words, node-capacity, edge-capacity, Shape, Adjacency, capacities, edge-payload-at, axis-words, axis-in, adjacency-of, no-adjacency, base-of, ring-of, raw, part, hiding, live-in, walk-of, has-run, node-flags-of, edge-flags-of, shape-of, plain-of, lists, is-compact}
 use Rattle.shape.specs.Checked.{Checked, Index, Indexed}
 use Rattle.shape.specs.Index.{total}
 use Rattle.shape.specs.Laws.CheckedShape.{checked-proper}
@@ -39,22 +39,23 @@ use Rattle.shape.specs.Laws.Taking.{keep-passing}
 use Rattle.image.specs.Writing.{Columns, columns, record-at, records-of, length-records, column-bits}
 
 -- the columns of a store of n nodes and m edges that its image is written from
-abbrev pub columns-of : ℕ → ℕ → List ℕ → List ℕ → List ℕ → List ℕ → Columns
-columns-of n m nodes edges outgoing incoming =
-    columns (take n nodes) (take m outgoing) (take m incoming) (take m edges) (take m (drop (length edges) outgoing)) (take m (drop (length edges) incoming))
+abbrev pub columns-of : ℕ → ℕ → List ℕ → List ℕ → List ℕ → List ℕ → List ℕ → Columns
+columns-of n m nodes lows highs outgoing incoming =
+    columns (take n nodes) (take m outgoing) (take m incoming) (take m lows) (take m highs) (take m (drop (length lows) outgoing)) (take m (drop (length lows) incoming))
 
 -- Words of a compact store: its slots and its adjacency columns are there, ends are nodes, and entries are edges.
-pub record Stored (n m : ℕ) (nodes edges outgoing incoming : List ℕ) : Type 0 where
+pub record Stored (n m : ℕ) (nodes lows highs outgoing incoming : List ℕ) : Type 0 where
   pub nodes-within : n ≤ LIMIT
   pub edges-within : m ≤ LIMIT
   pub nodes-there : n ≤ length nodes
-  pub edges-there : m ≤ length edges
-  pub outgoing-there : length edges + m ≤ length outgoing
-  pub incoming-there : length edges + m ≤ length incoming
+  pub lows-there : m ≤ length lows
+  pub highs-there : m ≤ length highs
+  pub outgoing-there : length lows + m ≤ length outgoing
+  pub incoming-there : length lows + m ≤ length incoming
   pub sources-below : Below n (take m outgoing)
   pub targets-below : Below n (take m incoming)
-  pub outs-below : Below m (take m (drop (length edges) outgoing))
-  pub ins-below : Below m (take m (drop (length edges) incoming))
+  pub outs-below : Below m (take m (drop (length lows) outgoing))
+  pub ins-below : Below m (take m (drop (length lows) incoming))
 
 -- ---- a compact shape
 
@@ -149,7 +150,7 @@ image-columns : (c : Columns) (s : Survivors) → s .nodes ≡ c .nodes → s .e
     → image s ≡ pack (column-bits c)
 unfolding image image-bits column-bits
 image-columns c s nodes edges outs ins =
-    rw (nodes, edges, outs, ins, length-records (c .sources) (c .targets) (c .payloads)) (simp append-assoc)
+    rw (nodes, edges, outs, ins, length-records (c .sources) (c .targets) (c .lows) (c .highs)) (simp append-assoc)
 
 -- ---- a compact store
 
@@ -247,7 +248,7 @@ module _ {w : Words} (k : Checked w) (compact : is-compact (shape-of w) ≡ true
   unfolding plain-of
   node-payload x l = node-at w x l
 
-  edge-payload : (e : ℕ) → e < m → getD (lists w .edges) e no-edge .payload ≡ getD (w .edges) e 0
+  edge-payload : (e : ℕ) → e < m → getD (lists w .edges) e no-edge .payload ≡ edge-payload-at w e
   unfolding plain-of
   edge-payload e l = edge-at w e l
 
@@ -267,18 +268,19 @@ module _ {w : Words} (k : Checked w) (compact : is-compact (shape-of w) ≡ true
       own-rank (node-flags (lists w)) (node-bound (lists w)) (end-of d (lists w) e) (every-live .nodes) below
       ∙ plain-end w d e l ∙ sym (getD-take m (axis-words d w) e 0 l)
 
-  edges-are : survivors (lists w) .edges ≡ map (record-at (take m (w .outgoing)) (take m (w .incoming)) (take m (w .edges))) (from 0 (length (take m (w .edges))))
+  edges-are : survivors (lists w) .edges ≡ map (record-at (take m (w .outgoing)) (take m (w .incoming)) (take m (w .lows)) (take m (w .highs))) (from 0 (length (take m (w .lows))))
   unfolding survivors
   edges-are =
       ap (map (surviving-edge (lists w))) edge-slots
-      ∙ map-same (surviving-edge (lists w)) (record-at (take m (w .outgoing)) (take m (w .incoming)) (take m (w .edges))) (from 0 m)
+      ∙ map-same (surviving-edge (lists w)) (record-at (take m (w .outgoing)) (take m (w .incoming)) (take m (w .lows)) (take m (w .highs))) (from 0 m)
       (λ e h. let l = ltb-true e m (sym (member-below e m) ∙ h) in
       let source = own-end Outgoing e l in
       let target = own-end Incoming e l in
-      let payload = edge-payload e l ∙ sym (getD-take m (w .edges) e 0 l) in
-      λ i. record { source = source i; target = target i; payload = payload i })
-      ∙ ap (λ (j : ℕ). map (record-at (take m (w .outgoing)) (take m (w .incoming)) (take m (w .edges))) (from 0 j))
-      (sym (length-take-le m (w .edges) (k .edges .bounded .bound-within)))
+      let low = ap low-of (edge-payload e l) ∙ sym (getD-take m (w .lows) e 0 l) in
+      let high = ap high-of (edge-payload e l) ∙ sym (getD-take m (w .highs) e 0 l) in
+      λ i. record { source = source i; target = target i; payload = record { low = low i; high = high i } })
+      ∙ ap (λ (j : ℕ). map (record-at (take m (w .outgoing)) (take m (w .incoming)) (take m (w .lows)) (take m (w .highs))) (from 0 j))
+      (sym (length-take-le m (w .lows) (k .edges .bounded .bound-within)))
 
   -- compaction would leave the lists as they are
   same-lists : of-survivors (survivors (lists w)) ≡ lists w
@@ -295,8 +297,8 @@ module _ {w : Words} (k : Checked w) (compact : is-compact (shape-of w) ≡ true
   ins-are = ap (λ (p : Plain). joined (p .incoming .lists)) same-lists ∙ lists-joined Incoming
 
   -- the image of the store is the image of its columns
-  pub image-stored : image (survivors (lists w)) ≡ pack (column-bits (columns-of n m (w .nodes) (w .edges) (w .outgoing) (w .incoming)))
-  image-stored = image-columns (columns-of n m (w .nodes) (w .edges) (w .outgoing) (w .incoming)) (survivors (lists w)) nodes-are edges-are outs-are ins-are
+  pub image-stored : image (survivors (lists w)) ≡ pack (column-bits (columns-of n m (w .nodes) (w .lows) (w .highs) (w .outgoing) (w .incoming)))
+  image-stored = image-columns (columns-of n m (w .nodes) (w .lows) (w .highs) (w .outgoing) (w .incoming)) (survivors (lists w)) nodes-are edges-are outs-are ins-are
 
   -- ends are nodes, and entries are edges
   ends-low : (d : TraversalDirection) → Below n (take m (axis-words d w))
@@ -311,14 +313,15 @@ module _ {w : Words} (k : Checked w) (compact : is-compact (shape-of w) ≡ true
       rw (made-at (cell (axis-words d w) ce) m i 0 l) (⊎-elim (λ e. absurd (omega (arith, e .1))) (λ j. j .entries i l) (index d))))
 
   -- what the writer asks of the words
-  pub compact-stored : Stored n m (w .nodes) (w .edges) (w .outgoing) (w .incoming)
+  pub compact-stored : Stored n m (w .nodes) (w .lows) (w .highs) (w .outgoing) (w .incoming)
   compact-stored =
       let sized = k .axis Outgoing .sized in
       record {
         nodes-within = omega (arith, sized .nodes-within, k .nodes .bounded .bound-within);
         edges-within = omega (arith, sized .edges-within, k .edges .bounded .bound-within);
         nodes-there = k .nodes .bounded .bound-within;
-        edges-there = k .edges .bounded .bound-within;
+        lows-there = k .edges .bounded .bound-within;
+        highs-there = omega (arith, k .highs-long, k .edges .bounded .bound-within);
         outgoing-there = column-there Outgoing;
         incoming-there = column-there Incoming;
         sources-below = ends-low Outgoing;

@@ -43,21 +43,22 @@ module _ {bytes entry : List ℕ} {n : ℕ} (size : n ≡ length bytes) where
 
 -- ---- the columns of a compact store
 
-module _ {n m : ℕ} {nodes edges outgoing incoming : List ℕ} (h : Stored n m nodes edges outgoing incoming) (small : Below (2 ^ node-payload-width) nodes) where
+module _ {n m : ℕ} {nodes lows highs outgoing incoming : List ℕ} (h : Stored n m nodes lows highs outgoing incoming) (small : Below (2 ^ node-payload-width) nodes) where
   nodes-long : length (take n nodes) ≡ n
   nodes-long = length-take-le n nodes (h .nodes-there)
 
-  edges-long : length (take m edges) ≡ m
-  edges-long = length-take-le m edges (h .edges-there)
+  edges-long : length (take m lows) ≡ m
+  edges-long = length-take-le m lows (h .lows-there)
 
-  proper : Proper (columns-of n m nodes edges outgoing incoming)
+  proper : Proper (columns-of n m nodes lows highs outgoing incoming)
   proper = record {
     nodes-within = rw nodes-long (h .nodes-within);
     edges-within = rw edges-long (h .edges-within);
     sources-long = length-take-le m outgoing (omega (arith, h .outgoing-there)) ∙ sym edges-long;
     targets-long = length-take-le m incoming (omega (arith, h .incoming-there)) ∙ sym edges-long;
-    outs-long = length-take-le m (drop (length edges) outgoing) (rw length-drop (omega (arith, h .outgoing-there))) ∙ sym edges-long;
-    ins-long = length-take-le m (drop (length edges) incoming) (rw length-drop (omega (arith, h .incoming-there))) ∙ sym edges-long;
+    highs-long = length-take-le m highs (h .highs-there) ∙ sym edges-long;
+    outs-long = length-take-le m (drop (length lows) outgoing) (rw length-drop (omega (arith, h .outgoing-there))) ∙ sym edges-long;
+    ins-long = length-take-le m (drop (length lows) incoming) (rw length-drop (omega (arith, h .incoming-there))) ∙ sym edges-long;
     small-nodes = below-take n small;
     sources-below = rw nodes-long (h .sources-below);
     targets-below = rw nodes-long (h .targets-below);
@@ -66,12 +67,12 @@ module _ {n m : ℕ} {nodes edges outgoing incoming : List ℕ} (h : Stored n m 
   }
 
   -- as many bytes as the counts say
-  pub stored-size : bytes-for (image-size n m) ≡ length (pack (column-bits (columns-of n m nodes edges outgoing incoming)))
+  pub stored-size : bytes-for (image-size n m) ≡ length (pack (column-bits (columns-of n m nodes lows highs outgoing incoming)))
   stored-size =
-      sym (length-pack (column-bits (columns-of n m nodes edges outgoing incoming)) ∙ ap bytes-for (length-column-bits proper ∙ ap₂ image-size nodes-long edges-long))
+      sym (length-pack (column-bits (columns-of n m nodes lows highs outgoing incoming)) ∙ ap bytes-for (length-column-bits proper ∙ ap₂ image-size nodes-long edges-long))
 
   -- and room for the image where there is room for those
-  pub stored-fits : {s : List ℕ} → bytes-for (image-size n m) ≤ length s → ImageFits s (columns-of n m nodes edges outgoing incoming)
+  pub stored-fits : {s : List ℕ} → bytes-for (image-size n m) ≤ length s → ImageFits s (columns-of n m nodes lows highs outgoing incoming)
   stored-fits room = record { proper = proper; room = rw (nodes-long, edges-long) room }
 
 -- ---- the entry
@@ -83,10 +84,10 @@ module _ {w : Words} {rule : ℕ} (j : Judged w rule) (h : rule ≡ 0) {entry : 
 
   -- a compact store: its image is lent the slice
   pub image-replied : {r : Answer} {exit : List ℕ} → is-compact (shape-of w) ≡ true
-      → BytesLent (pack (column-bits (columns-of (w .counts .nodes .bound) (w .counts .edges .bound) (w .nodes) (w .edges) (w .outgoing) (w .incoming)))) entry r exit
+      → BytesLent (pack (column-bits (columns-of (w .counts .nodes .bound) (w .counts .edges .bound) (w .nodes) (w .lows) (w .highs) (w .outgoing) (w .incoming)))) entry r exit
       → Replied w written-image entry r exit
   image-replied compact lent =
-      let bytes = pack (column-bits (columns-of (w .counts .nodes .bound) (w .counts .edges .bound) (w .nodes) (w .edges) (w .outgoing) (w .incoming))) in
+      let bytes = pack (column-bits (columns-of (w .counts .nodes .bound) (w .counts .edges .bound) (w .nodes) (w .lows) (w .highs) (w .outgoing) (w .incoming))) in
       let image = write-compact (state-of (shape-of w)) (length entry) compact ∙ ap (listing (length entry)) (image-stored (j .checked h) compact) in
       let replied = replies j h {read = written-image} (listing (length entry) bytes) image (lent .writes) in
       record { number = lent .number ∙ replied .number; value = lent .value ∙ replied .value; writes = replied .writes }

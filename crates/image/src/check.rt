@@ -5,6 +5,7 @@
 use crate::places::COUNT_WIDTH;
 use crate::places::EDGE_COUNT_START;
 use crate::places::EDGE_PAYLOAD_WIDTH;
+use crate::places::WEIGHT_WIDTH;
 use crate::places::edges_start;
 use crate::places::image_bytes;
 use crate::places::lists_size;
@@ -18,8 +19,8 @@ ghost use Prim.Native.Nat.{_+_, _-_, _*_};
 ghost use lib.ListN.{length};
 ghost use lib.Dec.{eqb};
 ghost use Rattle.plain.specs.Bits.{field-at, fields-at};
-ghost use Rattle.plain.specs.Image.{image-size, broken-image};
-ghost use Rattle.image.specs.Checks.{Few, Filled, Ends, Entries, Whole, end-in, ends-within, ordered};
+ghost use Rattle.plain.specs.Image.{broken-image};
+ghost use Rattle.image.specs.Checks.{Filled, Column, Ends, Weights, Entries, Whole, field-in, end-in, ends-within, weights-ordered, ordered};
 
 // Rule 4: the bits after the last field are 0.
 fn padding_clear(bytes: &[u8], size: usize) -> bool
@@ -29,15 +30,15 @@ fn padding_clear(bytes: &[u8], size: usize) -> bool
     read_field(bytes, size, (8 * bytes.len() - size) as u32) == 0
 }
 
-// The end of an edge, of the direction whose first end stands at bit `at`.
-fn end_of(bytes: &[u8], at: usize, w: u32, edge: u32) -> u32
-    requires { ⌜ Ends (now bytes) at w (edge + 1) ⌝ }
-    ensures { λ r. ⌜ r ≡ end-in (now (bytes .entry)) at w edge ⌝ }
+// A field of an edge's record, of `width` bits; that of the first edge stands at bit `at`.
+fn field_of(bytes: &[u8], at: usize, w: u32, width: u32, edge: u32) -> u32
+    requires { ⌜ Column (now bytes) at w width (edge + 1) ⌝ }
+    ensures { λ r. ⌜ r ≡ field-in (now (bytes .entry)) at w width edge ⌝ }
 {
     read_field(
         bytes,
         at + (2 * w as usize + EDGE_PAYLOAD_WIDTH as usize) * edge as usize,
-        w,
+        width,
     )
 }
 
@@ -48,7 +49,25 @@ fn ends_below(bytes: &[u8], at: usize, w: u32, n: u32, m: u32) -> bool
 {
     let mut edge: u32 = 0;
     while edge < m {
-        if end_of(bytes, at, w, edge) >= n {
+        if field_of(bytes, at, w, w, edge) >= n {
+            return false;
+        }
+        edge += 1;
+    }
+    true
+}
+
+// Rule 5 of the weights: the low of none of the m edges is above its high. The first low stands at bit `at`.
+fn weights_right(bytes: &[u8], at: usize, w: u32, m: u32) -> bool
+    requires { ⌜ Weights (now bytes) at w m ⌝ }
+    ensures { λ r. ⌜ r ≡ weights-ordered (now (bytes .entry)) at w m ⌝ }
+{
+    let highs = at + WEIGHT_WIDTH as usize;
+    let mut edge: u32 = 0;
+    while edge < m {
+        let low = field_of(bytes, at, w, WEIGHT_WIDTH, edge);
+        let high = field_of(bytes, highs, w, WEIGHT_WIDTH, edge);
+        if low > high {
             return false;
         }
         edge += 1;
@@ -70,7 +89,7 @@ fn lists_right(bytes: &[u8], ends: usize, w: u32, list: usize, v: u32, m: u32) -
         if edge >= m {
             return false;
         }
-        let end = end_of(bytes, ends, w, edge);
+        let end = field_of(bytes, ends, w, w, edge);
         if end < last {
             return false;
         }
@@ -93,6 +112,7 @@ fn broken_content(bytes: &[u8], n: u32, m: u32) -> u32
     let v = least_width(m);
     let sources = edges_start(n);
     let targets = sources + w as usize;
+    let weights = targets + w as usize;
     let size = lists_size(m);
     let outs = outs_start(n, m);
     let ins = outs + size;
@@ -103,6 +123,9 @@ fn broken_content(bytes: &[u8], n: u32, m: u32) -> u32
         return 5;
     }
     if !ends_below(bytes, targets, w, n, m) {
+        return 5;
+    }
+    if !weights_right(bytes, weights, w, m) {
         return 5;
     }
     if !lists_right(bytes, sources, w, outs, v, m) {

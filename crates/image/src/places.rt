@@ -1,5 +1,6 @@
 // Where the parts of an image stand, in bits, from its two counts: "node count n and edge count m (16 bits each); n payloads (32); per edge source, target
-// (w bits each), payload (32); the out-lists of nodes 0 up to n−1 joined, then the in-lists (v bits an entry)".
+// (w bits each), payload (32); the out-lists of nodes 0 up to n−1 joined, then the in-lists (v bits an entry)"; and document 02, No. 8: "the image's edge record
+// holds low then high in 64 bits".
 
 ghost use mathlib.Core.Path.{_≡_};
 ghost use Prim.Native.Nat.{_*_, _≤_};
@@ -13,8 +14,11 @@ pub const COUNT_WIDTH: u32 = 16;
 // The bits of a node's payload.
 pub const NODE_PAYLOAD_WIDTH: u32 = 32;
 
-// The bits of an edge's payload.
-pub const EDGE_PAYLOAD_WIDTH: u32 = 32;
+// The bits of a weight.
+pub const WEIGHT_WIDTH: u32 = 32;
+
+// The bits of an edge's payload: its low, then its high.
+pub const EDGE_PAYLOAD_WIDTH: u32 = 2 * WEIGHT_WIDTH;
 
 // Where the edge count stands, after the node count.
 pub const EDGE_COUNT_START: usize = COUNT_WIDTH as usize;

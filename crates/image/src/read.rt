@@ -23,7 +23,7 @@ ghost use Rattle.compact.specs.Bases.{Rebuilt};
 ghost use Rattle.image.specs.Spread.{spread, SpreadFits};
 ghost use Rattle.image.specs.Directions.{BaseReadable, AxisReadable, AxisRead};
 ghost use Rattle.image.specs.Calls.{ReadOf};
-ghost use Rattle.image.specs.Reading.{Accepted, PayloadsReadable, PayloadsRead, AxesReadable, AxesRead, ImagePlaced};
+ghost use Rattle.image.specs.Reading.{Accepted, WeightsReadable, WeightsRead, PayloadsReadable, PayloadsRead, AxesReadable, AxesRead, ImagePlaced};
 
 // Reads `count` fields of `width` bits, the first at bit `position` and each `stride` bits further, into words from `at` on.
 fn read_fields(
@@ -98,20 +98,53 @@ fn read_axis(
     read_base(axis, edges, nodes, n, m, bytes, lists, edge_width);
 }
 
-// Reads the payloads of nodes and edges.
-fn read_payloads(
-    nodes: &mut [u32],
-    edges: &mut [u32],
+// Reads the weights of the edges out of their records: the lows, and the highs, each behind its low.
+fn read_weights(
+    lows: &mut [u32],
+    highs: &mut [u32],
     bytes: &[u8],
     count_nodes: u32,
     count_edges: u32,
 )
-    requires { ⌜ PayloadsReadable (now nodes) (now edges) (now bytes) «count_nodes» «count_edges» ⌝ }
-    ensures { λ _. ⌜ PayloadsRead (now (nodes .entry)) (now (edges .entry)) (now (bytes .entry)) «count_nodes» «count_edges» (now (nodes .exit)) (now (edges .exit)) ⌝ }
+    requires { ⌜ WeightsReadable (now lows) (now highs) (now bytes) «count_nodes» «count_edges» ⌝ }
+    ensures { λ _. ⌜ WeightsRead (now (lows .entry)) (now (highs .entry)) (now (bytes .entry)) «count_nodes» «count_edges» (now (lows .exit)) (now (highs .exit)) ⌝ }
 {
     let width = bits::least_width(count_nodes) as usize;
     let stride = places::record_width(count_nodes);
-    let payloads = places::edges_start(count_nodes) + (width + width);
+    let first = places::edges_start(count_nodes) + (width + width);
+    read_fields(
+        bytes,
+        first,
+        stride,
+        places::WEIGHT_WIDTH,
+        lows,
+        0,
+        count_edges as usize,
+    );
+    read_fields(
+        bytes,
+        first + places::WEIGHT_WIDTH as usize,
+        stride,
+        places::WEIGHT_WIDTH,
+        highs,
+        0,
+        count_edges as usize,
+    );
+}
+
+// Reads the payloads of nodes and edges.
+fn read_payloads(
+    nodes: &mut [u32],
+    lows: &mut [u32],
+    highs: &mut [u32],
+    bytes: &[u8],
+    count_nodes: u32,
+    count_edges: u32,
+)
+    requires { ⌜ PayloadsReadable (now nodes) (now lows) (now highs) (now bytes) «count_nodes» «count_edges» ⌝ }
+    ensures { λ _. ⌜ PayloadsRead (now (nodes .entry)) (now (lows .entry)) (now (highs .entry)) (now (bytes .entry)) «count_nodes» «count_edges»
+        (now (nodes .exit)) (now (lows .exit)) (now (highs .exit)) ⌝ }
+{
     read_fields(
         bytes,
         places::NODES_START,
@@ -121,15 +154,7 @@ fn read_payloads(
         0,
         count_nodes as usize,
     );
-    read_fields(
-        bytes,
-        payloads,
-        stride,
-        places::EDGE_PAYLOAD_WIDTH,
-        edges,
-        0,
-        count_edges as usize,
-    );
+    read_weights(lows, highs, bytes, count_nodes, count_edges);
 }
 
 // Reads both directions. `edges` and `nodes` are the capacities.
@@ -174,31 +199,32 @@ fn read_axes(
 // Puts what an image's bytes hold in place of all: payloads, both directions, every slot live and in the base.
 fn place(
     nodes: &mut [u32],
-    edges: &mut [u32],
+    lows: &mut [u32],
+    highs: &mut [u32],
     live_nodes: &mut [u64],
     live_edges: &mut [u64],
     outgoing: &mut [u32],
     incoming: &mut [u32],
     bytes: &[u8],
 ) -> Counts
-    requires { ⌜ Accepted (lengths (length (now nodes)) (length (now edges)) (length (now «live_nodes»)) (length (now «live_edges»)) (length (now outgoing)) (length (now incoming))) (now bytes) ⌝ }
+    requires { ⌜ Accepted (lengths (length (now nodes)) (length (now lows)) (length (now highs)) (length (now «live_nodes»)) (length (now «live_edges»)) (length (now outgoing)) (length (now incoming))) (now bytes) ⌝ }
     ensures { λ r. ⌜ ImagePlaced
-        (at-entry r nodes edges «live_nodes» «live_edges» outgoing incoming)
+        (at-entry r nodes lows highs «live_nodes» «live_edges» outgoing incoming)
         (now (bytes .entry))
-        (at-exit r nodes edges «live_nodes» «live_edges» outgoing incoming) ⌝ }
+        (at-exit r nodes lows highs «live_nodes» «live_edges» outgoing incoming) ⌝ }
 {
     let count_nodes = bits::read_field(bytes, 0, places::COUNT_WIDTH);
     let count_edges = bits::read_field(bytes, places::EDGE_COUNT_START, places::COUNT_WIDTH);
     read_axes(
         outgoing,
         incoming,
-        edges.len(),
+        lows.len(),
         nodes.len(),
         bytes,
         count_nodes,
         count_edges,
     );
-    read_payloads(nodes, edges, bytes, count_nodes, count_edges);
+    read_payloads(nodes, lows, highs, bytes, count_nodes, count_edges);
     liveness::reset_all_live(live_nodes, count_nodes as usize);
     liveness::reset_all_live(live_edges, count_edges as usize);
     Counts {
@@ -224,7 +250,8 @@ fn answer(lengths: Lengths, bytes: &[u8]) -> Answer
 pub fn read_image(
     counts: Counts,
     nodes: &mut [u32],
-    edges: &mut [u32],
+    lows: &mut [u32],
+    highs: &mut [u32],
     live_nodes: &mut [u64],
     live_edges: &mut [u64],
     outgoing: &mut [u32],
@@ -232,14 +259,15 @@ pub fn read_image(
     bytes: &[u8],
 ) -> Changed
     ensures { λ r. ⌜ ReadOf
-        (at-entry counts nodes edges «live_nodes» «live_edges» outgoing incoming)
+        (at-entry counts nodes lows highs «live_nodes» «live_edges» outgoing incoming)
         (now (bytes .entry)) (r .number) (r .value)
-        (at-exit (r .counts) nodes edges «live_nodes» «live_edges» outgoing incoming) ⌝ }
+        (at-exit (r .counts) nodes lows highs «live_nodes» «live_edges» outgoing incoming) ⌝ }
 {
     let told = answer(
         Lengths {
             nodes: nodes.len(),
-            edges: edges.len(),
+            lows: lows.len(),
+            highs: highs.len(),
             live_nodes: live_nodes.len(),
             live_edges: live_edges.len(),
             outgoing: outgoing.len(),
@@ -258,7 +286,8 @@ pub fn read_image(
     }
     let after = place(
         nodes,
-        edges,
+        lows,
+        highs,
         live_nodes,
         live_edges,
         outgoing,

@@ -65,9 +65,10 @@ image-room =
 -- ---- the strip
 
 -- The memory lent has no word to spare, the strip is whole, and its answers have room.
-pub record Bookable (nodes edges live-nodes live-edges outgoing incoming words answers : List ℕ) : Type 0 where
+pub record Bookable (nodes lows highs live-nodes live-edges outgoing incoming words answers : List ℕ) : Type 0 where
   pub nodes-long : length nodes ≡ lotstrip-capacities .nodes
-  pub edges-long : length edges ≡ lotstrip-capacities .edges
+  pub lows-long : length lows ≡ lotstrip-capacities .edges
+  pub highs-long : length highs ≡ lotstrip-capacities .edges
   pub live-nodes-long : length live-nodes ≡ live-words (lotstrip-capacities .nodes)
   pub live-edges-long : length live-edges ≡ live-words (lotstrip-capacities .edges)
   pub outgoing-long : length outgoing ≡ axis-length lotstrip-capacities
@@ -85,11 +86,12 @@ pub record Booked (words entry : List ℕ) (v : Words) (exit : List ℕ) : Type 
   pub state : state-of (shape-of v) ≡ booked words
   pub answered : exit ≡ written (booking-answers words) entry
 
-module _ {nodes edges live-nodes live-edges outgoing incoming words entry : List ℕ}
-    (b : Bookable nodes edges live-nodes live-edges outgoing incoming words entry) where
-  memory : (counts : Counts) → lengths-of (store counts nodes edges live-nodes live-edges outgoing incoming) ≡ exact lotstrip-capacities
+module _ {nodes lows highs live-nodes live-edges outgoing incoming words entry : List ℕ}
+    (b : Bookable nodes lows highs live-nodes live-edges outgoing incoming words entry) where
+  memory : (counts : Counts) → lengths-of (store counts nodes lows highs live-nodes live-edges outgoing incoming) ≡ exact lotstrip-capacities
   memory counts = λ i. record {
-    capacities = record { nodes = b .nodes-long i; edges = b .edges-long i };
+    capacities = record { nodes = b .nodes-long i; edges = b .lows-long i };
+    highs = b .highs-long i;
     live-nodes = b .live-nodes-long i;
     live-edges = b .live-edges-long i;
     outgoing = b .outgoing-long i;
@@ -101,11 +103,11 @@ module _ {nodes edges live-nodes live-edges outgoing incoming words entry : List
   fresh-done = refl
 
   pub booking : {counts : Counts} {number value number' value' : ℕ} {v : Words} {exit : List ℕ}
-      → FreshOf (store counts nodes edges live-nodes live-edges outgoing incoming) number value
-      → StripOf (store counts nodes edges live-nodes live-edges outgoing incoming) words entry number' value' v exit
+      → FreshOf (store counts nodes lows highs live-nodes live-edges outgoing incoming) number value
+      → StripOf (store counts nodes lows highs live-nodes live-edges outgoing incoming) words entry number' value' v exit
       → Booked words entry v exit
   booking {counts} made done =
-      let w = store counts nodes edges live-nodes live-edges outgoing incoming in
+      let w = store counts nodes lows highs live-nodes live-edges outgoing incoming in
       let s = state-of (shape-of w) in
       let checked = made .checked (ap (λ (a : Answer). a .number) (made .answered ∙ ap fresh (memory counts) ∙ fresh-done)) in
       let caps = ap (λ (l : Lengths). l .capacities) (memory counts) in

@@ -54,7 +54,7 @@ module _ (input : List ℕ) where
   too-long h = sym (rw (lt-ltb input-limit (length input) h))
 
   module _ (h : length input ≤ input-limit) where
-    -- "up to there a length not a multiple of 16 prints only `strip 3`"
+    -- "up to there a length not a multiple of 16 prints only `strip 3`", where "`lotstrip` takes 20 bytes" now
     pub ragged : (length input % operation-bytes ≡ 0 → ⊥) → codes "strip 3\n" ≡ lotstrip input
     unfolding lotstrip
     ragged k = sym (rw (le-ltb input-limit (length input) h, ne-eqb (length input % operation-bytes) 0 k))

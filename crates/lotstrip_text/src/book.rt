@@ -21,7 +21,8 @@ ghost use Rattle.lotstrip_text.specs.Booking.{image-room, Bookable, Book
 // Runs a strip on a fresh store.
 fn run_strip(
     nodes: &mut [u32],
-    edges: &mut [u32],
+    lows: &mut [u32],
+    highs: &mut [u32],
     live_nodes: &mut [u64],
     live_edges: &mut [u64],
     outgoing: &mut [u32],
@@ -29,16 +30,25 @@ fn run_strip(
     words: &[u32],
     answers: &mut [u32],
 ) -> Counts
-    requires { ⌜ Bookable (now nodes) (now edges) (now «live_nodes») (now «live_edges») (now outgoing) (now incoming) (now words) (now answers) ⌝ }
+    requires { ⌜ Bookable (now nodes) (now lows) (now highs) (now «live_nodes») (now «live_edges») (now outgoing) (now incoming) (now words) (now answers) ⌝ }
     ensures { λ r. ⌜ Booked (now (words .entry)) (now (answers .entry))
-        (at-exit r nodes edges «live_nodes» «live_edges» outgoing incoming)
+        (at-exit r nodes lows highs «live_nodes» «live_edges» outgoing incoming)
         (now (answers .exit)) ⌝ }
 {
-    let made = strip::fresh(nodes, edges, live_nodes, live_edges, outgoing, incoming);
+    let made = strip::fresh(
+        nodes,
+        lows,
+        highs,
+        live_nodes,
+        live_edges,
+        outgoing,
+        incoming,
+    );
     let done = strip::strip(
         made.counts,
         nodes,
-        edges,
+        lows,
+        highs,
         live_nodes,
         live_edges,
         outgoing,
@@ -53,16 +63,17 @@ fn run_strip(
 fn close(
     counts: Counts,
     nodes: &mut [u32],
-    edges: &mut [u32],
+    lows: &mut [u32],
+    highs: &mut [u32],
     live_nodes: &mut [u64],
     live_edges: &mut [u64],
     outgoing: &mut [u32],
     incoming: &mut [u32],
 ) -> Counts
-    requires { ⌜ Held (lent counts nodes edges «live_nodes» «live_edges» outgoing incoming) ⌝ }
+    requires { ⌜ Held (lent counts nodes lows highs «live_nodes» «live_edges» outgoing incoming) ⌝ }
     ensures { λ r. ⌜ Closed
-        (at-entry counts nodes edges «live_nodes» «live_edges» outgoing incoming)
-        (at-exit r nodes edges «live_nodes» «live_edges» outgoing incoming) ⌝ }
+        (at-entry counts nodes lows highs «live_nodes» «live_edges» outgoing incoming)
+        (at-exit r nodes lows highs «live_nodes» «live_edges» outgoing incoming) ⌝ }
 {
     let mut node_map: [u32; NODES] = [0; NODES];
     let mut edge_map: [u32; EDGES] = [0; EDGES];
@@ -70,7 +81,8 @@ fn close(
     let done = compact::compact(
         counts,
         nodes,
-        edges,
+        lows,
+        highs,
         live_nodes,
         live_edges,
         outgoing,
@@ -86,22 +98,24 @@ fn close(
 fn print_image(
     counts: Counts,
     nodes: &[u32],
-    edges: &[u32],
+    lows: &[u32],
+    highs: &[u32],
     live_nodes: &[u64],
     live_edges: &[u64],
     outgoing: &[u32],
     incoming: &[u32],
     bytes: &mut [u8],
 ) -> usize
-    requires { ⌜ Printable (lent counts nodes edges «live_nodes» «live_edges» outgoing incoming) (now bytes) ⌝ }
+    requires { ⌜ Printable (lent counts nodes lows highs «live_nodes» «live_edges» outgoing incoming) (now bytes) ⌝ }
     ensures { λ r. ⌜ Printed
-        (at-entry counts nodes edges «live_nodes» «live_edges» outgoing incoming)
+        (at-entry counts nodes lows highs «live_nodes» «live_edges» outgoing incoming)
         (now (bytes .entry)) r (now (bytes .exit)) ⌝ }
 {
     let done = image::write::write_image(
         counts,
         nodes,
-        edges,
+        lows,
+        highs,
         live_nodes,
         live_edges,
         outgoing,
@@ -117,14 +131,16 @@ pub fn book(words: &[u32], answers: &mut [u32], bytes: &mut [u8]) -> usize
     ensures { λ r. ⌜ Closing (now (words .entry)) (now (answers .entry)) (now (bytes .entry)) (now (answers .exit)) r (now (bytes .exit)) ⌝ }
 {
     let mut nodes: [u32; NODES] = [0; NODES];
-    let mut edges: [u32; EDGES] = [0; EDGES];
+    let mut lows: [u32; EDGES] = [0; EDGES];
+    let mut highs: [u32; EDGES] = [0; EDGES];
     let mut live_nodes: [u64; LIVE_NODES] = [0; LIVE_NODES];
     let mut live_edges: [u64; LIVE_EDGES] = [0; LIVE_EDGES];
     let mut outgoing: [u32; AXIS] = [0; AXIS];
     let mut incoming: [u32; AXIS] = [0; AXIS];
     let counts = run_strip(
         &mut nodes,
-        &mut edges,
+        &mut lows,
+        &mut highs,
         &mut live_nodes,
         &mut live_edges,
         &mut outgoing,
@@ -135,7 +151,8 @@ pub fn book(words: &[u32], answers: &mut [u32], bytes: &mut [u8]) -> usize
     let counts = close(
         counts,
         &mut nodes,
-        &mut edges,
+        &mut lows,
+        &mut highs,
         &mut live_nodes,
         &mut live_edges,
         &mut outgoing,
@@ -144,7 +161,8 @@ pub fn book(words: &[u32], answers: &mut [u32], bytes: &mut [u8]) -> usize
     print_image(
         counts,
         &nodes,
-        &edges,
+        &lows,
+        &highs,
         &live_nodes,
         &live_edges,
         &outgoing,

@@ -23,22 +23,25 @@ then-lacking : (needs has : ℕ) (slices : List Slice) {rest answer : Answer} �
 unfolding lacking first-short
 then-lacking needs has slices is judged = judged ∙ by-test (leb needs has) (λ q. rw (q, is)) (λ q. rw q)
 
--- every slice but the payloads
-pub others-lacking : (l : Lengths) {axis edge-words node-words : ℕ} {incoming outgoing live-edges live-nodes : Answer} → axis ≡ axis-length (l .capacities)
+-- every slice but those whose lengths are the capacities
+pub others-lacking : (l : Lengths) {axis edge-words node-words : ℕ} {incoming outgoing live-edges live-nodes highs : Answer} → axis ≡ axis-length (l .capacities)
     → edge-words ≡ live-words (l .capacities .edges) → node-words ≡ live-words (l .capacities .nodes) → incoming ≡ lacking axis (l .incoming) (record { number = 0; value = 0 })
     → outgoing ≡ lacking axis (l .outgoing) incoming → live-edges ≡ lacking edge-words (l .live-edges) outgoing → live-nodes ≡ lacking node-words (l .live-nodes) live-edges
-    → live-nodes ≡ short-answer (first-short (other-slices l))
+    → highs ≡ lacking (l .capacities .edges) (l .highs) live-nodes → highs ≡ short-answer (first-short (other-slices l))
 unfolding first-short
-others-lacking l {incoming = incoming} {outgoing} {live-edges} axis-is edges-are nodes-are a b c d =
+others-lacking l {incoming = incoming} {outgoing} {live-edges} axis-is edges-are nodes-are a b c d e =
     let ins : List Slice = record { needs = axis-length (l .capacities); has = l .incoming } ∷ [] in
     let outs : List Slice = record { needs = axis-length (l .capacities); has = l .outgoing } ∷ ins in
     let edges : List Slice = record { needs = live-words (l .capacities .edges); has = l .live-edges } ∷ outs in
-    then-lacking (live-words (l .capacities .nodes)) (l .live-nodes) edges
+    let nodes : List Slice = record { needs = live-words (l .capacities .nodes); has = l .live-nodes } ∷ edges in
+    then-lacking (l .capacities .edges) (l .highs) nodes
+    (then-lacking (live-words (l .capacities .nodes)) (l .live-nodes) edges
     (then-lacking (live-words (l .capacities .edges)) (l .live-edges) outs
     (then-lacking (axis-length (l .capacities)) (l .outgoing) ins (then-lacking (axis-length (l .capacities)) (l .incoming) [] refl (a ∙ ap (λ (n : ℕ). lacking n (l .incoming) (record { number = 0; value = 0 })) axis-is))
     (b ∙ ap (λ (n : ℕ). lacking n (l .outgoing) incoming) axis-is))
     (c ∙ ap (λ (n : ℕ). lacking n (l .live-edges) outgoing) edges-are))
-    (d ∙ ap (λ (n : ℕ). lacking n (l .live-nodes) live-edges) nodes-are)
+    (d ∙ ap (λ (n : ℕ). lacking n (l .live-nodes) live-edges) nodes-are))
+    e
 
 module _ (most : Capacities) (number : ℕ) (l : Lengths) (rule n m : ℕ) where
   pub read-nodes-above : most .nodes < l .capacities .nodes → record { number = number; value = l .capacities .nodes } ≡ reading-within most number l rule n m
@@ -91,6 +94,7 @@ broken-read most number l (suc rule) n m n' m' broke = refl
 pub record Roomy (most : Capacities) (l : Lengths) : Type 0 where
   pub few-nodes : l .capacities .nodes ≤ most .nodes
   pub few-edges : l .capacities .edges ≤ most .edges
+  pub highs-room : l .capacities .edges ≤ l .highs
   pub live-nodes-room : live-words (l .capacities .nodes) ≤ l .live-nodes
   pub live-edges-room : live-words (l .capacities .edges) ≤ l .live-edges
   pub outgoing-room : axis-length (l .capacities) ≤ l .outgoing
@@ -134,10 +138,11 @@ module _ (most : Capacities) (number : ℕ) (some-number : number ≡ 0 → ⊥)
   roomy-for = each long
     where
       each : LongEnough (reading-slices n m l) → RoomyFor most l rule n m
-      each (slice-fits nodes (slice-fits edges (slice-fits live-nodes (slice-fits live-edges (slice-fits outgoing (slice-fits incoming no-slice)))))) = record {
+      each (slice-fits nodes (slice-fits edges (slice-fits highs (slice-fits live-nodes (slice-fits live-edges (slice-fits outgoing (slice-fits incoming no-slice))))))) = record {
         roomy = record {
           few-nodes = few-nodes;
           few-edges = few-edges;
+          highs-room = highs;
           live-nodes-room = live-nodes;
           live-edges-room = live-edges;
           outgoing-room = outgoing;

@@ -14,9 +14,10 @@ abbrev pub caps : ℕ → ℕ → Capacities
 caps nodes edges = record { nodes = nodes; edges = edges }
 
 -- the lengths of a store's slices, in parameter order
-abbrev pub lengths : ℕ → ℕ → ℕ → ℕ → ℕ → ℕ → Lengths
-lengths nodes edges live-nodes live-edges outgoing incoming = record {
-  capacities = caps nodes edges;
+abbrev pub lengths : ℕ → ℕ → ℕ → ℕ → ℕ → ℕ → ℕ → Lengths
+lengths nodes lows highs live-nodes live-edges outgoing incoming = record {
+  capacities = caps nodes lows;
+  highs = highs;
   live-nodes = live-nodes;
   live-edges = live-edges;
   outgoing = outgoing;
@@ -24,7 +25,7 @@ lengths nodes edges live-nodes live-edges outgoing incoming = record {
 }
 
 abbrev pub measured : Measures → Lengths
-measured l = lengths (l .nodes) (l .edges) (l .«live_nodes») (l .«live_edges») (l .outgoing) (l .incoming)
+measured l = lengths (l .nodes) (l .lows) (l .highs) (l .«live_nodes») (l .«live_edges») (l .outgoing) (l .incoming)
 
 abbrev pub limits-of : Limits → Capacities
 limits-of l = caps (l .nodes) (l .edges)

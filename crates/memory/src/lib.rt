@@ -9,10 +9,11 @@ ghost use Rattle.plain.specs.Memory.{first-short, other-slices, live-words, axi
 ghost use Rattle.plain.specs.Calls.{fresh-within, short-answer};
 ghost use Rattle.memory.specs.Lengths.{caps, measured, limits-of, lacking as lacking-of, Few, FewSlots, reading-within};
 
-// The lengths of a store's slices, in parameter order. Those of the payloads are the capacities.
+// The lengths of a store's slices, in parameter order. Those of the nodes' payloads and of the edges' lows are the capacities.
 pub struct Lengths {
     pub nodes: usize,
-    pub edges: usize,
+    pub lows: usize,
+    pub highs: usize,
     pub live_nodes: usize,
     pub live_edges: usize,
     pub outgoing: usize,
@@ -64,20 +65,21 @@ fn lacking(needs: usize, has: usize, rest: Answer) -> Answer
     }
 }
 
-// 2 for the first slice beside the payloads that is too short.
+// 2 for the first slice beside those two that is too short.
 fn others(lengths: Lengths) -> Answer
-    requires { ⌜ Few (lengths .nodes) (lengths .edges) ⌝ }
+    requires { ⌜ Few (lengths .nodes) (lengths .lows) ⌝ }
     ensures { λ r. ⌜ r ≡ short-answer (first-short (other-slices (measured lengths))) ⌝ }
 {
     let done = Answer {
         number: numbers::DONE,
         value: 0,
     };
-    let axis = axis_length(lengths.nodes, lengths.edges);
+    let axis = axis_length(lengths.nodes, lengths.lows);
     let incoming = lacking(axis, lengths.incoming, done);
     let outgoing = lacking(axis, lengths.outgoing, incoming);
-    let live = lacking(live_words(lengths.edges), lengths.live_edges, outgoing);
-    lacking(live_words(lengths.nodes), lengths.live_nodes, live)
+    let live_edges = lacking(live_words(lengths.lows), lengths.live_edges, outgoing);
+    let live_nodes = lacking(live_words(lengths.nodes), lengths.live_nodes, live_edges);
+    lacking(lengths.lows, lengths.highs, live_nodes)
 }
 
 // The answer of reading an image into memory of these lengths, by the image's first broken rule, 0 for none, and its two counts: the limits, 12, 2.
@@ -91,7 +93,7 @@ pub fn reading_answer(
     ensures { λ r. ⌜ r ≡ reading-within (limits-of limits) (limits .number) (measured lengths) rule «count_nodes» «count_edges» ⌝ }
 {
     let nodes = lengths.nodes;
-    let edges = lengths.edges;
+    let edges = lengths.lows;
     if (limits.nodes as usize) < nodes {
         return Answer {
             number: limits.number,

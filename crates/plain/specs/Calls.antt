@@ -8,11 +8,12 @@ use lib.ListN.{length}
 use lib.Dec.{eqb, ltb}
 use Rattle.plain.specs.declared.Answer.{Answer}
 use Rattle.plain.specs.declared.Record.{Record}
+use Rattle.plain.specs.declared.Total.{Total}
 use Rattle.plain.specs.Numbers.{NONE, LIMIT, done, no-store, too-short, ragged, not-compact, unreadable, above-limit}
 use Rattle.plain.specs.Plain.{Plain, empty, node-bound, edge-bound, node-flags, edge-flags}
 use Rattle.plain.specs.Operations.{operations, operation-words}
 use Rattle.plain.specs.Step.{Capacities, State, run, answers}
-use Rattle.plain.specs.Reads.{Reply, lent, live-edges, no-record}
+use Rattle.plain.specs.Reads.{Reply, lent, live-edges, no-record, no-total}
 use Rattle.plain.specs.Compaction.{survivors, of-survivors, compacted, renumbering, adjacency}
 use Rattle.plain.specs.Image.{image, parsed, broken-image, nodes-in, edges-in}
 use Rattle.plain.specs.Memory.{Slice, first-short, Lengths, other-slices}
@@ -31,6 +32,10 @@ judged-reply (suc rule) reply = record { number = no-store; value = suc rule; wo
 abbrev pub judged-record : ℕ → Record → Record
 judged-record zero r = r
 judged-record (suc rule) r = no-record no-store (suc rule)
+
+abbrev pub judged-total : ℕ → Total → Total
+judged-total zero t = t
+judged-total (suc rule) t = no-total no-store (suc rule)
 
 -- "The check, the yes or no reads of a store, bounds and counts: 1."
 unfoldable pub check : ℕ → Answer

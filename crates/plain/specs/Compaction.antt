@@ -10,7 +10,8 @@ use Rattle.plain.specs.declared.TraversalDirection.{TraversalDirection}
 use Rattle.plain.specs.declared.TraversalDirection.the-variants.{Outgoing, Incoming}
 use Rattle.plain.specs.Numbers.{NONE}
 use Rattle.plain.specs.Lists.{joined}
-use Rattle.plain.specs.Plain.{Plain, NodeSlot, EdgeSlot, EdgePayload, no-node, no-edge, node-flags, edge-flags, list-of, end-of}
+use Rattle.plain.specs.declared.EdgePayload.{EdgePayload}
+use Rattle.plain.specs.Plain.{Plain, NodeSlot, EdgeSlot, no-node, no-edge, node-flags, edge-flags, list-of, end-of}
 use Rattle.plain.specs.Reads.{live-slots}
 
 -- how many live slots stand before slot x: the number that x gets if it is live
@@ -71,6 +72,9 @@ source-of r = r .source
 
 abbrev pub target-of : EdgeRecord → ℕ
 target-of r = r .target
+
+abbrev pub payload-of : EdgeRecord → EdgePayload
+payload-of r = r .payload
 
 -- survivors as plain lists: every slot live, the bounds their counts
 unfoldable pub of-survivors : Survivors → Plain

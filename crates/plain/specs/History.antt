@@ -16,7 +16,7 @@ pub data Call : Type 0 where
   Strip : List ℕ → ℕ → Call
   -- the lengths of the node map, the edge map and the work slice
   Compaction : ℕ → ℕ → ℕ → Call
-  -- an image's bytes, read into the store's own six slices
+  -- an image's bytes, read into the store's own seven slices
   Reading : List ℕ → Call
 
 -- What a call comes to: number and value, the words that each lent answer slice then starts with, in parameter order, and the store.

@@ -1,4 +1,4 @@
--- The image: writing it from the survivors, and reading it from bytes. Document 01, "The image".
+-- The image: writing it from the survivors, and reading it from bytes. Document 01, "The image"; document 02, No. 8.
 use Prim.Native.Nat.{ℕ, zero, suc, _+_, _*_, _-_}
 use mathlib.Core.Bool.{Bool, true, cond, _&&_, _||_, not}
 use mathlib.Core.List.{List, [], _∷_, _++_, map}
@@ -6,7 +6,8 @@ use lib.ListN.{length, take, drop, getD}
 use lib.Dec.{eqb, ltb}
 use Rattle.plain.specs.Numbers.{LIMIT}
 use Rattle.plain.specs.Lists.{joined, all, distinct, count, from}
-use Rattle.plain.specs.Plain.{EdgePayload}
+use Rattle.plain.specs.declared.EdgePayload.{EdgePayload}
+use Rattle.plain.specs.Plain.{ordered}
 use Rattle.plain.specs.Compaction.{EdgeRecord, Survivors, source-of, target-of}
 use Rattle.plain.specs.Bits.{bits-of, field-at, fields-at, row, pack, bytes-for, least-width}
 
@@ -20,20 +21,23 @@ count-width = 16
 abbrev pub node-payload-width : ℕ
 node-payload-width = 32
 
--- "per edge source, target (w bits each), payload (32)"
+-- "the image's edge record holds low then high in 64 bits"
+abbrev pub weight-width : ℕ
+weight-width = 32
+
 abbrev pub edge-payload-width : ℕ
-edge-payload-width = 32
+edge-payload-width = weight-width + weight-width
 
 -- the payload of an edge as bits, and as it is read from bit p on
 abbrev pub payload-bits : EdgePayload → List ℕ
-payload-bits payload = bits-of edge-payload-width payload
+payload-bits payload = bits-of weight-width (payload .low) ++ bits-of weight-width (payload .high)
 
 abbrev pub payload-at : List ℕ → ℕ → EdgePayload
-payload-at bytes p = field-at bytes p edge-payload-width
+payload-at bytes p = record { low = field-at bytes p weight-width; high = field-at bytes (p + weight-width) weight-width }
 
 -- ---- writing
 
--- "per edge source, target (w bits each), payload (32)"
+-- "per edge source, target (w bits each), payload", which is 64 bits now
 unfoldable pub edge-bits : ℕ → List EdgeRecord → List ℕ
 edge-bits w [] = []
 edge-bits w (e ∷ es) = bits-of w (e .source) ++ (bits-of w (e .target) ++ (payload-bits (e .payload) ++ edge-bits w es))
@@ -117,8 +121,13 @@ unfoldable pub lists-right : List ℕ → List (List ℕ) → Bool
 lists-right ends lists =
     all (λ e. ltb e (length ends)) (joined lists) && (distinct (joined lists) && at-their-nodes ends 0 lists)
 
+-- rule 5 of one edge: no "end not below n", and no low above its high
+abbrev pub record-right : ℕ → EdgeRecord → Bool
+record-right n e = ltb (e .source) n && (ltb (e .target) n && ordered (e .payload))
+
 -- "Rules of 12: (1) under 4 bytes; (2) count above 32,768; (3) other length; (4) padding set; (5) end not below n; (6) list entry not below m, repeated, or
--- at the wrong node." The first broken rule, 0 where the bytes are an image. The length that rule 3 expects comes from the two counts alone.
+-- at the wrong node." Rule 5 is broken by a low above its high too (document 02, No. 8). The first broken rule, 0 where the bytes are an image. The length that
+-- rule 3 expects comes from the two counts alone.
 unfoldable pub broken-image : List ℕ → ℕ
 broken-image bytes =
     let n = nodes-in bytes in
@@ -128,5 +137,5 @@ broken-image bytes =
     (cond (ltb LIMIT n || ltb LIMIT m) 2
     (cond (not (eqb (length bytes) (bytes-for (image-size n m)))) 3
     (cond (not (eqb (field-at bytes (image-size n m) (8 * length bytes - image-size n m)) 0)) 4
-    (cond (not (all (λ (e : EdgeRecord). ltb (e .source) n && ltb (e .target) n) (s .edges))) 5
+    (cond (not (all (record-right n) (s .edges))) 5
     (cond (not (lists-right (map source-of (s .edges)) (s .outs) && lists-right (map target-of (s .edges)) (s .ins))) 6 0)))))

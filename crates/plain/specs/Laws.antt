@@ -10,6 +10,7 @@ pub mod CallCases
 pub mod Strips
 pub mod Rank
 pub mod Finding
+pub mod Totals
 pub mod Renumberings
 pub mod Fitting
 pub mod Compacting

@@ -27,6 +27,11 @@ same [] (y ∷ ys) = false
 same (x ∷ xs) [] = false
 same (x ∷ xs) (y ∷ ys) = eqb x y && same xs ys
 
+-- the numbers of a list, added up
+unfoldable pub sum : List ℕ → ℕ
+sum [] = 0
+sum (n ∷ ns) = n + sum ns
+
 -- n numbers from a on
 unfoldable pub from : ℕ → ℕ → List ℕ
 from a zero = []

@@ -64,7 +64,7 @@ answer-lines i (number ∷ value ∷ rest) =
 
 -- ---- the program
 
--- the bytes of a word, and of one operation
+-- the bytes of a word, and of one operation: "`lotstrip` takes 20 bytes"
 abbrev pub word-bytes : ℕ
 word-bytes = 4
 
@@ -82,7 +82,8 @@ lotstrip-run s words =
     answer-lines 0 (answers lotstrip-capacities s ops)
     ++ (hexadecimal (image (survivors (run lotstrip-capacities s ops .lists))) ++ (newline ∷ []))
 
--- "at most 65,536 bytes (more prints only `strip 2`; up to there a length not a multiple of 16 prints only `strip 3`)"
+-- "at most 65,536 bytes (more prints only `strip 2`; up to there a length not a multiple of 16 prints only `strip 3`)"; since an
+-- operation has 20 bytes, a multiple of 20 now
 unfoldable pub lotstrip : List ℕ → List ℕ
 lotstrip input =
     cond (ltb input-limit (length input)) (codes "strip 2\n")

@@ -25,18 +25,21 @@ live-words n = (n + 63) / 64
 abbrev pub axis-length : Capacities → ℕ
 axis-length caps = 4 * caps .edges + 6 * caps .nodes + 1
 
--- The lengths of a store's slices. "The capacities are the lengths of the two payload slices."
+-- The lengths of a store's slices. "The capacities are the lengths of the two payload slices"; of an edge's payload "in two slices; the low one's length is the
+-- capacity".
 pub record Lengths : Type 0 where
   pub capacities : Capacities
+  pub highs : ℕ
   pub live-nodes : ℕ
   pub live-edges : ℕ
   pub outgoing : ℕ
   pub incoming : ℕ
 
--- every slice but the payloads, in parameter order
+-- every slice but the nodes' payloads and the edges' lows, in parameter order
 abbrev pub other-slices : Lengths → List Slice
 other-slices l =
-    record { needs = live-words (l .capacities .nodes); has = l .live-nodes }
+    record { needs = l .capacities .edges; has = l .highs }
+    ∷ record { needs = live-words (l .capacities .nodes); has = l .live-nodes }
     ∷ record { needs = live-words (l .capacities .edges); has = l .live-edges }
     ∷ record { needs = axis-length (l .capacities); has = l .outgoing } ∷ record { needs = axis-length (l .capacities); has = l .incoming } ∷ []
 
@@ -44,6 +47,7 @@ other-slices l =
 abbrev pub exact : Capacities → Lengths
 exact caps = record {
   capacities = caps;
+  highs = caps .edges;
   live-nodes = live-words (caps .nodes);
   live-edges = live-words (caps .edges);
   outgoing = axis-length caps;

@@ -1,5 +1,5 @@
--- The numbers that calls and operations answer: the table of document 01, "The strip". Numbers 1, 2, 3, 11, 12 and 13 are a call's alone and leave
--- "everything" as it was; 4 to 10 are an operation's and leave the "store". Of these the reads answer 5, 7 and 8 too, "walk: 1, 5, 2", "live record 1, 7, 8",
+-- The numbers that calls and operations answer: the table of document 01, "The strip", and document 02. Numbers 1, 2, 3, 11, 12 and 13 are a call's alone and
+-- leave "everything" as it was; 4 to 10 and 16 are an operation's and leave the "store". Of these the reads answer 5, 7 and 8 too, "walk: 1, 5, 2", "live record 1, 7, 8",
 -- and write nothing then.
 use Prim.Native.Nat.{ℕ}
 
@@ -23,7 +23,7 @@ no-store = 1
 abbrev pub too-short : ℕ
 too-short = 2
 
--- strip not a multiple of four
+-- strip not a multiple of five: "Number 3 now concerns multiples of five."
 abbrev pub ragged : ℕ
 ragged = 3
 
@@ -66,3 +66,7 @@ unreadable = 12
 -- capacity above 32,768
 abbrev pub above-limit : ℕ
 above-limit = 13
+
+-- document 02, No. 8: "It refuses with 16, value NONE and the store untouched, for a low above its high in codes 2 and 9, directly after 4."
+abbrev pub inverted : ℕ
+inverted = 16

@@ -4,13 +4,22 @@ use mathlib.Core.Bool.{Bool, true, false}
 use mathlib.Core.Option.{Option}
 use mathlib.Core.List.{List, [], _∷_, _++_, map}
 use lib.ListN.{length, getD, set, getElem?}
+use lib.Dec.{leb}
 use Rattle.plain.specs.declared.TraversalDirection.{TraversalDirection}
 use Rattle.plain.specs.declared.TraversalDirection.the-variants.{Outgoing, Incoming}
+use Rattle.plain.specs.declared.EdgePayload.{EdgePayload}
 use Rattle.plain.specs.Lists.{append-at, delete-at, set-all}
 
--- "Payloads `N` and `E` become `u32`."
-abbrev pub EdgePayload : Type 0
-EdgePayload = ℕ
+-- "A transfer's payload becomes low and high, `u32` each"
+abbrev pub low-of : EdgePayload → ℕ
+low-of payload = payload .low
+
+abbrev pub high-of : EdgePayload → ℕ
+high-of payload = payload .high
+
+-- whether it is no "low above its high"
+abbrev pub ordered : EdgePayload → Bool
+ordered payload = leb (payload .low) (payload .high)
 
 -- "A slot is a number given by the store; it is live until removed." Slot x is the element x of a list of slots.
 pub record NodeSlot : Type 0 where
@@ -126,8 +135,11 @@ detached e i = record { ends = i .ends; lists = delete-at (getD (i .ends) e 0) e
 abbrev pub no-node : NodeSlot
 no-node = record { payload = 0; live = false }
 
+abbrev pub no-payload : EdgePayload
+no-payload = record { low = 0; high = 0 }
+
 abbrev pub no-edge : EdgeSlot
-no-edge = record { payload = 0; live = false }
+no-edge = record { payload = no-payload; live = false }
 
 -- "Removing an edge deletes it from both."
 unfoldable pub edge-removed : ℕ → Plain → Plain

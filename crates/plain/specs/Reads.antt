@@ -1,4 +1,4 @@
--- What each read of a store answers, on the plain lists. Document 01, "The strip": values, numbers and order.
+-- What each read of a store answers, on the plain lists. Document 01, "The strip": values, numbers and order; document 02, Nos. 1 and 8.
 use Prim.Native.Nat.{ℕ, zero, suc}
 use mathlib.Core.Bool.{Bool, true, false, cond}
 use mathlib.Core.Option.{Option, none, some}
@@ -8,10 +8,12 @@ use lib.Dec.{eqb, leb}
 use Rattle.plain.specs.declared.TraversalDirection.{TraversalDirection}
 use Rattle.plain.specs.declared.TraversalDirection.the-variants.{Outgoing, Incoming}
 use Rattle.plain.specs.declared.Answer.{Answer}
+use Rattle.plain.specs.declared.EdgePayload.{EdgePayload}
 use Rattle.plain.specs.declared.Record.{Record}
+use Rattle.plain.specs.declared.Total.{Total}
 use Rattle.plain.specs.Numbers.{NONE, done, too-short, out-of-range-node, out-of-range-edge, removed-edge}
-use Rattle.plain.specs.Lists.{keep, count}
-use Rattle.plain.specs.Plain.{Plain, NodeSlot, EdgeSlot, node-bound, edge-bound, node-flags, edge-flags, node-slot, edge-slot, list-of, end-of, opposite}
+use Rattle.plain.specs.Lists.{sum, keep, count}
+use Rattle.plain.specs.Plain.{low-of, high-of, Plain, NodeSlot, EdgeSlot, no-payload, no-edge, node-bound, edge-bound, node-flags, edge-flags, node-slot, edge-slot, list-of, end-of, opposite}
 use Rattle.plain.specs.Step.{State, node-missing, live-node, live-edge}
 
 -- ---- answers: "the entries of a walk, degree or list of live slots, the payload of a node, a bound or count itself, the slot a map lookup gives or NONE, the
@@ -76,7 +78,7 @@ node-payload p x = payload-answer (node-slot p x)
 
 -- "If refused, all three are 0."
 abbrev pub no-record : ℕ → ℕ → Record
-no-record number value = record { number = number; value = value; source = 0; target = 0; payload = 0 }
+no-record number value = record { number = number; value = value; source = 0; target = 0; payload = no-payload }
 
 -- "A record's source, target and payload come beside the value 0."
 abbrev pub record-of : Plain → ℕ → EdgeSlot → Record
@@ -97,6 +99,26 @@ live-record-answer p e (some s) = cond (s .live) (record-of p e s) (no-record re
 -- "the wrapper `EdgeView::edge` .. refuses them"; "live record 1, 7, 8"
 unfoldable pub live-edge-record : Plain → ℕ → Record
 live-edge-record p e = live-record-answer p e (edge-slot p e)
+
+-- ---- totals
+
+-- the payloads of a node's out-list or in-list, in its order
+abbrev pub payloads-of : TraversalDirection → Plain → ℕ → List EdgePayload
+payloads-of d p x = map (λ e. getD (p .edges) e no-edge .payload) (list-of d p x)
+
+-- refused "with both sums 0"
+abbrev pub no-total : ℕ → ℕ → Total
+no-total number value = record { number = number; value = value; low = 0; high = 0 }
+
+abbrev pub total-unless : ℕ → Total → Total
+total-unless zero total = total
+total-unless (suc number) total = no-total (suc number) NONE
+
+-- "the total of a lot's in-list and of its out-list as a low and a high sum"; "A total refuses 1, then 5, with both sums 0; done, its value is 0"
+unfoldable pub total : TraversalDirection → Plain → ℕ → Total
+total d p x =
+    let payloads = payloads-of d p x in
+    total-unless (node-missing p x) (record { number = done; value = 0; low = sum (map low-of payloads); high = sum (map high-of payloads) })
 
 -- ---- reads of the whole store: "The check, the yes or no reads of a store, bounds and counts: 1."
 

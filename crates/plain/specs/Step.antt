@@ -1,4 +1,4 @@
--- One operation of a strip, and a strip: number, value and plain lists. Document 01, "The strip".
+-- One operation of a strip, and a strip: number, value and plain lists. Document 01, "The strip"; document 02, No. 8.
 use Prim.Native.Nat.{ℕ, zero, suc}
 use mathlib.Core.Bool.{Bool, true, false, cond, _&&_}
 use mathlib.Core.Option.{Option, none, some, Option·map}
@@ -6,10 +6,11 @@ use mathlib.Core.List.{List, [], _∷_}
 use lib.ListN.{length}
 use lib.Dec.{eqb, leb}
 use Rattle.plain.specs.declared.TraversalDirection.{TraversalDirection}
+use Rattle.plain.specs.declared.EdgePayload.{EdgePayload}
 use Rattle.plain.specs.declared.Operation.{Operation}
 use Rattle.plain.specs.declared.Operation.the-variants.{AddNode, AddEdge, RemoveEdge, RemoveNode, Redirect, Move, SetPayload, Unknown}
-use Rattle.plain.specs.Numbers.{NONE, done, unknown-code, out-of-range-node, removed-node, out-of-range-edge, removed-edge, onto-itself, full}
-use Rattle.plain.specs.Plain.{Plain, NodeSlot, EdgeSlot, incidence, with-incidence, node-bound, edge-bound, node-slot, edge-slot, list-of, end-of, node-added, edge-added, edge-removed, node-removed, redirected, moved, payload-set}
+use Rattle.plain.specs.Numbers.{NONE, done, unknown-code, out-of-range-node, removed-node, out-of-range-edge, removed-edge, onto-itself, full, inverted}
+use Rattle.plain.specs.Plain.{ordered, Plain, NodeSlot, EdgeSlot, incidence, with-incidence, node-bound, edge-bound, node-slot, edge-slot, list-of, end-of, node-added, edge-added, edge-removed, node-removed, redirected, moved, payload-set}
 
 -- "The capacities are the lengths of the two payload slices."
 pub record Capacities : Type 0 where
@@ -77,6 +78,10 @@ room-fault bound capacity = cond (leb capacity bound) full 0
 abbrev pub self-fault : ℕ → ℕ → ℕ
 self-fault old new = cond (eqb old new) onto-itself 0
 
+-- "It refuses with 16, .. for a low above its high in codes 2 and 9, directly after 4."
+abbrev pub payload-fault : EdgePayload → ℕ
+payload-fault payload = cond (ordered payload) 0 inverted
+
 -- ---- the operations
 
 -- "For removals 1 or 0, where 0 means nothing live was there."
@@ -100,19 +105,21 @@ moving d old new (e ∷ es) p =
 -- The operation's number, value and lists. "Values: new slot; for removals 1 or 0, where 0 means nothing live was there; previous end; edges moved; 0 for code
 -- 9." Its refusals in document 01's order:
 -- "Add node: 4, 10. Removals: 4. Set payload: 4, 7. Add edge: 4, source 5, 6, target 5, 6, then 10. Redirect: 4, 7, 8, 5, 6.
--- Move: 4, 9, old 5; an empty walk is done, value 0; then new 5, 6."
+-- Move: 4, 9, old 5; an empty walk is done, value 0; then new 5, 6." With document 02's 16 "directly after 4" of add edge and set payload.
 unfoldable pub step : Capacities → Plain → Operation → Outcome
 step caps p (AddNode payload) = unless (room-fault (node-bound p) (caps .nodes)) p (changed (node-bound p) (node-added payload p))
 step caps p (AddEdge source target payload) =
-    unless (node-fault p source) p
+    unless (payload-fault payload) p
+    (unless (node-fault p source) p
     (unless (node-fault p target) p
-    (unless (room-fault (edge-bound p) (caps .edges)) p (changed (edge-bound p) (edge-added source target payload p))))
+    (unless (room-fault (edge-bound p) (caps .edges)) p (changed (edge-bound p) (edge-added source target payload p)))))
 step caps p (RemoveEdge e) = removing (live-edge (edge-slot p e)) p (edge-removed e p)
 step caps p (RemoveNode x) = removing (live-node (node-slot p x)) p (node-removed x p)
 step caps p (Redirect d e new) = unless (edge-fault p e) p (unless (node-fault p new) p (redirecting d e new p))
 step caps p (Move d old new) = unless (self-fault old new) p (unless (node-missing p old) p (moving d old new (list-of d p old) p))
 step caps p (SetPayload e payload) =
-    unless (edge-missing p e) p (record { number = done; value = 0; lists = payload-set e payload p; keeps-compact = true })
+    unless (payload-fault payload) p (unless (edge-missing p e) p
+    (record { number = done; value = 0; lists = payload-set e payload p; keeps-compact = true }))
 step caps p Unknown = refused unknown-code p
 
 -- ---- the strip

@@ -6,12 +6,18 @@ use mathlib.Core.List.{List, [], map}
 use lib.ListN.{length, getD}
 use lib.Dec.{eqb}
 use Rattle.plain.specs.declared.TraversalDirection.{TraversalDirection}
+use Rattle.plain.specs.declared.EdgePayload.{EdgePayload}
 use Rattle.plain.specs.Numbers.{LIMIT}
 use Rattle.plain.specs.Lists.{member, distinct}
-use Rattle.plain.specs.Plain.{Plain, Incidence, no-node, no-edge, node-bound, edge-bound, node-flags, edge-flags, end-of}
+use Rattle.plain.specs.Plain.{Plain, Incidence, no-node, no-payload, no-edge, node-bound, edge-bound, node-flags, edge-flags, end-of}
 use Rattle.plain.specs.Step.{Capacities}
-use Rattle.plain.specs.Compaction.{EdgeRecord, Survivors, source-of, target-of}
+use Rattle.plain.specs.Compaction.{Survivors, source-of, target-of, payload-of}
 use Rattle.plain.specs.Image.{list-lengths, lists-right}
+
+-- The payload of an edge: its low is not above its high, and the high fits a word of 32 bits; so the low does.
+pub record Weighed (payload : EdgePayload) : Type 0 where
+  pub in-order : payload .low ≤ payload .high
+  pub fits : payload .high < 2 ^ 32
 
 -- One direction of n node slots, with these flags of the edge slots.
 pub record Incident (flags : List Bool) (n : ℕ) (i : Incidence) : Type 0 where
@@ -34,9 +40,9 @@ pub record WellFormed (caps : Capacities) (p : Plain) : Type 0 where
   pub incoming : Incident (edge-flags p) (node-bound p) (p .incoming)
   -- the ends of live edges are live nodes; so a removed node's lists are empty
   pub ends-live : (d : TraversalDirection) (e : ℕ) → getD (edge-flags p) e false ≡ true → getD (node-flags p) (end-of d p e) false ≡ true
-  -- payloads fit their words
+  -- payloads fit their words, and no edge slot, "removed or not", holds "a low above its high"
   pub node-payloads : (x : ℕ) → getD (p .nodes) x no-node .payload < 2 ^ 32
-  pub edge-payloads : (e : ℕ) → getD (p .edges) e no-edge .payload < 2 ^ 32
+  pub edge-payloads : (e : ℕ) → Weighed (getD (p .edges) e no-edge .payload)
 
 -- One direction of survivors: n nodes, the end of each edge, the list of each node.
 pub record Fitted (n : ℕ) (ends : List ℕ) (lists : List (List ℕ)) : Type 0 where
@@ -51,6 +57,6 @@ pub record Sound (s : Survivors) : Type 0 where
   pub nodes-within : length (s .nodes) ≤ LIMIT
   pub edges-within : length (s .edges) ≤ LIMIT
   pub node-payloads : (x : ℕ) → getD (s .nodes) x 0 < 2 ^ 32
-  pub edge-payloads : (e : ℕ) → getD (map (λ (r : EdgeRecord). r .payload) (s .edges)) e 0 < 2 ^ 32
+  pub edge-payloads : (e : ℕ) → Weighed (getD (map payload-of (s .edges)) e no-payload)
   pub outs : Fitted (length (s .nodes)) (map source-of (s .edges)) (s .outs)
   pub ins : Fitted (length (s .nodes)) (map target-of (s .edges)) (s .ins)

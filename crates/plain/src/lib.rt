@@ -12,8 +12,8 @@ pub const NONE: u32 = 4294967295;
 // The most node slots, and the most edge slots, that a store may have.
 pub const LIMIT: u32 = 32768;
 
-// The words of an operation in a strip: code, first, second, payload.
-pub const OPERATION_WORDS: usize = 4;
+// The words of an operation in a strip: code, first, second, low, high.
+pub const OPERATION_WORDS: usize = 5;
 
 // Direction in which a walk follows edges.
 pub enum TraversalDirection {
@@ -21,6 +21,13 @@ pub enum TraversalDirection {
     Outgoing,
     // From target to source: an edge is in the list of its target.
     Incoming,
+}
+
+// The payload of an edge: its lowest and its highest weight.
+#[repr(C)]
+pub struct EdgePayload {
+    pub low: u32,
+    pub high: u32,
 }
 
 // One entry of a strip.
@@ -31,7 +38,7 @@ pub enum Operation {
     AddEdge {
         source: u32,
         target: u32,
-        payload: u32,
+        payload: EdgePayload,
     },
     RemoveEdge {
         edge: u32,
@@ -53,7 +60,7 @@ pub enum Operation {
     },
     SetPayload {
         edge: u32,
-        payload: u32,
+        payload: EdgePayload,
     },
     // An unknown code, or an unused word that is not 0.
     Unknown,
@@ -67,7 +74,7 @@ pub struct Slots {
     pub live: u32,
 }
 
-// The counts of a store, by value beside its six slices. Any values are legal input: the check judges them.
+// The counts of a store, by value beside its seven slices. Any values are legal input: the check judges them.
 #[repr(C)]
 pub struct Counts {
     pub nodes: Slots,
@@ -96,16 +103,27 @@ pub struct Record {
     pub value: u64,
     pub source: u32,
     pub target: u32,
-    pub payload: u32,
+    pub payload: EdgePayload,
 }
 
-// The operation, unless one of its unused words `a` and `b` is not 0.
-fn unused(a: u32, b: u32, operation: Operation) -> Operation
-    ensures { λ r. ⌜ r ≡ unused-of a b operation ⌝ }
+// What a total answers: the sums of the lows and of the highs of a list beside number and value; both are 0 where it is refused.
+#[repr(C)]
+pub struct Total {
+    pub number: u32,
+    pub value: u64,
+    pub low: u64,
+    pub high: u64,
+}
+
+// The operation, unless one of its unused words `a`, `b` and `c` is not 0.
+fn unused(a: u32, b: u32, c: u32, operation: Operation) -> Operation
+    ensures { λ r. ⌜ r ≡ unused-of a b c operation ⌝ }
 {
     if a == 0 {
         if b == 0 {
-            return operation;
+            if c == 0 {
+                return operation;
+            }
         }
     }
     Operation::Unknown
@@ -113,20 +131,21 @@ fn unused(a: u32, b: u32, operation: Operation) -> Operation
 
 impl Operation {
     // The operation that the words of a strip stand for.
-    pub fn decode(code: u32, first: u32, second: u32, payload: u32) -> Operation
-        ensures { λ r. ⌜ r ≡ decoded code first second payload ⌝ }
+    pub fn decode(code: u32, first: u32, second: u32, low: u32, high: u32) -> Operation
+        ensures { λ r. ⌜ r ≡ decoded code first second low high ⌝ }
     {
         match code {
-            1 => unused(first, second, Operation::AddNode { payload }),
+            1 => unused(first, second, high, Operation::AddNode { payload: low }),
             2 => Operation::AddEdge {
                 source: first,
                 target: second,
-                payload,
+                payload: EdgePayload { low, high },
             },
-            3 => unused(second, payload, Operation::RemoveEdge { edge: first }),
-            4 => unused(second, payload, Operation::RemoveNode { node: first }),
+            3 => unused(second, low, high, Operation::RemoveEdge { edge: first }),
+            4 => unused(second, low, high, Operation::RemoveNode { node: first }),
             5 => unused(
-                payload,
+                low,
+                high,
                 0,
                 Operation::Redirect {
                     direction: TraversalDirection::Outgoing,
@@ -135,7 +154,8 @@ impl Operation {
                 },
             ),
             6 => unused(
-                payload,
+                low,
+                high,
                 0,
                 Operation::Redirect {
                     direction: TraversalDirection::Incoming,
@@ -144,7 +164,8 @@ impl Operation {
                 },
             ),
             7 => unused(
-                payload,
+                low,
+                high,
                 0,
                 Operation::Move {
                     direction: TraversalDirection::Outgoing,
@@ -153,7 +174,8 @@ impl Operation {
                 },
             ),
             8 => unused(
-                payload,
+                low,
+                high,
                 0,
                 Operation::Move {
                     direction: TraversalDirection::Incoming,
@@ -164,9 +186,10 @@ impl Operation {
             9 => unused(
                 second,
                 0,
+                0,
                 Operation::SetPayload {
                     edge: first,
-                    payload,
+                    payload: EdgePayload { low, high },
                 },
             ),
             _ => Operation::Unknown,

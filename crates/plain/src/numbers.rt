@@ -1,4 +1,4 @@
-// The numbers of document 01's table, for the program; specs/Numbers.antt has them for the definitions.
+// The numbers of document 01's table and of document 02, for the program; specs/Numbers.antt has them for the definitions.
 
 pub const DONE: u32 = 0;
 
@@ -8,7 +8,7 @@ pub const NO_STORE: u32 = 1;
 // A lent slice too short.
 pub const TOO_SHORT: u32 = 2;
 
-// Strip not a multiple of four.
+// Strip not a multiple of five.
 pub const RAGGED: u32 = 3;
 
 // Unknown code or unused word not 0.
@@ -38,3 +38,6 @@ pub const UNREADABLE: u32 = 12;
 
 // Capacity above 32,768.
 pub const ABOVE_LIMIT: u32 = 13;
+
+// A low above its high.
+pub const INVERTED: u32 = 16;

@@ -2,21 +2,22 @@
 // so that a changed answer fails the check. oracle/README.md tells how both files are made.
 //
 // A line is five words of eight hexadecimal digits, separated by a space: the kind of call and its arguments. Kinds: 0 fresh (node and edge capacity), 1 strip (words,
-// words lent for the answers, lines that follow: an operation each, in the last four words), 2 and 3 walk out and in (node, words lent), 4 and 5 live nodes and edges
+// words lent for the answers, lines that follow: the five words of an operation each), 2 and 3 walk out and in (node, words lent), 4 and 5 live nodes and edges
 // (0, words lent), 6 node payload, 7 and 8 record in both readings, 9 bounds, counts, empty and compact, 10 and 11 degree out and in, 12 compaction (words lent for
 // the node map, the edge map and the work), 13 finding (two nodes), 14 writing the image (bytes lent), 15 reading an image (bytes, lines that follow: sixteen bytes
-// each, in the last four words).
+// each, in the last four words), 16 and 17 total out and in.
 
 use plain::Answer;
 use plain::Counts;
 use plain::Record;
 use plain::Slots;
+use plain::Total;
 use plain::TraversalDirection;
 ghost use Prim.Native.Nat.{_+_, _≤_, _<_};
 ghost use lib.ListN.{length};
 ghost use Rattle.io.specs.Counts.{Counts as Front};
 
-// A call as it is recorded.
+// A call as it is recorded, or the five words of another line.
 struct Call {
     kind: u32,
     first: u32,
@@ -92,7 +93,15 @@ fn print_record(r: Record) {
     number(r.value);
     number(wide(r.source));
     number(wide(r.target));
-    last(wide(r.payload));
+    number(wide(r.payload.low));
+    last(wide(r.payload.high));
+}
+
+fn print_total(t: Total) {
+    number(wide(t.number));
+    number(t.value);
+    number(t.low);
+    last(t.high);
 }
 
 // A space and a number for each of the first entries.
@@ -146,17 +155,19 @@ fn within(length: u32, words: &[u32]) -> usize
 fn fresh(
     call: Call,
     nodes: &[u32],
-    edges: &[u32],
+    lows: &[u32],
+    highs: &[u32],
     live_nodes: &[u64],
     live_edges: &[u64],
     outgoing: &[u32],
     incoming: &[u32],
 ) -> Held {
     let n = within(call.first, nodes);
-    let e = within(call.second, edges);
+    let e = within(call.second, lows);
     let changed = strip::fresh(
         &nodes[..n],
-        &edges[..e],
+        &lows[..e],
+        highs,
         live_nodes,
         live_edges,
         outgoing,
@@ -172,14 +183,15 @@ fn fresh(
     }
 }
 
-// Puts the four words of an operation at `at`.
+// Puts the five words of an operation at `at`.
 fn put_operation(words: &mut [u32], at: usize, operation: Call)
-    requires { ⌜ at + 4 ≤ length (now words) ⌝ }
+    requires { ⌜ at + 5 ≤ length (now words) ⌝ }
 {
-    words[at] = operation.first;
-    words[at + 1] = operation.second;
-    words[at + 2] = operation.third;
-    words[at + 3] = operation.fourth;
+    words[at] = operation.kind;
+    words[at + 1] = operation.first;
+    words[at + 2] = operation.second;
+    words[at + 3] = operation.third;
+    words[at + 4] = operation.fourth;
 }
 
 // Reads the operations of a strip, a line each, to the start of `words`; what is left of a shorter input is 0.
@@ -188,11 +200,11 @@ fn read_operations(words: &mut [u32], lines: u32) {
     let mut at: usize = 0;
     while left > 0 {
         let operation = next();
-        if words.len() < at + 4 {
+        if words.len() < at + 5 {
             return;
         }
         put_operation(words, at, operation);
-        at += 4;
+        at += 5;
         left -= 1;
     }
 }
@@ -201,24 +213,26 @@ fn read_operations(words: &mut [u32], lines: u32) {
 fn strip_of(
     held: Held,
     nodes: &mut [u32],
-    edges: &mut [u32],
+    lows: &mut [u32],
+    highs: &mut [u32],
     live_nodes: &mut [u64],
     live_edges: &mut [u64],
     outgoing: &mut [u32],
     incoming: &mut [u32],
     call: Call,
 ) -> Counts {
-    let mut words: [u32; 2048] = [0; 2048];
+    let mut words: [u32; 4096] = [0; 4096];
     let mut answers: [u32; 2048] = [0; 2048];
     read_operations(&mut words, call.third);
     let n = within(held.nodes, nodes);
-    let e = within(held.edges, edges);
+    let e = within(held.edges, lows);
     let length = within(call.first, &words);
     let room = within(call.second, &answers);
     let changed = strip::strip(
         held.counts,
         &mut nodes[..n],
-        &mut edges[..e],
+        &mut lows[..e],
+        highs,
         live_nodes,
         live_edges,
         outgoing,
@@ -235,7 +249,8 @@ fn strip_of(
 fn compact(
     held: Held,
     nodes: &mut [u32],
-    edges: &mut [u32],
+    lows: &mut [u32],
+    highs: &mut [u32],
     live_nodes: &mut [u64],
     live_edges: &mut [u64],
     outgoing: &mut [u32],
@@ -246,14 +261,15 @@ fn compact(
     let mut edge_map: [u32; 2048] = [0; 2048];
     let mut work: [u32; 2048] = [0; 2048];
     let n = within(held.nodes, nodes);
-    let e = within(held.edges, edges);
+    let e = within(held.edges, lows);
     let first = within(call.first, &node_map);
     let second = within(call.second, &edge_map);
     let third = within(call.third, &work);
     let changed = compact::compact(
         held.counts,
         &mut nodes[..n],
-        &mut edges[..e],
+        &mut lows[..e],
+        highs,
         live_nodes,
         live_edges,
         outgoing,
@@ -312,22 +328,24 @@ fn within_bytes(length: u32, bytes: &[u8]) -> usize
 fn read_image(
     held: Held,
     nodes: &mut [u32],
-    edges: &mut [u32],
+    lows: &mut [u32],
+    highs: &mut [u32],
     live_nodes: &mut [u64],
     live_edges: &mut [u64],
     outgoing: &mut [u32],
     incoming: &mut [u32],
     call: Call,
 ) -> Counts {
-    let mut bytes: [u8; 1024] = [0; 1024];
+    let mut bytes: [u8; 4096] = [0; 4096];
     read_bytes(&mut bytes, call.second);
     let n = within(held.nodes, nodes);
-    let e = within(held.edges, edges);
+    let e = within(held.edges, lows);
     let length = within_bytes(call.first, &bytes);
     let changed = image::read::read_image(
         held.counts,
         &mut nodes[..n],
-        &mut edges[..e],
+        &mut lows[..e],
+        highs,
         live_nodes,
         live_edges,
         outgoing,
@@ -344,7 +362,8 @@ fn read_image(
 fn print_image(
     counts: Counts,
     nodes: &[u32],
-    edges: &[u32],
+    lows: &[u32],
+    highs: &[u32],
     live_nodes: &[u64],
     live_edges: &[u64],
     outgoing: &[u32],
@@ -354,7 +373,8 @@ fn print_image(
     let answered = image::write::write_image(
         counts,
         nodes,
-        edges,
+        lows,
+        highs,
         live_nodes,
         live_edges,
         outgoing,
@@ -373,19 +393,21 @@ fn print_image(
 fn write_image(
     counts: Counts,
     nodes: &[u32],
-    edges: &[u32],
+    lows: &[u32],
+    highs: &[u32],
     live_nodes: &[u64],
     live_edges: &[u64],
     outgoing: &[u32],
     incoming: &[u32],
     call: Call,
 ) {
-    let mut bytes: [u8; 1024] = [0; 1024];
+    let mut bytes: [u8; 4096] = [0; 4096];
     let room = within_bytes(call.first, &bytes);
     print_image(
         counts,
         nodes,
-        edges,
+        lows,
+        highs,
         live_nodes,
         live_edges,
         outgoing,
@@ -398,7 +420,8 @@ fn write_image(
 fn read_list(
     counts: Counts,
     nodes: &[u32],
-    edges: &[u32],
+    lows: &[u32],
+    highs: &[u32],
     live_nodes: &[u64],
     live_edges: &[u64],
     outgoing: &[u32],
@@ -410,7 +433,8 @@ fn read_list(
     let answered = list_answer(
         counts,
         nodes,
-        edges,
+        lows,
+        highs,
         live_nodes,
         live_edges,
         outgoing,
@@ -424,7 +448,8 @@ fn read_list(
 fn list_answer(
     counts: Counts,
     nodes: &[u32],
-    edges: &[u32],
+    lows: &[u32],
+    highs: &[u32],
     live_nodes: &[u64],
     live_edges: &[u64],
     outgoing: &[u32],
@@ -436,7 +461,8 @@ fn list_answer(
         return view::walks::walk(
             counts,
             nodes,
-            edges,
+            lows,
+            highs,
             live_nodes,
             live_edges,
             outgoing,
@@ -450,7 +476,8 @@ fn list_answer(
         return view::walks::walk(
             counts,
             nodes,
-            edges,
+            lows,
+            highs,
             live_nodes,
             live_edges,
             outgoing,
@@ -464,7 +491,8 @@ fn list_answer(
         return view::ids::node_ids(
             counts,
             nodes,
-            edges,
+            lows,
+            highs,
             live_nodes,
             live_edges,
             outgoing,
@@ -475,7 +503,8 @@ fn list_answer(
     view::ids::edge_ids(
         counts,
         nodes,
-        edges,
+        lows,
+        highs,
         live_nodes,
         live_edges,
         outgoing,
@@ -488,7 +517,8 @@ fn list_answer(
 fn read_whole(
     counts: Counts,
     nodes: &[u32],
-    edges: &[u32],
+    lows: &[u32],
+    highs: &[u32],
     live_nodes: &[u64],
     live_edges: &[u64],
     outgoing: &[u32],
@@ -498,7 +528,8 @@ fn read_whole(
         view::whole::node_bound(
             counts,
             nodes,
-            edges,
+            lows,
+            highs,
             live_nodes,
             live_edges,
             outgoing,
@@ -509,7 +540,8 @@ fn read_whole(
         view::whole::edge_bound(
             counts,
             nodes,
-            edges,
+            lows,
+            highs,
             live_nodes,
             live_edges,
             outgoing,
@@ -520,7 +552,8 @@ fn read_whole(
         view::whole::node_count(
             counts,
             nodes,
-            edges,
+            lows,
+            highs,
             live_nodes,
             live_edges,
             outgoing,
@@ -531,7 +564,8 @@ fn read_whole(
         view::whole::edge_count(
             counts,
             nodes,
-            edges,
+            lows,
+            highs,
             live_nodes,
             live_edges,
             outgoing,
@@ -542,7 +576,8 @@ fn read_whole(
         view::whole::is_empty(
             counts,
             nodes,
-            edges,
+            lows,
+            highs,
             live_nodes,
             live_edges,
             outgoing,
@@ -553,7 +588,8 @@ fn read_whole(
         view::compactness::is_compact(
             counts,
             nodes,
-            edges,
+            lows,
+            highs,
             live_nodes,
             live_edges,
             outgoing,
@@ -565,7 +601,8 @@ fn read_whole(
 fn read_node(
     counts: Counts,
     nodes: &[u32],
-    edges: &[u32],
+    lows: &[u32],
+    highs: &[u32],
     live_nodes: &[u64],
     live_edges: &[u64],
     outgoing: &[u32],
@@ -576,7 +613,8 @@ fn read_node(
         print_answer(view::slots::node_payload(
             counts,
             nodes,
-            edges,
+            lows,
+            highs,
             live_nodes,
             live_edges,
             outgoing,
@@ -589,7 +627,8 @@ fn read_node(
         print_answer(view::walks::degree(
             counts,
             nodes,
-            edges,
+            lows,
+            highs,
             live_nodes,
             live_edges,
             outgoing,
@@ -603,7 +642,8 @@ fn read_node(
         print_answer(view::walks::degree(
             counts,
             nodes,
-            edges,
+            lows,
+            highs,
             live_nodes,
             live_edges,
             outgoing,
@@ -616,7 +656,8 @@ fn read_node(
     print_answer(view::finding::find(
         counts,
         nodes,
-        edges,
+        lows,
+        highs,
         live_nodes,
         live_edges,
         outgoing,
@@ -629,7 +670,8 @@ fn read_node(
 fn read_record(
     counts: Counts,
     nodes: &[u32],
-    edges: &[u32],
+    lows: &[u32],
+    highs: &[u32],
     live_nodes: &[u64],
     live_edges: &[u64],
     outgoing: &[u32],
@@ -640,7 +682,8 @@ fn read_record(
         print_record(view::slots::edge_record(
             counts,
             nodes,
-            edges,
+            lows,
+            highs,
             live_nodes,
             live_edges,
             outgoing,
@@ -652,7 +695,8 @@ fn read_record(
     print_record(view::slots::live_edge_record(
         counts,
         nodes,
-        edges,
+        lows,
+        highs,
         live_nodes,
         live_edges,
         outgoing,
@@ -661,10 +705,51 @@ fn read_record(
     ));
 }
 
+fn read_total(
+    counts: Counts,
+    nodes: &[u32],
+    lows: &[u32],
+    highs: &[u32],
+    live_nodes: &[u64],
+    live_edges: &[u64],
+    outgoing: &[u32],
+    incoming: &[u32],
+    call: Call,
+) {
+    if call.kind == 16 {
+        print_total(view::walks::total(
+            counts,
+            nodes,
+            lows,
+            highs,
+            live_nodes,
+            live_edges,
+            outgoing,
+            incoming,
+            TraversalDirection::Outgoing,
+            call.first,
+        ));
+        return;
+    }
+    print_total(view::walks::total(
+        counts,
+        nodes,
+        lows,
+        highs,
+        live_nodes,
+        live_edges,
+        outgoing,
+        incoming,
+        TraversalDirection::Incoming,
+        call.first,
+    ));
+}
+
 fn read(
     held: Held,
     nodes: &[u32],
-    edges: &[u32],
+    lows: &[u32],
+    highs: &[u32],
     live_nodes: &[u64],
     live_edges: &[u64],
     outgoing: &[u32],
@@ -673,11 +758,12 @@ fn read(
 ) {
     let counts = held.counts;
     let n = within(held.nodes, nodes);
-    let e = within(held.edges, edges);
+    let e = within(held.edges, lows);
     read_of(
         counts,
         &nodes[..n],
-        &edges[..e],
+        &lows[..e],
+        highs,
         live_nodes,
         live_edges,
         outgoing,
@@ -689,7 +775,8 @@ fn read(
 fn read_of(
     counts: Counts,
     nodes: &[u32],
-    edges: &[u32],
+    lows: &[u32],
+    highs: &[u32],
     live_nodes: &[u64],
     live_edges: &[u64],
     outgoing: &[u32],
@@ -701,7 +788,8 @@ fn read_of(
         read_list(
             counts,
             nodes,
-            edges,
+            lows,
+            highs,
             live_nodes,
             live_edges,
             outgoing,
@@ -714,7 +802,8 @@ fn read_of(
         read_whole(
             counts,
             nodes,
-            edges,
+            lows,
+            highs,
             live_nodes,
             live_edges,
             outgoing,
@@ -726,7 +815,8 @@ fn read_of(
         write_image(
             counts,
             nodes,
-            edges,
+            lows,
+            highs,
             live_nodes,
             live_edges,
             outgoing,
@@ -739,7 +829,22 @@ fn read_of(
         read_record(
             counts,
             nodes,
-            edges,
+            lows,
+            highs,
+            live_nodes,
+            live_edges,
+            outgoing,
+            incoming,
+            call,
+        );
+        return;
+    }
+    if kind == 16 || kind == 17 {
+        read_total(
+            counts,
+            nodes,
+            lows,
+            highs,
             live_nodes,
             live_edges,
             outgoing,
@@ -751,7 +856,8 @@ fn read_of(
     read_node(
         counts,
         nodes,
-        edges,
+        lows,
+        highs,
         live_nodes,
         live_edges,
         outgoing,
@@ -764,7 +870,8 @@ fn read_of(
 fn change(
     held: Held,
     nodes: &mut [u32],
-    edges: &mut [u32],
+    lows: &mut [u32],
+    highs: &mut [u32],
     live_nodes: &mut [u64],
     live_edges: &mut [u64],
     outgoing: &mut [u32],
@@ -775,7 +882,8 @@ fn change(
         return strip_of(
             held,
             nodes,
-            edges,
+            lows,
+            highs,
             live_nodes,
             live_edges,
             outgoing,
@@ -787,7 +895,8 @@ fn change(
         return compact(
             held,
             nodes,
-            edges,
+            lows,
+            highs,
             live_nodes,
             live_edges,
             outgoing,
@@ -798,7 +907,8 @@ fn change(
     read_image(
         held,
         nodes,
-        edges,
+        lows,
+        highs,
         live_nodes,
         live_edges,
         outgoing,
@@ -811,7 +921,8 @@ fn change(
 fn step(
     held: Held,
     nodes: &mut [u32],
-    edges: &mut [u32],
+    lows: &mut [u32],
+    highs: &mut [u32],
     live_nodes: &mut [u64],
     live_edges: &mut [u64],
     outgoing: &mut [u32],
@@ -822,7 +933,8 @@ fn step(
         return fresh(
             call,
             nodes,
-            edges,
+            lows,
+            highs,
             live_nodes,
             live_edges,
             outgoing,
@@ -833,7 +945,8 @@ fn step(
         let counts = change(
             held,
             nodes,
-            edges,
+            lows,
+            highs,
             live_nodes,
             live_edges,
             outgoing,
@@ -849,7 +962,8 @@ fn step(
     read(
         held,
         nodes,
-        edges,
+        lows,
+        highs,
         live_nodes,
         live_edges,
         outgoing,
@@ -881,7 +995,8 @@ fn next() -> Call {
 fn run(
     held: Held,
     nodes: &mut [u32],
-    edges: &mut [u32],
+    lows: &mut [u32],
+    highs: &mut [u32],
     live_nodes: &mut [u64],
     live_edges: &mut [u64],
     outgoing: &mut [u32],
@@ -897,7 +1012,8 @@ fn run(
         held = step(
             held,
             nodes,
-            edges,
+            lows,
+            highs,
             live_nodes,
             live_edges,
             outgoing,
@@ -910,7 +1026,8 @@ fn run(
 
 fn main() {
     let mut nodes: [u32; 512] = [0; 512];
-    let mut edges: [u32; 1024] = [0; 1024];
+    let mut lows: [u32; 1024] = [0; 1024];
+    let mut highs: [u32; 1024] = [0; 1024];
     let mut live_nodes: [u64; 8] = [0; 8];
     let mut live_edges: [u64; 16] = [0; 16];
     let mut outgoing: [u32; 7169] = [0; 7169];
@@ -931,7 +1048,8 @@ fn main() {
     run(
         held,
         &mut nodes,
-        &mut edges,
+        &mut lows,
+        &mut highs,
         &mut live_nodes,
         &mut live_edges,
         &mut outgoing,

@@ -69,6 +69,9 @@ pub record AxisChecked (ws : List ℕ) (ce cn : ℕ) (counts : Counts) (nodes ed
 pub record Checked (w : Words) : Type 0 where
   pub nodes : SlotsChecked (node-capacity w) (w .live-nodes) (w .counts .nodes)
   pub edges : SlotsChecked (edge-capacity w) (w .live-edges) (w .counts .edges)
+  -- rule 1: "every other slice long enough"
+  pub highs-long : edge-capacity w ≤ length (w .highs)
   pub axis : (d : TraversalDirection) → AxisChecked (axis-words d w) (edge-capacity w) (node-capacity w) (w .counts) (node-live w) (edge-live w)
-  -- rule 7: "each live edge exactly once in its source's out-walk and once in its target's in-walk, both ends live, and no walk listing anything else"
+  -- rule 7: "each live edge exactly once in its source's out-walk and once in its target's in-walk, both ends live, and no walk listing anything else". With it, of rule 3, that no edge
+  -- slot, "removed or not", holds "a low above its high": `edge-payloads`.
   pub walks : WellFormed (capacities w) (plain-of (shape-of w))

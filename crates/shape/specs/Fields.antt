@@ -62,21 +62,24 @@ AxisField ws ce cn counts offsets x = (x ≤ counts .nodes .base) × ((counts .n
 -- a word of a store's memory
 pub data Place : Type 0 where
   node-payload : ℕ → Place
-  edge-payload : ℕ → Place
+  edge-low : ℕ → Place
+  edge-high : ℕ → Place
   node-bits : ℕ → Place
   edge-bits : ℕ → Place
   axis-word : TraversalDirection → Column → ℕ → Place
 
 abbrev pub word-at : Words → Place → ℕ
 word-at w (node-payload x) = getD (w .nodes) x 0
-word-at w (edge-payload e) = getD (w .edges) e 0
+word-at w (edge-low e) = getD (w .lows) e 0
+word-at w (edge-high e) = getD (w .highs) e 0
 word-at w (node-bits i) = getD (w .live-nodes) i 0
 word-at w (edge-bits i) = getD (w .live-edges) i 0
 word-at w (axis-word d c x) = cell (axis-words d w) (begins (edge-capacity w) (node-capacity w) c) x
 
 abbrev pub Field : Words → Place → Type 0
 Field w (node-payload x) = x < w .counts .nodes .bound
-Field w (edge-payload e) = e < w .counts .edges .bound
+Field w (edge-low e) = e < w .counts .edges .bound
+Field w (edge-high e) = e < w .counts .edges .bound
 Field w (node-bits i) = 64 * i < w .counts .nodes .bound
 Field w (edge-bits i) = 64 * i < w .counts .edges .bound
 Field w (axis-word d c x) = AxisField (axis-words d w) (edge-capacity w) (node-capacity w) (w .counts) c x
@@ -97,7 +100,8 @@ InColumn ws ce cn offsets x = begins ce cn offsets + x < length ws
 -- a place is there, and is named by its own column: every word of a store's memory has one (`axis-place` of Laws.NoFields)
 abbrev pub Stands : Words → Place → Type 0
 Stands w (node-payload x) = x < node-capacity w
-Stands w (edge-payload e) = e < edge-capacity w
+Stands w (edge-low e) = e < edge-capacity w
+Stands w (edge-high e) = e < length (w .highs)
 Stands w (node-bits i) = i < length (w .live-nodes)
 Stands w (edge-bits i) = i < length (w .live-edges)
 Stands w (axis-word d c x) = InColumn (axis-words d w) (edge-capacity w) (node-capacity w) c x
@@ -123,7 +127,8 @@ OpenToStrip counts (axis-word d last x) = ⊥
 OpenToStrip counts (axis-word d marks x) = ⊥
 OpenToStrip counts (axis-word d offsets x) = ⊥
 OpenToStrip counts (node-payload x) = ⊥
-OpenToStrip counts (edge-payload e) = ⊥
+OpenToStrip counts (edge-low e) = ⊥
+OpenToStrip counts (edge-high e) = ⊥
 OpenToStrip counts (node-bits i) = ⊥
 OpenToStrip counts (edge-bits i) = ⊥
 

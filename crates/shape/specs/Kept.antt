@@ -35,14 +35,16 @@ pub record SlotsPast (ps qs ws vs : List ℕ) (n : ℕ) : Type 0 where
 
 -- ---- spare words
 
--- The words that no call writes: of both live slices those that hold no bit of a slot below the capacity, of both axes those past the last offset.
+-- The words that no call writes: of the highs those past the edge capacity, of both live slices those that hold no bit of a slot below the capacity, of both axes
+-- those past the last offset.
 pub record Spared (w v : Words) : Type 0 where
+  pub highs : SameFrom (w .highs) (v .highs) (edge-capacity w)
   pub live-nodes : SameBits (w .live-nodes) (v .live-nodes) (node-capacity w)
   pub live-edges : SameBits (w .live-edges) (v .live-edges) (edge-capacity w)
   pub axis : (d : TraversalDirection) → SameFrom (axis-words d w) (axis-words d v) (4 * edge-capacity w + 6 * node-capacity w + 1)
 
 pub nothing-spared : (w : Words) → Spared w w
-nothing-spared w = record { live-nodes = λ i h. refl; live-edges = λ i h. refl; axis = λ d i h. refl }
+nothing-spared w = record { highs = λ i h. refl; live-nodes = λ i h. refl; live-edges = λ i h. refl; axis = λ d i h. refl }
 
 -- ---- what an operation of a strip may write
 
@@ -79,7 +81,8 @@ pub record Kept (w v : Words) : Type 0 where
   pub nodes-grow : w .counts .nodes .bound ≤ v .counts .nodes .bound
   pub edges-grow : w .counts .edges .bound ≤ v .counts .edges .bound
   pub nodes : SlotsPast (w .nodes) (v .nodes) (w .live-nodes) (v .live-nodes) (v .counts .nodes .bound)
-  pub edges : SlotsPast (w .edges) (v .edges) (w .live-edges) (v .live-edges) (v .counts .edges .bound)
+  pub edges : SlotsPast (w .lows) (v .lows) (w .live-edges) (v .live-edges) (v .counts .edges .bound)
+  pub highs : SameFrom (w .highs) (v .highs) (v .counts .edges .bound)
   pub axis : (d : TraversalDirection)
       → AxisKept (axis-words d w) (axis-words d v) (edge-capacity w) (node-capacity w) (w .counts .nodes .bound) (v .counts .nodes .bound) (v .counts .edges .bound)
 
@@ -101,17 +104,19 @@ pub record AxisRenewed (ws vs : List ℕ) (ce cn n m : ℕ) : Type 0 where
 -- Of a store: no word past the bounds.
 pub record Renewed (w v : Words) : Type 0 where
   pub nodes : SlotsPast (w .nodes) (v .nodes) (w .live-nodes) (v .live-nodes) (v .counts .nodes .bound)
-  pub edges : SlotsPast (w .edges) (v .edges) (w .live-edges) (v .live-edges) (v .counts .edges .bound)
+  pub edges : SlotsPast (w .lows) (v .lows) (w .live-edges) (v .live-edges) (v .counts .edges .bound)
+  pub highs : SameFrom (w .highs) (v .highs) (v .counts .edges .bound)
   pub axis : (d : TraversalDirection)
       → AxisRenewed (axis-words d w) (axis-words d v) (edge-capacity w) (node-capacity w) (v .counts .nodes .bound) (v .counts .edges .bound)
 
 -- ---- laws
 
--- each slice is as long as it was: the nodes, the edges, the live words of both, and both axes
-pub each-length : {a b : Lengths} → a .capacities .nodes ≡ b .capacities .nodes → a .capacities .edges ≡ b .capacities .edges → a .live-nodes ≡ b .live-nodes
-    → a .live-edges ≡ b .live-edges → a .outgoing ≡ b .outgoing → a .incoming ≡ b .incoming → a ≡ b
-each-length n e ln le out inc = λ i. record {
+-- each slice is as long as it was: the nodes, the lows, the highs, the live words of both, and both axes
+pub each-length : {a b : Lengths} → a .capacities .nodes ≡ b .capacities .nodes → a .capacities .edges ≡ b .capacities .edges → a .highs ≡ b .highs
+    → a .live-nodes ≡ b .live-nodes → a .live-edges ≡ b .live-edges → a .outgoing ≡ b .outgoing → a .incoming ≡ b .incoming → a ≡ b
+each-length n e hs ln le out inc = λ i. record {
   capacities = record { nodes = n i; edges = e i };
+  highs = hs i;
   live-nodes = ln i;
   live-edges = le i;
   outgoing = out i;
@@ -126,6 +131,9 @@ same-nodes same = ap (λ (l : Lengths). l .capacities .nodes) same
 
 pub same-edges : {a b : Lengths} → a ≡ b → a .capacities .edges ≡ b .capacities .edges
 same-edges same = ap (λ (l : Lengths). l .capacities .edges) same
+
+pub same-highs : {a b : Lengths} → a ≡ b → a .highs ≡ b .highs
+same-highs same = ap (λ (l : Lengths). l .highs) same
 
 pub same-live-nodes : {a b : Lengths} → a ≡ b → a .live-nodes ≡ b .live-nodes
 same-live-nodes same = ap (λ (l : Lengths). l .live-nodes) same
@@ -200,7 +208,8 @@ kept-none w = record {
   nodes-grow = le-refl (w .counts .nodes .bound);
   edges-grow = le-refl (w .counts .edges .bound);
   nodes = past-none (w .nodes) (w .live-nodes) (w .counts .nodes .bound);
-  edges = past-none (w .edges) (w .live-edges) (w .counts .edges .bound);
+  edges = past-none (w .lows) (w .live-edges) (w .counts .edges .bound);
+  highs = λ i h. refl;
   axis = λ d. axis-kept-none (axis-words d w) (edge-capacity w) (node-capacity w) (w .counts .nodes .bound) (w .counts .edges .bound);
 }
 
@@ -210,12 +219,14 @@ kept-through {w} {v} {u} same a b = record {
   edges-grow = le-trans (a .edges-grow) (b .edges-grow);
   nodes = past-through (b .nodes-grow) (a .nodes) (b .nodes);
   edges = past-through (b .edges-grow) (a .edges) (b .edges);
+  highs = λ i h. b .highs i h ∙ a .highs i (omega (arith, b .edges-grow));
   axis = λ d. axis-kept-through (a .nodes-grow) (b .nodes-grow) (b .edges-grow) (a .axis d) (rw (same-nodes same, same-edges same) at (b .axis d));
 }
 
 -- spare words are past the bounds, so they stay
 pub kept-spared : {w v : Words} → v .counts .nodes .bound ≤ node-capacity w → v .counts .edges .bound ≤ edge-capacity w → Kept w v → Spared w v
 kept-spared nodes edges k = record {
+  highs = λ i h. k .highs i (omega arith);
   live-nodes = λ i h. k .nodes .live i (omega arith);
   live-edges = λ i h. k .edges .live i (omega arith);
   axis = λ d i h. k .axis d .offsets i (omega arith);
@@ -224,7 +235,8 @@ kept-spared nodes edges k = record {
 pub renewed-none : (w : Words) → Renewed w w
 renewed-none w = record {
   nodes = past-none (w .nodes) (w .live-nodes) (w .counts .nodes .bound);
-  edges = past-none (w .edges) (w .live-edges) (w .counts .edges .bound);
+  edges = past-none (w .lows) (w .live-edges) (w .counts .edges .bound);
+  highs = λ i h. refl;
   axis = λ d. record {
     ends = λ i l h. refl;
     adjacency = λ i l h. refl;
@@ -238,6 +250,7 @@ renewed-none w = record {
 
 pub renewed-spared : {w v : Words} → v .counts .nodes .bound ≤ node-capacity w → v .counts .edges .bound ≤ edge-capacity w → Renewed w v → Spared w v
 renewed-spared nodes edges k = record {
+  highs = λ i h. k .highs i (omega arith);
   live-nodes = λ i h. k .nodes .live i (omega arith);
   live-edges = λ i h. k .edges .live i (omega arith);
   axis = λ d i h. k .axis d .offsets i (omega arith);

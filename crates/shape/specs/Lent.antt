@@ -1,4 +1,4 @@
--- The store that a function is lent, named once in a contract: its counts and the words behind its six slices, as they are asked of (`lent`), at entry and at exit.
+-- The store that a function is lent, named once in a contract: its counts and the words behind its seven slices, as they are asked of (`lent`), at entry and at exit.
 use denote.Ref.{RefT, now}
 use denote.Triple.Both.{Both}
 use Prim.Native.Nat.{ℕ}
@@ -7,18 +7,18 @@ use Rattle.plain.specs.declared.Counts.{Counts}
 use Rattle.shape.specs.Shape.{Words, store}
 
 -- in a `requires`
-abbrev pub lent : Counts → RefT (List ℕ) → RefT (List ℕ) → RefT (List ℕ) → RefT (List ℕ) → RefT (List ℕ) → RefT (List ℕ) → Words
-lent counts nodes edges live-nodes live-edges outgoing incoming =
-    store counts (now nodes) (now edges) (now live-nodes) (now live-edges) (now outgoing) (now incoming)
+abbrev pub lent : Counts → RefT (List ℕ) → RefT (List ℕ) → RefT (List ℕ) → RefT (List ℕ) → RefT (List ℕ) → RefT (List ℕ) → RefT (List ℕ) → Words
+lent counts nodes lows highs live-nodes live-edges outgoing incoming =
+    store counts (now nodes) (now lows) (now highs) (now live-nodes) (now live-edges) (now outgoing) (now incoming)
 
 -- in an `ensures`: of slices lent by `&` or by `&mut`, which show at exit what they may
-abbrev pub at-entry : {A B C D E F : Type 0} → Counts → Both (RefT (List ℕ)) A → Both (RefT (List ℕ)) B → Both (RefT (List ℕ)) C → Both (RefT (List ℕ)) D
-    → Both (RefT (List ℕ)) E → Both (RefT (List ℕ)) F → Words
-at-entry counts nodes edges live-nodes live-edges outgoing incoming =
-    lent counts (nodes .entry) (edges .entry) (live-nodes .entry) (live-edges .entry) (outgoing .entry) (incoming .entry)
+abbrev pub at-entry : {A B C D E F G : Type 0} → Counts → Both (RefT (List ℕ)) A → Both (RefT (List ℕ)) B → Both (RefT (List ℕ)) C → Both (RefT (List ℕ)) D
+    → Both (RefT (List ℕ)) E → Both (RefT (List ℕ)) F → Both (RefT (List ℕ)) G → Words
+at-entry counts nodes lows highs live-nodes live-edges outgoing incoming =
+    lent counts (nodes .entry) (lows .entry) (highs .entry) (live-nodes .entry) (live-edges .entry) (outgoing .entry) (incoming .entry)
 
 -- of slices lent by `&mut`, or by `&` where they are as at entry
-abbrev pub at-exit : {A B C D E F : Type 0} → Counts → Both A (RefT (List ℕ)) → Both B (RefT (List ℕ)) → Both C (RefT (List ℕ)) → Both D (RefT (List ℕ))
-    → Both E (RefT (List ℕ)) → Both F (RefT (List ℕ)) → Words
-at-exit counts nodes edges live-nodes live-edges outgoing incoming =
-    lent counts (nodes .exit) (edges .exit) (live-nodes .exit) (live-edges .exit) (outgoing .exit) (incoming .exit)
+abbrev pub at-exit : {A B C D E F G : Type 0} → Counts → Both A (RefT (List ℕ)) → Both B (RefT (List ℕ)) → Both C (RefT (List ℕ)) → Both D (RefT (List ℕ))
+    → Both E (RefT (List ℕ)) → Both F (RefT (List ℕ)) → Both G (RefT (List ℕ)) → Words
+at-exit counts nodes lows highs live-nodes live-edges outgoing incoming =
+    lent counts (nodes .exit) (lows .exit) (highs .exit) (live-nodes .exit) (live-edges .exit) (outgoing .exit) (incoming .exit)

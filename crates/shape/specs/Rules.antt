@@ -30,7 +30,7 @@ slots-right capacity live-length s =
 unfoldable pub rule-1 : Words → Bool
 rule-1 w =
     slots-right (node-capacity w) (length (w .live-nodes)) (w .counts .nodes) && (slots-right (edge-capacity w) (length (w .live-edges)) (w .counts .edges)
-    && both-axes (λ ws. leb (4 * edge-capacity w + 6 * node-capacity w + 1) (length ws)) w)
+    && (leb (edge-capacity w) (length (w .highs)) && both-axes (λ ws. leb (4 * edge-capacity w + 6 * node-capacity w + 1) (length ws)) w))
 
 -- "(2) live bits agree with both counts and the last word's unused bits are 0"
 abbrev pub live-agrees : List ℕ → Slots → Bool
@@ -43,8 +43,12 @@ rule-2 w = live-agrees (w .live-nodes) (w .counts .nodes) && live-agrees (w .liv
 abbrev pub ends-right : Counts → List ℕ → Bool
 ends-right counts ws = all (λ e. ltb (end-at ws e) (counts .nodes .bound)) (from 0 (counts .edges .bound))
 
+-- and "a low above its high at a slot below the bound, removed or not, breaks rule 3 of the check"
+unfoldable pub weights-right : ℕ → List ℕ → List ℕ → Bool
+weights-right bound lows highs = all (λ e. leb (getD lows e 0) (getD highs e 0)) (from 0 bound)
+
 unfoldable pub rule-3 : Words → Bool
-rule-3 w = both-axes (ends-right (w .counts)) w
+rule-3 w = both-axes (ends-right (w .counts)) w && weights-right (w .counts .edges .bound) (w .lows) (w .highs)
 
 -- "(4) index as in `check_index`, no index word being read where both base counts are 0"
 unfoldable pub index-right : ℕ → ℕ → ℕ → ℕ → List ℕ → Bool

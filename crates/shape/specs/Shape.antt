@@ -1,4 +1,4 @@
--- The shape of a store: what the Rust holds in its vectors, as lists of edge numbers, dead entries included. It is a total function of the counts and the six
+-- The shape of a store: what the Rust holds in its vectors, as lists of edge numbers, dead entries included. It is a total function of the counts and the seven
 -- lists of words; the plain lists are a total function of it.
 use Prim.Native.Nat.{ℕ, suc, _-_, _*_}
 use mathlib.Core.Bool.{Bool, true, false, cond, _&&_, not}
@@ -9,6 +9,7 @@ use lib.Dec.{eqb, ltb}
 use Rattle.plain.specs.declared.TraversalDirection.{TraversalDirection}
 use Rattle.plain.specs.declared.TraversalDirection.the-variants.{Outgoing, Incoming}
 use Rattle.plain.specs.declared.Counts.{Counts}
+use Rattle.plain.specs.declared.EdgePayload.{EdgePayload}
 use Rattle.plain.specs.Lists.{keep, all, from}
 use Rattle.plain.specs.Plain.{Plain, NodeSlot, EdgeSlot, Incidence}
 use Rattle.plain.specs.Step.{Capacities}
@@ -60,34 +61,36 @@ pub record Shape : Type 0 where
   pub outgoing : Axis
   pub incoming : Axis
 
--- A store as it is lent: counts and six lists of words.
+-- A store as it is lent: counts and seven lists of words. Of an edge's payload, "low and high, `u32` each, in two slices".
 pub record Words : Type 0 where
   pub counts : Counts
   pub nodes : List ℕ
-  pub edges : List ℕ
+  pub lows : List ℕ
+  pub highs : List ℕ
   pub live-nodes : List ℕ
   pub live-edges : List ℕ
   pub outgoing : List ℕ
   pub incoming : List ℕ
 
--- a store from its counts and its six slices, in parameter order
-abbrev pub store : Counts → List ℕ → List ℕ → List ℕ → List ℕ → List ℕ → List ℕ → Words
-store counts nodes edges live-nodes live-edges outgoing incoming = record {
+-- a store from its counts and its seven slices, in parameter order
+abbrev pub store : Counts → List ℕ → List ℕ → List ℕ → List ℕ → List ℕ → List ℕ → List ℕ → Words
+store counts nodes lows highs live-nodes live-edges outgoing incoming = record {
   counts = counts;
   nodes = nodes;
-  edges = edges;
+  lows = lows;
+  highs = highs;
   live-nodes = live-nodes;
   live-edges = live-edges;
   outgoing = outgoing;
   incoming = incoming;
 }
 
--- how many node slots and how many edge slots there is memory for
+-- how many node slots and how many edge slots there is memory for: "the low one's length is the capacity"
 abbrev pub node-capacity : Words → ℕ
 node-capacity w = length (w .nodes)
 
 abbrev pub edge-capacity : Words → ℕ
-edge-capacity w = length (w .edges)
+edge-capacity w = length (w .lows)
 
 abbrev pub capacities : Words → Capacities
 capacities w = record { nodes = node-capacity w; edges = edge-capacity w }
@@ -96,6 +99,7 @@ capacities w = record { nodes = node-capacity w; edges = edge-capacity w }
 abbrev pub lengths-of : Words → Lengths
 lengths-of w = record {
   capacities = capacities w;
+  highs = length (w .highs);
   live-nodes = length (w .live-nodes);
   live-edges = length (w .live-edges);
   outgoing = length (w .outgoing);
@@ -116,8 +120,11 @@ axis-words Incoming w = w .incoming
 abbrev pub node-slot-at : Words → ℕ → NodeSlot
 node-slot-at w x = record { payload = getD (w .nodes) x 0; live = getD (node-live w) x false }
 
+abbrev pub edge-payload-at : Words → ℕ → EdgePayload
+edge-payload-at w e = record { low = getD (w .lows) e 0; high = getD (w .highs) e 0 }
+
 abbrev pub edge-slot-at : Words → ℕ → EdgeSlot
-edge-slot-at w e = record { payload = getD (w .edges) e 0; live = getD (edge-live w) e false }
+edge-slot-at w e = record { payload = edge-payload-at w e; live = getD (edge-live w) e false }
 
 -- the adjacency of node x, in words of capacities ce and cn with these counts
 abbrev pub adjacency-in : List ℕ → ℕ → ℕ → Counts → ℕ → Adjacency

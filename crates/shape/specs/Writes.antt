@@ -46,7 +46,7 @@ WritesNode (Move d old new) w x = ⊥
 WritesNode (SetPayload e payload) w x = ⊥
 WritesNode Unknown w x = ⊥
 
--- an edge's payload
+-- an edge's payload, its low and its high
 abbrev pub WritesEdge : Operation → Words → ℕ → Type 0
 WritesEdge (AddNode payload) w f = ⊥
 WritesEdge (AddEdge source target payload) w f = f ≡ w .counts .edges .bound
@@ -116,11 +116,12 @@ WritesAxis Unknown w d i = ⊥
 -- No other word was written.
 pub record Writes (operation : Operation) (w v : Words) : Type 0 where
   pub nodes : Only (WritesNode operation w) (w .nodes) (v .nodes)
-  pub edges : Only (WritesEdge operation w) (w .edges) (v .edges)
+  pub lows : Only (WritesEdge operation w) (w .lows) (v .lows)
+  pub highs : Only (WritesEdge operation w) (w .highs) (v .highs)
   pub live-nodes : Only (WritesNodeBits operation w) (w .live-nodes) (v .live-nodes)
   pub live-edges : Only (WritesEdgeBits operation w) (w .live-edges) (v .live-edges)
   pub axis : (d : TraversalDirection) → Only (WritesAxis operation w d) (axis-words d w) (axis-words d v)
 
 pub nothing-written : (operation : Operation) (w : Words) → Writes operation w w
 nothing-written operation w =
-    record { nodes = λ x out. refl; edges = λ e out. refl; live-nodes = λ i out. refl; live-edges = λ i out. refl; axis = λ d i out. refl }
+    record { nodes = λ x out. refl; lows = λ e out. refl; highs = λ e out. refl; live-nodes = λ i out. refl; live-edges = λ i out. refl; axis = λ d i out. refl }

@@ -6,9 +6,10 @@ use mathlib.Core.Bool.{true, false}
 use mathlib.Core.Logic.{inl, inr}
 use mathlib.Core.List.{List}
 use lib.ListN.{length, getD, set, length-set}
-use lib.Seq.{getD-set-other}
+use lib.Seq.{getD-set-same, getD-set-other}
 use Rattle.plain.specs.declared.TraversalDirection.{TraversalDirection}
 use Rattle.plain.specs.declared.TraversalDirection.the-variants.{Outgoing, Incoming}
+use Rattle.plain.specs.declared.EdgePayload.{EdgePayload}
 use Rattle.plain.specs.declared.Operation.the-variants.{AddNode, AddEdge}
 use Rattle.plain.specs.Plain.{node-added, edge-added}
 use Rattle.plain.specs.Step.{changed, step}
@@ -16,15 +17,15 @@ use Rattle.plain.specs.Laws.Cases.{comes-to, add-node, add-edge}
 use Rattle.plain.specs.Laws.Rank.{live-below}
 use Rattle.liveness.specs.Calls.{Pushed}
 use Rattle.liveness.specs.FlagLaws.{length-flags}
-use Rattle.shape.specs.Shape.{Words, node-capacity, edge-capacity, capacities, node-live, edge-live, axis-words, axis-of, shape-of, plain-of, store, lists}
+use Rattle.shape.specs.Shape.{Words, node-capacity, edge-capacity, capacities, node-live, edge-live, edge-payload-at, axis-words, axis-of, shape-of, plain-of, store, lists}
 use Rattle.shape.specs.Checked.{AxisChecked}
-use Rattle.shape.specs.Kept.{SameLengths, AxisKept, each-length, same-nodes, same-edges, past-none}
+use Rattle.shape.specs.Kept.{SameLengths, AxisKept, each-length, same-nodes, same-edges, same-highs, past-none}
 use Rattle.shape.specs.Writes.{WritesAxis}
 use Rattle.shape.specs.Steps.{appended, acted}
 use Rattle.shape.specs.Laws.Reading.{node-bound-is, edge-bound-is, node-flags-are}
 use Rattle.adjacency.specs.Rings.{Openable, Opened, Appendable, Appended}
 use Rattle.store.proofs.Keeping.{pushed-word, pushed-other, opened-kept, appended-kept, appended-writes}
-use Rattle.store.proofs.Made.{slots-more}
+use Rattle.store.proofs.Made.{slots-more, payload-here, payload-other}
 use Rattle.store.specs.Operations.{Acted, one-more, with-nodes, with-edges, Raisable, NodeAddable, EdgeAddable}
 use Rattle.store.proofs.Axes.{opened-axis, opened-checked, appended-axis, appended-checked}
 use Rattle.store.specs.Acting.{shape-ext, acted-walks, live-within, pushed-checked}
@@ -64,11 +65,11 @@ module _ {w : Words} (pre : NodeAddable w) where
       -- the store afterwards
       abbrev with-node : Words
       with-node =
-          store (with-nodes (one-more (w .counts .nodes)) (w .counts)) (set (w .nodes) (w .counts .nodes .bound) payload) (w .edges) live (w .live-edges) outgoing incoming
+          store (with-nodes (one-more (w .counts .nodes)) (w .counts)) (set (w .nodes) (w .counts .nodes .bound) payload) (w .lows) (w .highs) live (w .live-edges) outgoing incoming
 
       -- no slice grows or shrinks
       node-lengths : SameLengths w with-node
-      node-lengths = each-length (length-set (w .nodes) (w .counts .nodes .bound) payload) refl live-long refl out-long inc-long
+      node-lengths = each-length (length-set (w .nodes) (w .counts .nodes .bound) payload) refl refl live-long refl out-long inc-long
 
       -- its shape is what the operation makes of the shape
       node-shape : shape-of with-node ≡ acted (AddNode payload) (shape-of w)
@@ -76,8 +77,9 @@ module _ {w : Words} (pre : NodeAddable w) where
       node-shape =
           rw (length-set (w .nodes) (w .counts .nodes .bound) payload, pushed .flags)
           (shape-ext
-          (slots-more (λ v b. record { payload = v; live = b }) (w .nodes) (node-live w) (w .counts .nodes .bound)
-          (length-flags (w .live-nodes) (w .counts .nodes .bound)) (pre .checked .nodes .bounded .bound-within) payload (pre .room))
+          (slots-more (λ v b. record { payload = v; live = b }) (λ x. getD (w .nodes) x 0) (λ x. getD (with-node .nodes) x 0) (node-live w) (w .counts .nodes .bound)
+          (length-flags (w .live-nodes) (w .counts .nodes .bound)) payload (getD-set-same (w .nodes) (w .counts .nodes .bound) payload 0 (pre .room))
+          (λ x l. getD-set-other (w .nodes) (w .counts .nodes .bound) x payload 0 (omega arith)))
           refl refl refl (opened-axis (pre .checked) Outgoing outgoing out-long out (pre .room))
           (opened-axis (pre .checked) Incoming incoming inc-long inc (pre .room)))
 
@@ -88,6 +90,7 @@ module _ {w : Words} (pre : NodeAddable w) where
         checked = record {
           nodes = rw (same-nodes node-lengths) (pushed-checked (pre .checked .nodes) pushed live-long (pre .room));
           edges = pre .checked .edges;
+          highs-long = pre .checked .highs-long;
           axis = directions;
           walks = acted-walks (pre .checked) (AddNode payload) (node-comes payload) refl with-node fits node-lengths node-shape;
         };
@@ -96,13 +99,15 @@ module _ {w : Words} (pre : NodeAddable w) where
           nodes-grow = omega arith;
           edges-grow = omega arith;
           nodes = record { payloads = λ i h. getD-set-other (w .nodes) (w .counts .nodes .bound) i payload 0 (omega arith); live = pushed-word pushed };
-          edges = past-none (w .edges) (w .live-edges) (w .counts .edges .bound);
+          edges = past-none (w .lows) (w .live-edges) (w .counts .edges .bound);
+          highs = λ i h. refl;
           axis = kept;
         };
         live-only = tt;
         writes = record {
           nodes = λ x off. getD-set-other (w .nodes) (w .counts .nodes .bound) x payload 0 off;
-          edges = λ e off. refl;
+          lows = λ e off. refl;
+          highs = λ e off. refl;
           live-nodes = pushed-other pushed;
           live-edges = λ i off. refl;
           axis = written;
@@ -125,7 +130,7 @@ module _ {w : Words} (pre : NodeAddable w) where
 
 -- ---- an edge
 
-module _ {w : Words} {source target : ℕ} (pre : EdgeAddable w source target) where
+module _ {w : Words} {source target : ℕ} {payload : EdgePayload} (pre : EdgeAddable w source target payload) where
   -- the counts stay words
   pub edge-raisable : Raisable (w .counts .edges)
   edge-raisable = record {
@@ -150,17 +155,19 @@ module _ {w : Words} {source target : ℕ} (pre : EdgeAddable w source target) w
   }
 
   -- the step of document 01 adds an edge; its value is the slot
-  pub edge-comes : (payload : ℕ)
-      → step (capacities w) (lists w) (AddEdge source target payload) ≡ changed (w .counts .edges .bound) (edge-added source target payload (lists w))
+  pub edge-comes : step (capacities w) (lists w) (AddEdge source target payload) ≡ changed (w .counts .edges .bound) (edge-added source target payload (lists w))
   unfolding plain-of
-  edge-comes payload =
-      comes-to (add-edge (rw (node-flags-are w) (pre .source-live)) (rw (node-flags-are w) (pre .target-live)) (rw (edge-bound-is w) (pre .room)))
+  edge-comes =
+      comes-to (add-edge (pre .in-order) (rw (node-flags-are w) (pre .source-live)) (rw (node-flags-are w) (pre .target-live)) (rw (edge-bound-is w) (pre .room)))
       ∙ ap (λ (n : ℕ). changed n (edge-added source target payload (lists w))) (edge-bound-is w)
+
+  -- both columns have a word of the edge
+  high-there : w .counts .edges .bound < length (w .highs)
+  high-there = omega (arith, pre .room, pre .checked .highs-long)
 
   -- the store with its edge, from what was written
   module _
-      (payload : ℕ)
-      (fits : payload < 2 ^ 32)
+      (fits : payload .high < 2 ^ 32)
       {live outgoing incoming : List ℕ}
       (pushed : Pushed (w .live-edges) (w .counts .edges .bound) live)
       (out : Appended (w .outgoing) outgoing (edge-capacity w) (w .counts .nodes .bound) (w .counts .edges .base) source (w .counts .edges .bound))
@@ -172,20 +179,23 @@ module _ {w : Words} {source target : ℕ} (pre : EdgeAddable w source target) w
       -- the store afterwards
       abbrev with-edge : Words
       with-edge =
-          store (with-edges (one-more (w .counts .edges)) (w .counts)) (w .nodes) (set (w .edges) (w .counts .edges .bound) payload) (w .live-nodes) live outgoing incoming
+          store (with-edges (one-more (w .counts .edges)) (w .counts)) (w .nodes) (set (w .lows) (w .counts .edges .bound) (payload .low))
+          (set (w .highs) (w .counts .edges .bound) (payload .high)) (w .live-nodes) live outgoing incoming
 
       -- no slice grows or shrinks
       edge-lengths : SameLengths w with-edge
-      edge-lengths = each-length refl (length-set (w .edges) (w .counts .edges .bound) payload) refl live-long out-long inc-long
+      edge-lengths =
+          each-length refl (length-set (w .lows) (w .counts .edges .bound) (payload .low)) (length-set (w .highs) (w .counts .edges .bound) (payload .high)) refl live-long out-long inc-long
 
       -- its shape is what the operation makes of the shape
       edge-shape : shape-of with-edge ≡ acted (AddEdge source target payload) (shape-of w)
       unfolding shape-of acted
       edge-shape =
-          rw (length-set (w .edges) (w .counts .edges .bound) payload, pushed .flags)
+          rw (length-set (w .lows) (w .counts .edges .bound) (payload .low), pushed .flags)
           (shape-ext refl
-          (slots-more (λ v b. record { payload = v; live = b }) (w .edges) (edge-live w) (w .counts .edges .bound)
-          (length-flags (w .live-edges) (w .counts .edges .bound)) (pre .checked .edges .bounded .bound-within) payload (pre .room))
+          (slots-more (λ v b. record { payload = v; live = b }) (edge-payload-at w) (edge-payload-at with-edge) (edge-live w) (w .counts .edges .bound)
+          (length-flags (w .live-edges) (w .counts .edges .bound)) payload (payload-here (w .lows) (w .highs) (w .counts .edges .bound) payload (pre .room) high-there)
+          (λ x l. payload-other (w .lows) (w .highs) (w .counts .edges .bound) payload x (omega arith)))
           refl refl
           (appended-axis (pre .checked) Outgoing outgoing out-long source out (pre .room) (end-below source (pre .source-live))
           ∙ ap (λ (e : ℕ). appended e source (axis-of (w .outgoing) (edge-capacity w) (node-capacity w) (w .counts))) (sym (edge-bound-is w)))
@@ -199,21 +209,24 @@ module _ {w : Words} {source target : ℕ} (pre : EdgeAddable w source target) w
         checked = record {
           nodes = pre .checked .nodes;
           edges = rw (same-edges edge-lengths) (pushed-checked (pre .checked .edges) pushed live-long (pre .room));
+          highs-long = rw (same-edges edge-lengths, same-highs edge-lengths) (pre .checked .highs-long);
           axis = directions;
-          walks = acted-walks (pre .checked) (AddEdge source target payload) (edge-comes payload) refl with-edge fits edge-lengths edge-shape;
+          walks = acted-walks (pre .checked) (AddEdge source target payload) edge-comes refl with-edge fits edge-lengths edge-shape;
         };
         lengths = edge-lengths;
         kept = record {
           nodes-grow = omega arith;
           edges-grow = omega arith;
           nodes = past-none (w .nodes) (w .live-nodes) (w .counts .nodes .bound);
-          edges = record { payloads = λ i h. getD-set-other (w .edges) (w .counts .edges .bound) i payload 0 (omega arith); live = pushed-word pushed };
+          edges = record { payloads = λ i h. getD-set-other (w .lows) (w .counts .edges .bound) i (payload .low) 0 (omega arith); live = pushed-word pushed };
+          highs = λ i h. getD-set-other (w .highs) (w .counts .edges .bound) i (payload .high) 0 (omega arith);
           axis = kept;
         };
         live-only = tt;
         writes = record {
           nodes = λ x off. refl;
-          edges = λ e off. getD-set-other (w .edges) (w .counts .edges .bound) e payload 0 off;
+          lows = λ e off. getD-set-other (w .lows) (w .counts .edges .bound) e (payload .low) 0 off;
+          highs = λ e off. getD-set-other (w .highs) (w .counts .edges .bound) e (payload .high) 0 off;
           live-nodes = λ i off. refl;
           live-edges = pushed-other pushed;
           axis = written;
@@ -230,7 +243,7 @@ module _ {w : Words} {source target : ℕ} (pre : EdgeAddable w source target) w
           kept Incoming = appended-kept inc (end-below target (pre .target-live)) (pre .checked .nodes .bounded .bound-within) (pre .room)
 
           directions : (d : TraversalDirection)
-              → AxisChecked (axis-words d with-edge) (length (with-edge .edges)) (node-capacity w) (with-edge .counts) (node-live w) (edge-live with-edge)
+              → AxisChecked (axis-words d with-edge) (edge-capacity with-edge) (node-capacity w) (with-edge .counts) (node-live w) (edge-live with-edge)
           directions Outgoing =
               rw (same-edges edge-lengths, pushed .flags)
               (appended-checked (pre .checked) Outgoing outgoing out-long source out (pre .room) (end-below source (pre .source-live)))

@@ -6,7 +6,6 @@ use mathlib.Core.Bool.{Bool, true, false}
 use mathlib.Core.Logic.{_⊎_, inl, inr}
 use mathlib.Core.List.{List, _++_, map}
 use lib.ListN.{length, getD, set}
-use lib.Seq.{set-getD}
 use lib.Dec.{eqb}
 use borrow.Author.Tests.{eqb-true}
 use Rattle.plain.specs.declared.TraversalDirection.{TraversalDirection}
@@ -60,10 +59,10 @@ module _ {w : Words} (checked : Checked w) (node : ℕ) (live : getD (node-live 
     where
       abbrev without-node : Words
       without-node =
-          store (record { nodes = fewer 1 (w .counts .nodes); edges = fewer n (w .counts .edges) }) (w .nodes) (w .edges) nodes-after edges-after (w .outgoing) (w .incoming)
+          store (record { nodes = fewer 1 (w .counts .nodes); edges = fewer n (w .counts .edges) }) (w .nodes) (w .lows) (w .highs) nodes-after edges-after (w .outgoing) (w .incoming)
 
       clear-lengths : SameLengths w without-node
-      clear-lengths = each-length refl refl long (gone .long) refl refl
+      clear-lengths = each-length refl refl refl long (gone .long) refl refl
 
       -- another node that is dead now was dead
       was-dead : (x : ℕ) → eqb x node ≡ false → getD (node-live without-node) x false ≡ false → getD (node-live w) x false ≡ false
@@ -91,14 +90,13 @@ module _ {w : Words} (checked : Checked w) (node : ℕ) (live : getD (node-live 
       clear-shape =
           let slots = from 0 (w .counts .nodes .bound) in
           let old = node-slot-at w in
-          let payload = getD (w .nodes) node 0 in
+          let payload : ℕ → ℕ = λ x. getD (w .nodes) x 0 in
           shape-ext
           (rw (cleared .flags)
-          (ap (λ (ps : List ℕ). map (λ x. node-slot (getD ps x 0) (getD (set (node-live w) node false) x false)) slots) (sym (set-getD (w .nodes) node 0))
-          ∙ slots-set node-slot (w .nodes) (node-live w) (w .counts .nodes .bound) (length-flags (w .live-nodes) (w .counts .nodes .bound))
-          (checked .nodes .bounded .bound-within) node payload false node-below
+          (slots-set node-slot payload payload (node-live w) (w .counts .nodes .bound) (length-flags (w .live-nodes) (w .counts .nodes .bound))
+          node (payload node) false node-below refl (λ y ne. refl)
           ∙ ap (λ (s : NodeSlot). set (map old slots) node (killed-node s)) (sym (made-at old (w .counts .nodes .bound) node no-node node-below))))
-          (retired-slots w without-node refl refl gone) refl refl refl refl
+          (retired-slots w without-node refl refl refl gone) refl refl refl refl
 
       -- the node was removed
       pub cleared-acted : Acted (RemoveNode node) w without-node
@@ -108,6 +106,7 @@ module _ {w : Words} (checked : Checked w) (node : ℕ) (live : getD (node-live 
         checked = record {
           nodes = cleared-checked (checked .nodes) node live cleared long;
           edges = retired-checked (checked .edges) gone;
+          highs-long = checked .highs-long;
           axis = directions;
           walks = acted-walks checked (RemoveNode node) (comes-to (remove-node (rw (node-flags-are w) live))) refl without-node tt clear-lengths clear-shape;
         };
@@ -117,12 +116,14 @@ module _ {w : Words} (checked : Checked w) (node : ℕ) (live : getD (node-live 
           edges-grow = omega arith;
           nodes = record { payloads = λ i h. refl; live = cleared-word cleared node-below };
           edges = record { payloads = λ i h. refl; live = retired-word gone };
+          highs = λ i h. refl;
           axis = kept;
         };
         live-only = tt;
         writes = record {
           nodes = λ x off. refl;
-          edges = λ e off. refl;
+          lows = λ e off. refl;
+          highs = λ e off. refl;
           live-nodes = cleared-other cleared;
           live-edges = λ i off. gone .others i (λ e m alive q. off (e, walked e m, q));
           axis = written;
@@ -161,11 +162,11 @@ module _
   where
     -- nothing live was there
     pub clearing-none : answer ≡ false
-        → RemovedNode node w false (store (w .counts) (w .nodes) (w .edges) nodes-after (w .live-edges) (w .outgoing) (w .incoming))
+        → RemovedNode node w false (store (w .counts) (w .nodes) (w .lows) (w .highs) nodes-after (w .live-edges) (w .outgoing) (w .incoming))
     clearing-none none = record {
       answers = sym none ∙ cleared .answers;
       acts = λ q. true-false q refl;
-      keeps = λ _. ap (λ (l : List ℕ). store (w .counts) (w .nodes) (w .edges) l (w .live-edges) (w .outgoing) (w .incoming)) (cleared .keeps none);
+      keeps = λ _. ap (λ (l : List ℕ). store (w .counts) (w .nodes) (w .lows) (w .highs) l (w .live-edges) (w .outgoing) (w .incoming)) (cleared .keeps none);
     }
 
     module _ (found : answer ≡ true) where

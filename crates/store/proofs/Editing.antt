@@ -9,6 +9,7 @@ use lib.Seq.{set-getD, getD-set-other}
 use lib.Dec.{eqb}
 use Rattle.plain.specs.declared.TraversalDirection.{TraversalDirection}
 use Rattle.plain.specs.declared.TraversalDirection.the-variants.{Outgoing, Incoming}
+use Rattle.plain.specs.declared.EdgePayload.{EdgePayload}
 use Rattle.plain.specs.declared.Operation.the-variants.{RemoveEdge, SetPayload}
 use Rattle.plain.specs.Lists.{from}
 use Rattle.plain.specs.Plain.{EdgeSlot, killed-edge, no-edge, edge-flags, edge-removed, payload-set}
@@ -19,18 +20,18 @@ use Rattle.plain.specs.Laws.Deleting.{getD-set}
 use Rattle.plain.specs.Laws.Rank.{live-below}
 use Rattle.liveness.specs.Calls.{Cleared}
 use Rattle.liveness.specs.FlagLaws.{length-flags}
-use Rattle.shape.specs.Shape.{Words, node-capacity, edge-capacity, capacities, node-live, edge-live, edge-slot-at, axis-words, axis-of, shape-of, plain-of, store, lists}
+use Rattle.shape.specs.Shape.{Words, node-capacity, edge-capacity, capacities, node-live, edge-live, edge-payload-at, edge-slot-at, axis-words, axis-of, shape-of, plain-of, store, lists}
 use Rattle.shape.specs.Checked.{AxisChecked, Checked}
-use Rattle.shape.specs.Kept.{SameLengths, AxisKept, each-length, same-edges, past-none, axis-kept-none}
+use Rattle.shape.specs.Kept.{SameLengths, AxisKept, each-length, same-edges, same-highs, past-none, axis-kept-none}
 use Rattle.shape.specs.Steps.{retired, acted}
 use Rattle.shape.specs.Laws.Reading.{made-at, edge-bound-is, edge-flags-are}
 use Rattle.store.proofs.Keeping.{cleared-word, cleared-other}
-use Rattle.store.proofs.Made.{slots-set}
+use Rattle.store.proofs.Made.{slots-set, payload-here, payload-other}
 use Rattle.store.specs.Operations.{Acted, RemovedEdge, fewer, with-edges, PayloadSettable}
 use Rattle.store.specs.Acting.{shape-ext, acted-walks, some-live, cleared-checked}
 
 -- an edge slot by its payload and its flag
-abbrev edge-slot : ℕ → Bool → EdgeSlot
+abbrev edge-slot : EdgePayload → Bool → EdgeSlot
 edge-slot v b = record { payload = v; live = b }
 
 -- a flag that is made false, or was
@@ -81,11 +82,11 @@ module _ {w : Words} (checked : Checked w) (edge : ℕ) (live : getD (edge-live 
     where
       -- the store afterwards
       abbrev without-edge : Words
-      without-edge = store (with-edges (fewer 1 (w .counts .edges)) (w .counts)) (w .nodes) (w .edges) (w .live-nodes) after (w .outgoing) (w .incoming)
+      without-edge = store (with-edges (fewer 1 (w .counts .edges)) (w .counts)) (w .nodes) (w .lows) (w .highs) (w .live-nodes) after (w .outgoing) (w .incoming)
 
       -- no slice grows or shrinks
       remove-lengths : SameLengths w without-edge
-      remove-lengths = each-length refl refl refl long refl refl
+      remove-lengths = each-length refl refl refl refl long refl refl
 
       -- its shape is what the operation makes of the shape
       remove-shape : shape-of without-edge ≡ acted (RemoveEdge edge) (shape-of w)
@@ -93,12 +94,10 @@ module _ {w : Words} (checked : Checked w) (edge : ℕ) (live : getD (edge-live 
       remove-shape =
           let slots = from 0 (w .counts .edges .bound) in
           let old = edge-slot-at w in
-          let payload = getD (w .edges) edge 0 in
           rw (cleared .flags)
           (shape-ext refl
-          (ap (λ (ps : List ℕ). map (λ e. edge-slot (getD ps e 0) (getD (set (edge-live w) edge false) e false)) slots) (sym (set-getD (w .edges) edge 0))
-          ∙ slots-set edge-slot (w .edges) (edge-live w) (w .counts .edges .bound) (length-flags (w .live-edges) (w .counts .edges .bound))
-          (checked .edges .bounded .bound-within) edge payload false removed-below
+          (slots-set edge-slot (edge-payload-at w) (edge-payload-at w) (edge-live w) (w .counts .edges .bound)
+          (length-flags (w .live-edges) (w .counts .edges .bound)) edge (edge-payload-at w edge) false removed-below refl (λ y ne. refl)
           ∙ ap (λ (s : EdgeSlot). set (map old slots) edge (killed-edge s)) (sym (made-at old (w .counts .edges .bound) edge no-edge removed-below)))
           refl refl refl refl)
 
@@ -109,6 +108,7 @@ module _ {w : Words} (checked : Checked w) (edge : ℕ) (live : getD (edge-live 
         checked = record {
           nodes = checked .nodes;
           edges = cleared-checked (checked .edges) edge live cleared long;
+          highs-long = checked .highs-long;
           axis = directions;
           walks = acted-walks checked (RemoveEdge edge) (rw live at (remove-comes w edge)) refl without-edge tt remove-lengths remove-shape;
         };
@@ -118,10 +118,11 @@ module _ {w : Words} (checked : Checked w) (edge : ℕ) (live : getD (edge-live 
           edges-grow = omega arith;
           nodes = past-none (w .nodes) (w .live-nodes) (w .counts .nodes .bound);
           edges = record { payloads = λ i h. refl; live = cleared-word cleared removed-below };
+          highs = λ i h. refl;
           axis = kept;
         };
         live-only = tt;
-        writes = record { nodes = λ x off. refl; edges = λ e off. refl; live-nodes = λ i off. refl; live-edges = cleared-other cleared; axis = written };
+        writes = record { nodes = λ x off. refl; lows = λ e off. refl; highs = λ e off. refl; live-nodes = λ i off. refl; live-edges = cleared-other cleared; axis = written };
       }
         where
           kept : (d : TraversalDirection)
@@ -162,29 +163,38 @@ module _
 
     -- nothing live was there
     pub removing-none : answer ≡ false
-        → RemovedEdge edge w false (store (w .counts) (w .nodes) (w .edges) (w .live-nodes) after (w .outgoing) (w .incoming))
+        → RemovedEdge edge w false (store (w .counts) (w .nodes) (w .lows) (w .highs) (w .live-nodes) after (w .outgoing) (w .incoming))
     removing-none none = record {
       answers = sym none ∙ cleared .answers;
       acts = λ q. true-false q refl;
-      keeps = λ _. ap (λ (l : List ℕ). store (w .counts) (w .nodes) (w .edges) (w .live-nodes) l (w .outgoing) (w .incoming)) (cleared .keeps none);
+      keeps = λ _. ap (λ (l : List ℕ). store (w .counts) (w .nodes) (w .lows) (w .highs) (w .live-nodes) l (w .outgoing) (w .incoming)) (cleared .keeps none);
     }
 
 -- ---- an edge's payload
 
-module _ {w : Words} {edge : ℕ} (pre : PayloadSettable w edge) (payload : ℕ) (fits : payload < 2 ^ 32) where
+module _ {w : Words} {edge : ℕ} {payload : EdgePayload} (pre : PayloadSettable w edge payload) (fits : payload .high < 2 ^ 32) where
   -- the store afterwards
   abbrev with-payload : Words
-  with-payload = store (w .counts) (w .nodes) (set (w .edges) edge payload) (w .live-nodes) (w .live-edges) (w .outgoing) (w .incoming)
+  with-payload =
+      store (w .counts) (w .nodes) (set (w .lows) edge (payload .low)) (set (w .highs) edge (payload .high)) (w .live-nodes) (w .live-edges) (w .outgoing) (w .incoming)
 
   -- the step of document 01 sets it
   pub payload-comes : step (capacities w) (lists w) (SetPayload edge payload)
       ≡ record { number = 0; value = 0; lists = payload-set edge payload (lists w); keeps-compact = true }
   unfolding plain-of
-  payload-comes = comes-to (set-payload (rw (edge-bound-is w) (pre .below)))
+  payload-comes = comes-to (set-payload (pre .in-order) (rw (edge-bound-is w) (pre .below)))
+
+  -- both columns have a word of the edge
+  low-there : edge < edge-capacity w
+  low-there = omega (arith, pre .below, pre .checked .edges .bounded .bound-within)
+
+  high-there : edge < length (w .highs)
+  high-there = omega (arith, low-there, pre .checked .highs-long)
 
   -- no slice grows or shrinks
   payload-lengths : SameLengths w with-payload
-  payload-lengths = each-length refl (length-set (w .edges) edge payload) refl refl refl refl
+  payload-lengths =
+      each-length refl (length-set (w .lows) edge (payload .low)) (length-set (w .highs) edge (payload .high)) refl refl refl refl
 
   -- its shape is what the operation makes of the shape
   payload-shape : shape-of with-payload ≡ acted (SetPayload edge payload) (shape-of w)
@@ -192,11 +202,12 @@ module _ {w : Words} {edge : ℕ} (pre : PayloadSettable w edge) (payload : ℕ)
   payload-shape =
       let slots = from 0 (w .counts .edges .bound) in
       let old = edge-slot-at w in
-      rw (length-set (w .edges) edge payload)
+      rw (length-set (w .lows) edge (payload .low))
       (shape-ext refl
-      (ap (λ (fs : List Bool). map (λ e. edge-slot (getD (set (w .edges) edge payload) e 0) (getD fs e false)) slots) (sym (set-getD (edge-live w) edge false))
-      ∙ slots-set edge-slot (w .edges) (edge-live w) (w .counts .edges .bound) (length-flags (w .live-edges) (w .counts .edges .bound))
-      (pre .checked .edges .bounded .bound-within) edge payload (getD (edge-live w) edge false) (pre .below)
+      (ap (λ (fs : List Bool). map (λ e. edge-slot (edge-payload-at with-payload e) (getD fs e false)) slots) (sym (set-getD (edge-live w) edge false))
+      ∙ slots-set edge-slot (edge-payload-at w) (edge-payload-at with-payload) (edge-live w) (w .counts .edges .bound)
+      (length-flags (w .live-edges) (w .counts .edges .bound)) edge payload (getD (edge-live w) edge false) (pre .below)
+      (payload-here (w .lows) (w .highs) edge payload low-there high-there) (payload-other (w .lows) (w .highs) edge payload)
       ∙ ap (λ (s : EdgeSlot). set (map old slots) edge (edge-slot payload (s .live))) (sym (made-at old (w .counts .edges .bound) edge no-edge (pre .below))))
       refl refl refl refl)
 
@@ -207,6 +218,7 @@ module _ {w : Words} {edge : ℕ} (pre : PayloadSettable w edge) (payload : ℕ)
     checked = record {
       nodes = pre .checked .nodes;
       edges = rw (same-edges payload-lengths) (pre .checked .edges);
+      highs-long = rw (same-edges payload-lengths, same-highs payload-lengths) (pre .checked .highs-long);
       axis = directions;
       walks = acted-walks (pre .checked) (SetPayload edge payload) payload-comes refl with-payload fits payload-lengths payload-shape;
     };
@@ -215,13 +227,15 @@ module _ {w : Words} {edge : ℕ} (pre : PayloadSettable w edge) (payload : ℕ)
       nodes-grow = omega arith;
       edges-grow = omega arith;
       nodes = past-none (w .nodes) (w .live-nodes) (w .counts .nodes .bound);
-      edges = record { payloads = λ i h. let low = pre .below in getD-set-other (w .edges) edge i payload 0 (omega arith); live = λ i h. refl };
+      edges = record { payloads = λ i h. let low = pre .below in getD-set-other (w .lows) edge i (payload .low) 0 (omega arith); live = λ i h. refl };
+      highs = λ i h. let low = pre .below in getD-set-other (w .highs) edge i (payload .high) 0 (omega arith);
       axis = kept;
     };
     live-only = tt;
     writes = record {
       nodes = λ x off. refl;
-      edges = λ e off. getD-set-other (w .edges) edge e payload 0 off;
+      lows = λ e off. getD-set-other (w .lows) edge e (payload .low) 0 off;
+      highs = λ e off. getD-set-other (w .highs) edge e (payload .high) 0 off;
       live-nodes = λ i off. refl;
       live-edges = λ i off. refl;
       axis = written;
@@ -238,6 +252,6 @@ module _ {w : Words} {edge : ℕ} (pre : PayloadSettable w edge) (payload : ℕ)
       kept Incoming = axis-kept-none (w .incoming) (edge-capacity w) (node-capacity w) (w .counts .nodes .bound) (w .counts .edges .bound)
 
       directions : (d : TraversalDirection)
-          → AxisChecked (axis-words d with-payload) (length (with-payload .edges)) (node-capacity w) (w .counts) (node-live w) (edge-live w)
+          → AxisChecked (axis-words d with-payload) (edge-capacity with-payload) (node-capacity w) (w .counts) (node-live w) (edge-live w)
       directions Outgoing = rw (same-edges payload-lengths) (pre .checked .axis Outgoing)
       directions Incoming = rw (same-edges payload-lengths) (pre .checked .axis Incoming)

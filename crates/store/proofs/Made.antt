@@ -1,14 +1,15 @@
 -- Lists made of the slots below a number, as the lists of a shape are: one more slot, one slot set.
-use Prim.Native.Nat.{ℕ, _+_, _≤_, _<_}
+use Prim.Native.Nat.{ℕ, _+_, _<_}
 use native.Mathlib.Omega.{arith}
 use mathlib.Core.Path.{_≡_, sym, ap, _∙_}
 use mathlib.Core.Bool.{Bool, true, false, cond}
 use mathlib.Core.Logic.{_≢_}
 use mathlib.Core.List.{List, [], _∷_, _++_, map}
 use lib.ListN.{length, getD, set, length-append, length-set}
-use lib.Seq.{ext-getD}
+use lib.Seq.{ext-getD, getD-set-same, getD-set-other}
 use lib.Dec.{eqb}
 use borrow.Author.Tests.{eqb-true, eqb-false, eq-eqb, ne-eqb}
+use Rattle.plain.specs.declared.EdgePayload.{EdgePayload}
 use Rattle.plain.specs.Lists.{from}
 use Rattle.plain.specs.Laws.Booleans.{by-test}
 use Rattle.plain.specs.Laws.Deleting.{getD-set, getD-snoc}
@@ -43,36 +44,46 @@ module _ {A : Type 0} (f g : ℕ → A) (n : ℕ) where
           by-test (eqb y x) (λ t. rw (t, eqb-true y x t) (sym here))
           (λ t. rw t (made-at f n y a k ∙ sym (others y k (eqb-false y x t))))
 
--- slots, each made of a payload and a live flag
+-- slots, each made of a payload and a live flag, where the payloads were `old` and are `new`
 module _
-    {A : Type 0}
-    (make : ℕ → Bool → A)
-    (payloads : List ℕ)
+    {A P : Type 0}
+    (make : P → Bool → A)
+    (old new : ℕ → P)
     (flags : List Bool)
     (n : ℕ)
     (flagged : length flags ≡ n)
-    (room : n ≤ length payloads)
   where
     -- a slot by its payload and its flag
-    abbrev pub slot-at : List ℕ → List Bool → ℕ → A
-    slot-at ps fs x = make (getD ps x 0) (getD fs x false)
+    abbrev pub slot-at : (ℕ → P) → List Bool → ℕ → A
+    slot-at payload fs x = make (payload x) (getD fs x false)
 
     -- a live slot more
-    pub slots-more : (v : ℕ) → n < length payloads
-        → map (slot-at (set payloads n v) (flags ++ (true ∷ []))) (from 0 (n + 1)) ≡ map (slot-at payloads flags) (from 0 n) ++ (make v true ∷ [])
-    slots-more v more =
-        made-more (slot-at payloads flags) (slot-at (set payloads n v) (flags ++ (true ∷ []))) n
+    pub slots-more : (v : P) → new n ≡ v → ((x : ℕ) → x < n → new x ≡ old x)
+        → map (slot-at new (flags ++ (true ∷ []))) (from 0 (n + 1)) ≡ map (slot-at old flags) (from 0 n) ++ (make v true ∷ [])
+    slots-more v here others =
+        made-more (slot-at old flags) (slot-at new (flags ++ (true ∷ []))) n
         (λ x l. let ne : x ≢ n = omega arith in
-        rw (getD-set payloads n x v 0 more, getD-snoc flags x true false, flagged, ne-eqb x n ne))
-        ∙ ap (λ (a : A). map (slot-at payloads flags) (from 0 n) ++ (a ∷ []))
-        (rw (getD-set payloads n n v 0 more, getD-snoc flags n true false, flagged, eq-eqb n n (omega arith)))
+        rw (others x l, getD-snoc flags x true false, flagged, ne-eqb x n ne))
+        ∙ ap (λ (a : A). map (slot-at old flags) (from 0 n) ++ (a ∷ []))
+        (rw (here, getD-snoc flags n true false, flagged, eq-eqb n n (omega arith)))
 
     -- one slot with another payload and flag
-    pub slots-set : (e v : ℕ) (b : Bool) → e < n
-        → map (slot-at (set payloads e v) (set flags e b)) (from 0 n) ≡ set (map (slot-at payloads flags) (from 0 n)) e (make v b)
-    slots-set e v b l =
-        let more : e < length payloads = omega arith in
+    pub slots-set : (e : ℕ) (v : P) (b : Bool) → e < n → new e ≡ v → ((y : ℕ) → y ≢ e → new y ≡ old y)
+        → map (slot-at new (set flags e b)) (from 0 n) ≡ set (map (slot-at old flags) (from 0 n)) e (make v b)
+    slots-set e v b l here others =
         let low : e < length flags = omega arith in
-        made-set (slot-at payloads flags) (slot-at (set payloads e v) (set flags e b)) n e (make v b) l
-        (rw (getD-set payloads e e v 0 more, getD-set flags e e b false low, eq-eqb e e (omega arith)))
-        (λ y k ne. rw (getD-set payloads e y v 0 more, getD-set flags e y b false low, ne-eqb y e ne))
+        made-set (slot-at old flags) (slot-at new (set flags e b)) n e (make v b) l
+        (rw (here, getD-set flags e e b false low, eq-eqb e e (omega arith)))
+        (λ y k ne. rw (others y ne, getD-set flags e y b false low, ne-eqb y e ne))
+
+-- a payload written to both its columns
+module _ (lows highs : List ℕ) (e : ℕ) (v : EdgePayload) where
+  -- what then stands at a slot
+  abbrev payload-after : ℕ → EdgePayload
+  payload-after x = record { low = getD (set lows e (v .low)) x 0; high = getD (set highs e (v .high)) x 0 }
+
+  pub payload-here : e < length lows → e < length highs → payload-after e ≡ v
+  payload-here l h = rw (getD-set-same lows e (v .low) 0 l, getD-set-same highs e (v .high) 0 h)
+
+  pub payload-other : (x : ℕ) → x ≢ e → payload-after x ≡ record { low = getD lows x 0; high = getD highs x 0 }
+  payload-other x ne = rw (getD-set-other lows e x (v .low) 0 ne, getD-set-other highs e x (v .high) 0 ne)

@@ -71,7 +71,7 @@ axis-with Incoming vs w Incoming = vs
 
 abbrev pub with-axis-words : TraversalDirection → List ℕ → Words → Words
 with-axis-words d vs w =
-    store (w .counts) (w .nodes) (w .edges) (w .live-nodes) (w .live-edges) (axis-with d vs w Outgoing) (axis-with d vs w Incoming)
+    store (w .counts) (w .nodes) (w .lows) (w .highs) (w .live-nodes) (w .live-edges) (axis-with d vs w Outgoing) (axis-with d vs w Incoming)
 
 both : (w : Words) (vs : List ℕ) (P : TraversalDirection → List ℕ → Type 0) (d : TraversalDirection) → P d vs → ((e : TraversalDirection) → P e (axis-words e w))
     → (e : TraversalDirection) → P e (axis-words e (with-axis-words d vs w))
@@ -83,7 +83,7 @@ both w vs P Incoming one rest Incoming = one
 axis-lengths : (w : Words) (d : TraversalDirection) (vs : List ℕ) → length vs ≡ length (axis-words d w) → SameLengths w (with-axis-words d vs w)
 axis-lengths w d vs long =
     let axes = both w vs (λ e us. length us ≡ length (axis-words e w)) d long (λ e. refl) in
-    each-length refl refl refl refl (axes Outgoing) (axes Incoming)
+    each-length refl refl refl refl refl (axes Outgoing) (axes Incoming)
 
 -- the words that an operation leaves
 axis-kept : (w : Words) (d : TraversalDirection) (vs : List ℕ)
@@ -92,7 +92,8 @@ axis-kept w d vs frame = record {
   nodes-grow = omega arith;
   edges-grow = omega arith;
   nodes = past-none (w .nodes) (w .live-nodes) (w .counts .nodes .bound);
-  edges = past-none (w .edges) (w .live-edges) (w .counts .edges .bound);
+  edges = past-none (w .lows) (w .live-edges) (w .counts .edges .bound);
+  highs = λ i h. refl;
   axis = both w vs
       (λ e us. AxisKept (axis-words e w) us (edge-capacity w) (node-capacity w) (w .counts .nodes .bound) (w .counts .nodes .bound) (w .counts .edges .bound)) d frame
       (λ e. axis-kept-none (axis-words e w) (edge-capacity w) (node-capacity w) (w .counts .nodes .bound) (w .counts .edges .bound));
@@ -102,7 +103,8 @@ axis-writes : (w : Words) (d : TraversalDirection) (vs : List ℕ) (operation : 
     → Writes operation w (with-axis-words d vs w)
 axis-writes w d vs operation words = record {
   nodes = λ x off. refl;
-  edges = λ e off. refl;
+  lows = λ e off. refl;
+  highs = λ e off. refl;
   live-nodes = λ i off. refl;
   live-edges = λ i off. refl;
   axis = both w vs (λ e us. Only (WritesAxis operation w e) (axis-words e w) us) d words (λ e i off. refl);
@@ -148,6 +150,7 @@ relocated-acted {w} k d vs operation comes acting fits long shape live axis fram
   checked = record {
     nodes = k .nodes;
     edges = k .edges;
+    highs-long = k .highs-long;
     axis = both w vs (λ e us. AxisChecked us (edge-capacity w) (node-capacity w) (w .counts) (node-live w) (edge-live w)) d axis (k .axis);
     walks = acted-walks k operation comes acting (with-axis-words d vs w) fits (axis-lengths w d vs long) shape;
   };

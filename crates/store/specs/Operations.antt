@@ -10,6 +10,7 @@ use lib.ListN.{length, getD}
 use Rattle.plain.specs.declared.Operation.{Operation}
 use Rattle.plain.specs.declared.Operation.the-variants.{RemoveEdge, RemoveNode, Redirect, Move}
 use Rattle.plain.specs.declared.TraversalDirection.{TraversalDirection}
+use Rattle.plain.specs.declared.EdgePayload.{EdgePayload}
 use Rattle.plain.specs.declared.Slots.{Slots}
 use Rattle.plain.specs.declared.Counts.{Counts}
 use Rattle.plain.specs.Plain.{list-of}
@@ -58,6 +59,12 @@ pub record MovedEdges (d : TraversalDirection) (old new : ℕ) (w : Words) (answ
   pub counted : answer ≡ length (list-of d (lists w) old)
   pub acts : Acted (Move d old new) w v
 
+-- ---- payloads
+
+-- the payload of these weights
+abbrev pub weighing : ℕ → ℕ → EdgePayload
+weighing low high = record { low = low; high = high }
+
 -- ---- the counts
 
 -- a live slot more
@@ -86,16 +93,18 @@ pub record NodeAddable (w : Words) : Type 0 where
   pub checked : Checked w
   pub room : w .counts .nodes .bound < node-capacity w
 
--- What it takes to add an edge: both ends are live, and a slot below the capacity.
-pub record EdgeAddable (w : Words) (source target : ℕ) : Type 0 where
+-- What it takes to add an edge: no low above its high, both ends are live, and a slot below the capacity.
+pub record EdgeAddable (w : Words) (source target : ℕ) (payload : EdgePayload) : Type 0 where
   pub checked : Checked w
+  pub in-order : payload .low ≤ payload .high
   pub source-live : getD (node-live w) source false ≡ true
   pub target-live : getD (node-live w) target false ≡ true
   pub room : w .counts .edges .bound < edge-capacity w
 
--- What it takes to set an edge's payload: the slot is below the bound; the edge may be removed.
-pub record PayloadSettable (w : Words) (edge : ℕ) : Type 0 where
+-- What it takes to set an edge's payload: no low above its high, and the slot is below the bound; the edge may be removed.
+pub record PayloadSettable (w : Words) (edge : ℕ) (payload : EdgePayload) : Type 0 where
   pub checked : Checked w
+  pub in-order : payload .low ≤ payload .high
   pub below : edge < w .counts .edges .bound
 
 -- What it takes to redirect an edge: it is live, and so is the node.

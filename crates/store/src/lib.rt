@@ -17,7 +17,7 @@ ghost use mathlib.Core.Path.{_≡_};
 ghost use Rattle.plain.specs.declared.Operation.the-variants.{AddNode, AddEdge, SetPayload};
 ghost use Rattle.shape.specs.Checked.{Checked};
 ghost use Rattle.shape.specs.Lent.{lent, at-entry, at-exit};
-ghost use Rattle.store.specs.Operations.{Acted, RemovedEdge, RemovedNode, RedirectedEdge, MovedEdges, Raisable, one-more as raised, fewer as lowered, NodeAddable, EdgeAddable, EdgeRedirectable, EdgesMovable, PayloadSettable};
+ghost use Rattle.store.specs.Operations.{Acted, RemovedEdge, RemovedNode, RedirectedEdge, MovedEdges, weighing, Raisable, one-more as raised, fewer as lowered, NodeAddable, EdgeAddable, EdgeRedirectable, EdgesMovable, PayloadSettable};
 
 // What removing answers: the counts, and whether something live was there.
 pub struct Removal {
@@ -53,17 +53,18 @@ fn fewer(slots: Slots, n: u32) -> Slots
 pub fn add_node(
     counts: Counts,
     nodes: &mut [u32],
-    edges: &[u32],
+    lows: &[u32],
+    highs: &[u32],
     live_nodes: &mut [u64],
     live_edges: &[u64],
     outgoing: &mut [u32],
     incoming: &mut [u32],
     payload: u32,
 ) -> Counts
-    requires { ⌜ NodeAddable (lent counts nodes edges «live_nodes» «live_edges» outgoing incoming) ⌝ }
+    requires { ⌜ NodeAddable (lent counts nodes lows highs «live_nodes» «live_edges» outgoing incoming) ⌝ }
     ensures { λ r. ⌜ Acted (AddNode payload)
-        (at-entry counts nodes edges «live_nodes» «live_edges» outgoing incoming)
-        (at-exit r nodes edges «live_nodes» «live_edges» outgoing incoming) ⌝ }
+        (at-entry counts nodes lows highs «live_nodes» «live_edges» outgoing incoming)
+        (at-exit r nodes lows highs «live_nodes» «live_edges» outgoing incoming) ⌝ }
 {
     let slots = counts.nodes;
     let others = counts.edges;
@@ -72,8 +73,8 @@ pub fn add_node(
     let more = one_more(slots);
     nodes[slot] = payload;
     liveness::push_live(live_nodes, slot);
-    rings::open_node(outgoing, edges.len(), capacity, slot);
-    rings::open_node(incoming, edges.len(), capacity, slot);
+    rings::open_node(outgoing, lows.len(), capacity, slot);
+    rings::open_node(incoming, lows.len(), capacity, slot);
     Counts {
         nodes: more,
         edges: others,
@@ -84,19 +85,21 @@ pub fn add_node(
 pub fn add_edge(
     counts: Counts,
     nodes: &[u32],
-    edges: &mut [u32],
+    lows: &mut [u32],
+    highs: &mut [u32],
     live_nodes: &[u64],
     live_edges: &mut [u64],
     outgoing: &mut [u32],
     incoming: &mut [u32],
     source: u32,
     target: u32,
-    payload: u32,
+    low: u32,
+    high: u32,
 ) -> Counts
-    requires { ⌜ EdgeAddable (lent counts nodes edges «live_nodes» «live_edges» outgoing incoming) source target ⌝ }
-    ensures { λ r. ⌜ Acted (AddEdge source target payload)
-        (at-entry counts nodes edges «live_nodes» «live_edges» outgoing incoming)
-        (at-exit r nodes edges «live_nodes» «live_edges» outgoing incoming) ⌝ }
+    requires { ⌜ EdgeAddable (lent counts nodes lows highs «live_nodes» «live_edges» outgoing incoming) source target (weighing low high) ⌝ }
+    ensures { λ r. ⌜ Acted (AddEdge source target (weighing low high))
+        (at-entry counts nodes lows highs «live_nodes» «live_edges» outgoing incoming)
+        (at-exit r nodes lows highs «live_nodes» «live_edges» outgoing incoming) ⌝ }
 {
     let others = counts.nodes;
     let slots = counts.edges;
@@ -104,9 +107,10 @@ pub fn add_edge(
     let at = slot as usize;
     let bound = others.bound as usize;
     let base = slots.base as usize;
-    let capacity = edges.len();
+    let capacity = lows.len();
     let more = one_more(slots);
-    edges[at] = payload;
+    lows[at] = low;
+    highs[at] = high;
     liveness::push_live(live_edges, at);
     rings::append(
         outgoing,
@@ -136,18 +140,19 @@ pub fn add_edge(
 pub fn remove_edge(
     counts: Counts,
     nodes: &[u32],
-    edges: &[u32],
+    lows: &[u32],
+    highs: &[u32],
     live_nodes: &[u64],
     live_edges: &mut [u64],
     outgoing: &[u32],
     incoming: &[u32],
     edge: u32,
 ) -> Removal
-    requires { ⌜ Checked (lent counts nodes edges «live_nodes» «live_edges» outgoing incoming) ⌝ }
+    requires { ⌜ Checked (lent counts nodes lows highs «live_nodes» «live_edges» outgoing incoming) ⌝ }
     ensures { λ r. ⌜ RemovedEdge edge
-        (at-entry counts nodes edges «live_nodes» «live_edges» outgoing incoming)
+        (at-entry counts nodes lows highs «live_nodes» «live_edges» outgoing incoming)
         (r .removed)
-        (at-exit (r .counts) nodes edges «live_nodes» «live_edges» outgoing incoming) ⌝ }
+        (at-exit (r .counts) nodes lows highs «live_nodes» «live_edges» outgoing incoming) ⌝ }
 {
     let others = counts.nodes;
     let slots = counts.edges;
@@ -173,35 +178,29 @@ pub fn remove_edge(
 pub fn remove_node(
     counts: Counts,
     nodes: &[u32],
-    edges: &[u32],
+    lows: &[u32],
+    highs: &[u32],
     live_nodes: &mut [u64],
     live_edges: &mut [u64],
     outgoing: &[u32],
     incoming: &[u32],
     node: u32,
 ) -> Removal
-    requires { ⌜ Checked (lent counts nodes edges «live_nodes» «live_edges» outgoing incoming) ⌝ }
+    requires { ⌜ Checked (lent counts nodes lows highs «live_nodes» «live_edges» outgoing incoming) ⌝ }
     ensures { λ r. ⌜ RemovedNode node
-        (at-entry counts nodes edges «live_nodes» «live_edges» outgoing incoming)
+        (at-entry counts nodes lows highs «live_nodes» «live_edges» outgoing incoming)
         (r .removed)
-        (at-exit (r .counts) nodes edges «live_nodes» «live_edges» outgoing incoming) ⌝ }
+        (at-exit (r .counts) nodes lows highs «live_nodes» «live_edges» outgoing incoming) ⌝ }
 {
     let slots = counts.nodes;
     let others = counts.edges;
     let bound = slots.bound as usize;
     let at = node as usize;
     if liveness::clear(live_nodes, bound, at) {
-        let out = clear::clear_adjacency(
-            outgoing,
-            edges.len(),
-            nodes.len(),
-            counts,
-            live_edges,
-            at,
-        );
+        let out = clear::clear_adjacency(outgoing, lows.len(), nodes.len(), counts, live_edges, at);
         let back = clear::clear_adjacency(
             incoming,
-            edges.len(),
+            lows.len(),
             nodes.len(),
             counts,
             live_edges,
@@ -227,7 +226,8 @@ pub fn remove_node(
 pub fn redirect(
     counts: Counts,
     nodes: &[u32],
-    edges: &[u32],
+    lows: &[u32],
+    highs: &[u32],
     live_nodes: &[u64],
     live_edges: &[u64],
     outgoing: &mut [u32],
@@ -236,18 +236,18 @@ pub fn redirect(
     edge: u32,
     node: u32,
 ) -> u32
-    requires { ⌜ EdgeRedirectable (lent counts nodes edges «live_nodes» «live_edges» outgoing incoming) edge node ⌝ }
+    requires { ⌜ EdgeRedirectable (lent counts nodes lows highs «live_nodes» «live_edges» outgoing incoming) edge node ⌝ }
     ensures { λ r. ⌜ RedirectedEdge direction edge node
-        (at-entry counts nodes edges «live_nodes» «live_edges» outgoing incoming)
+        (at-entry counts nodes lows highs «live_nodes» «live_edges» outgoing incoming)
         r
-        (at-exit counts nodes edges «live_nodes» «live_edges» outgoing incoming) ⌝ }
+        (at-exit counts nodes lows highs «live_nodes» «live_edges» outgoing incoming) ⌝ }
 {
     let some_removed = walk::tombstoned(counts);
     match direction {
         TraversalDirection::Outgoing => {
             redirects::redirect(
                 outgoing,
-                edges.len(),
+                lows.len(),
                 nodes.len(),
                 counts,
                 live_edges,
@@ -259,7 +259,7 @@ pub fn redirect(
         TraversalDirection::Incoming => {
             redirects::redirect(
                 incoming,
-                edges.len(),
+                lows.len(),
                 nodes.len(),
                 counts,
                 live_edges,
@@ -275,7 +275,8 @@ pub fn redirect(
 pub fn move_adjacency(
     counts: Counts,
     nodes: &[u32],
-    edges: &[u32],
+    lows: &[u32],
+    highs: &[u32],
     live_nodes: &[u64],
     live_edges: &[u64],
     outgoing: &mut [u32],
@@ -284,18 +285,18 @@ pub fn move_adjacency(
     old: u32,
     new: u32,
 ) -> u32
-    requires { ⌜ EdgesMovable direction (lent counts nodes edges «live_nodes» «live_edges» outgoing incoming) old new ⌝ }
+    requires { ⌜ EdgesMovable direction (lent counts nodes lows highs «live_nodes» «live_edges» outgoing incoming) old new ⌝ }
     ensures { λ r. ⌜ MovedEdges direction old new
-        (at-entry counts nodes edges «live_nodes» «live_edges» outgoing incoming)
+        (at-entry counts nodes lows highs «live_nodes» «live_edges» outgoing incoming)
         r
-        (at-exit counts nodes edges «live_nodes» «live_edges» outgoing incoming) ⌝ }
+        (at-exit counts nodes lows highs «live_nodes» «live_edges» outgoing incoming) ⌝ }
 {
     let some_removed = walk::tombstoned(counts);
     match direction {
         TraversalDirection::Outgoing => {
             moves::move_adjacency(
                 outgoing,
-                edges.len(),
+                lows.len(),
                 nodes.len(),
                 counts,
                 live_edges,
@@ -307,7 +308,7 @@ pub fn move_adjacency(
         TraversalDirection::Incoming => {
             moves::move_adjacency(
                 incoming,
-                edges.len(),
+                lows.len(),
                 nodes.len(),
                 counts,
                 live_edges,
@@ -323,18 +324,22 @@ pub fn move_adjacency(
 pub fn set_payload(
     counts: Counts,
     nodes: &[u32],
-    edges: &mut [u32],
+    lows: &mut [u32],
+    highs: &mut [u32],
     live_nodes: &[u64],
     live_edges: &[u64],
     outgoing: &[u32],
     incoming: &[u32],
     edge: u32,
-    payload: u32,
+    low: u32,
+    high: u32,
 )
-    requires { ⌜ PayloadSettable (lent counts nodes edges «live_nodes» «live_edges» outgoing incoming) edge ⌝ }
-    ensures { λ _. ⌜ Acted (SetPayload edge payload)
-        (at-entry counts nodes edges «live_nodes» «live_edges» outgoing incoming)
-        (at-exit counts nodes edges «live_nodes» «live_edges» outgoing incoming) ⌝ }
+    requires { ⌜ PayloadSettable (lent counts nodes lows highs «live_nodes» «live_edges» outgoing incoming) edge (weighing low high) ⌝ }
+    ensures { λ _. ⌜ Acted (SetPayload edge (weighing low high))
+        (at-entry counts nodes lows highs «live_nodes» «live_edges» outgoing incoming)
+        (at-exit counts nodes lows highs «live_nodes» «live_edges» outgoing incoming) ⌝ }
 {
-    edges[edge as usize] = payload;
+    let at = edge as usize;
+    lows[at] = low;
+    highs[at] = high;
 }

@@ -1,5 +1,6 @@
-// The degree of a node, by the plain lists of a checked store (crate `plain`, Reads.antt).
+// The degree and the total of a node, by the plain lists of a checked store (crate `plain`, Reads.antt).
 
+use adjacency::cursor::Sums;
 use adjacency::walk;
 use liveness;
 use plain::Counts;
@@ -11,12 +12,14 @@ ghost use Rattle.plain.specs.Plain.{list-of};
 ghost use Rattle.shape.specs.Checked.{Checked};
 ghost use Rattle.shape.specs.Shape.{lists};
 ghost use Rattle.shape.specs.Lent.{lent, at-entry};
+ghost use Rattle.store.specs.Reads.{sums-in};
 
 // How many edges a node's list has, of a node slot below the bound.
 pub fn degree(
     counts: Counts,
     nodes: &[u32],
-    edges: &[u32],
+    lows: &[u32],
+    highs: &[u32],
     live_nodes: &[u64],
     live_edges: &[u64],
     outgoing: &[u32],
@@ -24,10 +27,10 @@ pub fn degree(
     direction: TraversalDirection,
     node: u32,
 ) -> usize
-    requires { ⌜ Checked (lent counts nodes edges «live_nodes» «live_edges» outgoing incoming) ⌝ }
+    requires { ⌜ Checked (lent counts nodes lows highs «live_nodes» «live_edges» outgoing incoming) ⌝ }
     requires { ⌜ node < counts .nodes .bound ⌝ }
     ensures { λ r. ⌜ r ≡ length (list-of direction (lists
-        (at-entry counts nodes edges «live_nodes» «live_edges» outgoing incoming)) node) ⌝ }
+        (at-entry counts nodes lows highs «live_nodes» «live_edges» outgoing incoming)) node) ⌝ }
 {
     let slots = counts.nodes;
     let bound = slots.bound as usize;
@@ -37,7 +40,7 @@ pub fn degree(
         TraversalDirection::Outgoing => {
             walk::degree(
                 outgoing,
-                edges.len(),
+                lows.len(),
                 nodes.len(),
                 counts,
                 live_edges,
@@ -48,12 +51,64 @@ pub fn degree(
         TraversalDirection::Incoming => {
             walk::degree(
                 incoming,
-                edges.len(),
+                lows.len(),
                 nodes.len(),
                 counts,
                 live_edges,
                 at,
                 live,
+            )
+        }
+    }
+}
+
+// The sum of the lows and the sum of the highs of a node's list, of a node slot below the bound.
+pub fn total(
+    counts: Counts,
+    nodes: &[u32],
+    lows: &[u32],
+    highs: &[u32],
+    live_nodes: &[u64],
+    live_edges: &[u64],
+    outgoing: &[u32],
+    incoming: &[u32],
+    direction: TraversalDirection,
+    node: u32,
+) -> Sums
+    requires { ⌜ Checked (lent counts nodes lows highs «live_nodes» «live_edges» outgoing incoming) ⌝ }
+    requires { ⌜ node < counts .nodes .bound ⌝ }
+    ensures { λ r. ⌜ r ≡ sums-in direction (lists
+        (at-entry counts nodes lows highs «live_nodes» «live_edges» outgoing incoming)) node ⌝ }
+{
+    let slots = counts.nodes;
+    let bound = slots.bound as usize;
+    let at = node as usize;
+    let live = liveness::is_live(live_nodes, bound, at);
+    match direction {
+        TraversalDirection::Outgoing => {
+            walk::total(
+                outgoing,
+                lows.len(),
+                nodes.len(),
+                counts,
+                live_edges,
+                at,
+                live,
+                lows,
+                highs,
+            )
+        }
+        TraversalDirection::Incoming => {
+            walk::total(
+                incoming,
+                lows.len(),
+                nodes.len(),
+                counts,
+                live_edges,
+                at,
+                live,
+                lows,
+                highs,
             )
         }
     }

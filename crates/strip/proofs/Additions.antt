@@ -3,15 +3,17 @@ use Prim.Native.Nat.{ℕ, _≤_, _<_}
 use mathlib.Core.Path.{_≡_, refl, sym, subst, _∙_}
 use mathlib.Core.Bool.{Bool, true, false}
 use lib.ListN.{getD}
+use Rattle.plain.specs.declared.EdgePayload.{EdgePayload}
 use Rattle.plain.specs.declared.Operation.the-variants.{AddNode, AddEdge, RemoveEdge, RemoveNode, SetPayload}
 use Rattle.plain.specs.Numbers.{NONE}
-use Rattle.plain.specs.Laws.Cases.{add-node-full, add-node, add-edge-source-absent, add-edge-source-removed, add-edge-target-absent, add-edge-target-removed, add-edge-full, add-edge, remove-edge-absent, remove-edge-removed, remove-edge, remove-node-absent, remove-node-removed, remove-node, set-payload-absent, set-payload}
+use Rattle.plain.specs.Step.{payload-fault}
+use Rattle.plain.specs.Laws.Cases.{add-node-full, add-node, add-edge-inverted, add-edge-source-absent, add-edge-source-removed, add-edge-target-absent, add-edge-target-removed, add-edge-full, add-edge, remove-edge-absent, remove-edge-removed, remove-edge, remove-node-absent, remove-node-removed, remove-node, set-payload-inverted, set-payload-absent, set-payload}
 use Rattle.plain.specs.Laws.Booleans.{below-or-not}
 use mathlib.Core.Logic.{⊎-elim}
 use Rattle.shape.specs.Shape.{Words, node-capacity, edge-capacity, node-live}
 use Rattle.shape.specs.Checked.{Checked}
 use Rattle.store.specs.Operations.{Acted, RemovedEdge, RemovedNode}
-use Rattle.strip.specs.Faults.{fault-of, by-fault}
+use Rattle.strip.specs.Faults.{fault-of, by-fault, by-payload}
 use Rattle.strip.specs.Step.{StepOf, absent-node, live-node, removed-node, absent-edge, live-edge, removed-edge, node-bound-of, edge-bound-of, stays, done}
 
 module _ {w : Words} (c : Checked w) where
@@ -27,19 +29,23 @@ module _ {w : Words} (c : Checked w) where
 
   -- ---- add edge
 
-  module _ (source target payload : ℕ) where
+  module _ (source target : ℕ) (payload : EdgePayload) where
+    pub edge-inverted : (payload-fault payload ≡ 0 → ⊥) → StepOf (AddEdge source target payload) w w (payload-fault payload) NONE
+    edge-inverted = by-payload payload (λ n. StepOf (AddEdge source target payload) w w n NONE) (λ o. stays c (add-edge-inverted o) refl)
+
+  module _ (source target : ℕ) {payload : EdgePayload} (order : payload .low ≤ payload .high) where
     pub source-absent : w .counts .nodes .bound ≤ source → StepOf (AddEdge source target payload) w w 5 NONE
-    source-absent h = stays c (add-edge-source-absent (absent-node w source h)) refl
+    source-absent h = stays c (add-edge-source-absent order (absent-node w source h)) refl
 
     pub source-removed : source < w .counts .nodes .bound → getD (node-live w) source false ≡ false → StepOf (AddEdge source target payload) w w 6 NONE
-    source-removed l h = stays c (add-edge-source-removed (removed-node w source l h)) refl
+    source-removed l h = stays c (add-edge-source-removed order (removed-node w source l h)) refl
 
     pub target-absent : getD (node-live w) source false ≡ true → w .counts .nodes .bound ≤ target → StepOf (AddEdge source target payload) w w 5 NONE
-    target-absent s h = stays c (add-edge-target-absent (live-node w source s) (absent-node w target h)) refl
+    target-absent s h = stays c (add-edge-target-absent order (live-node w source s) (absent-node w target h)) refl
 
     pub target-removed : getD (node-live w) source false ≡ true → target < w .counts .nodes .bound → getD (node-live w) target false ≡ false
         → StepOf (AddEdge source target payload) w w 6 NONE
-    target-removed s l h = stays c (add-edge-target-removed (live-node w source s) (removed-node w target l h)) refl
+    target-removed s l h = stays c (add-edge-target-removed order (live-node w source s) (removed-node w target l h)) refl
 
     pub source-fault : let number = fault-of (node-live w) (w .counts .nodes .bound) source 5 6 in (number ≡ 0 → ⊥) → StepOf (AddEdge source target payload) w w number NONE
     source-fault = by-fault (node-live w) (w .counts .nodes .bound) source 5 6 (λ n. StepOf (AddEdge source target payload) w w n NONE) source-absent source-removed
@@ -51,13 +57,13 @@ module _ {w : Words} (c : Checked w) where
 
     pub edge-full : getD (node-live w) source false ≡ true → getD (node-live w) target false ≡ true → edge-capacity w ≤ w .counts .edges .bound
         → StepOf (AddEdge source target payload) w w 10 NONE
-    edge-full s t h = stays c (add-edge-full (live-node w source s) (live-node w target t) (rw (edge-bound-of w) h)) refl
+    edge-full s t h = stays c (add-edge-full order (live-node w source s) (live-node w target t) (rw (edge-bound-of w) h)) refl
 
     pub edge-added : {v : Words} → getD (node-live w) source false ≡ true → getD (node-live w) target false ≡ true → w .counts .edges .bound < edge-capacity w
         → Acted (AddEdge source target payload) w v → StepOf (AddEdge source target payload) w v 0 (w .counts .edges .bound)
     edge-added {v} s t room a =
         subst (λ (n : ℕ). StepOf (AddEdge source target payload) w v 0 n) (edge-bound-of w)
-        (done (add-edge (live-node w source s) (live-node w target t) (rw (edge-bound-of w) room)) refl refl a)
+        (done (add-edge order (live-node w source s) (live-node w target t) (rw (edge-bound-of w) room)) refl refl a)
 
   -- ---- removals: 1, or 0 where nothing live was there
 
@@ -83,8 +89,12 @@ module _ {w : Words} (c : Checked w) where
 
   -- ---- set payload, of removed edges too
 
-  pub payload-absent : (e v : ℕ) → w .counts .edges .bound ≤ e → StepOf (SetPayload e v) w w 7 NONE
-  payload-absent e v h = stays c (set-payload-absent (absent-edge w e h)) refl
+  pub payload-inverted : (e : ℕ) (v : EdgePayload) → (payload-fault v ≡ 0 → ⊥) → StepOf (SetPayload e v) w w (payload-fault v) NONE
+  payload-inverted e v = by-payload v (λ n. StepOf (SetPayload e v) w w n NONE) (λ o. stays c (set-payload-inverted o) refl)
 
-  pub payload-set : {u : Words} (e v : ℕ) → e < w .counts .edges .bound → Acted (SetPayload e v) w u → StepOf (SetPayload e v) w u 0 0
-  payload-set e v l a = done (set-payload (rw (edge-bound-of w) l)) refl refl a
+  pub payload-absent : (e : ℕ) {v : EdgePayload} → v .low ≤ v .high → w .counts .edges .bound ≤ e → StepOf (SetPayload e v) w w 7 NONE
+  payload-absent e order h = stays c (set-payload-absent order (absent-edge w e h)) refl
+
+  pub payload-set : {u : Words} (e : ℕ) {v : EdgePayload} → v .low ≤ v .high → e < w .counts .edges .bound → Acted (SetPayload e v) w u
+      → StepOf (SetPayload e v) w u 0 0
+  payload-set e order l a = done (set-payload order (rw (edge-bound-of w) l)) refl refl a

@@ -1,4 +1,4 @@
--- A slot's fault: a number where it is at or above the bound, another where it is removed, 0 where it is live.
+-- A slot's fault: a number where it is at or above the bound, another where it is removed, 0 where it is live. And a payload's.
 use Prim.Native.Nat.{ℕ, _≤_, _<_}
 use mathlib.Core.Path.{_≡_, refl}
 use mathlib.Core.Bool.{Bool, true, false, cond}
@@ -7,6 +7,8 @@ use native.Mathlib.Omega.{arith}
 use lib.ListN.{getD}
 use lib.Dec.{leb}
 use borrow.Author.Tests.{leb-true, leb-false}
+use Rattle.plain.specs.declared.EdgePayload.{EdgePayload}
+use Rattle.plain.specs.Step.{payload-fault}
 use Rattle.plain.specs.Laws.Booleans.{by-test}
 
 unfoldable pub fault-of : List Bool → ℕ → ℕ → ℕ → ℕ → ℕ
@@ -35,3 +37,15 @@ no-node-fault flags bound slot = no-fault flags bound slot 5 6 (λ q. omega arit
 -- and of an edge
 pub no-edge-fault : (flags : List Bool) (bound slot : ℕ) → fault-of flags bound slot 7 8 ≡ 0 → getD flags slot false ≡ true
 no-edge-fault flags bound slot = no-fault flags bound slot 7 8 (λ q. omega arith) (λ q. omega arith)
+
+-- ---- a payload
+
+-- what follows from its fault
+pub by-payload : (payload : EdgePayload) (P : ℕ → Type 0) → (payload .high < payload .low → P 16) → (payload-fault payload ≡ 0 → ⊥) → P (payload-fault payload)
+by-payload payload P inverted =
+    by-test (leb (payload .low) (payload .high)) (λ q. rw q (λ h. absurd (h refl))) (λ q. rw q (λ h. inverted (leb-false (payload .low) (payload .high) q)))
+
+-- one with no fault is in order
+pub no-payload-fault : (payload : EdgePayload) → payload-fault payload ≡ 0 → payload .low ≤ payload .high
+no-payload-fault payload h =
+    by-test (leb (payload .low) (payload .high)) (λ q. leb-true (payload .low) (payload .high) q) (λ q. absurd (let k = rw q at h in omega arith))

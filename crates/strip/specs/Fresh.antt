@@ -37,17 +37,17 @@ pub record FreshOf (w : Words) (number value : ℕ) : Type 0 where
   pub state : state-of (shape-of w) ≡ fresh-state
   pub checked : number ≡ 0 → Checked w
 
-module _ (nodes edges live-nodes live-edges outgoing incoming : List ℕ) where
+module _ (nodes lows highs live-nodes live-edges outgoing incoming : List ℕ) where
   -- the memory lent, with no slot
   abbrev memory : Words
-  memory = store empty-counts nodes edges live-nodes live-edges outgoing incoming
+  memory = store empty-counts nodes lows highs live-nodes live-edges outgoing incoming
 
   nothing : state-of (shape-of memory) ≡ fresh-state
   unfolding shape-of plain-of axis-of is-compact from all
   nothing = refl
 
   bare : Roomy limits (lengths-of memory) → (d : TraversalDirection) → axis-room (capacities memory) ≤ length (axis-words d memory)
-      → AxisChecked (axis-words d memory) (length edges) (length nodes) empty-counts (node-live memory) (edge-live memory)
+      → AxisChecked (axis-words d memory) (length lows) (length nodes) empty-counts (node-live memory) (edge-live memory)
   bare roomy d room = record {
     sized = record { edges-within = roomy .few-edges; nodes-within = roomy .few-nodes; room = room };
     ends-below = λ e l. absurd (omega arith);
@@ -58,7 +58,7 @@ module _ (nodes edges live-nodes live-edges outgoing incoming : List ℕ) where
   }
 
   both : Roomy limits (lengths-of memory) → (d : TraversalDirection)
-      → AxisChecked (axis-words d memory) (length edges) (length nodes) empty-counts (node-live memory) (edge-live memory)
+      → AxisChecked (axis-words d memory) (length lows) (length nodes) empty-counts (node-live memory) (edge-live memory)
   both roomy Outgoing = bare roomy Outgoing (roomy .outgoing-room)
   both roomy Incoming = bare roomy Incoming (roomy .incoming-room)
 
@@ -75,6 +75,7 @@ module _ (nodes edges live-nodes live-edges outgoing incoming : List ℕ) where
   a-store roomy = record {
     nodes = no-slot (roomy .live-nodes-room);
     edges = no-slot (roomy .live-edges-room);
+    highs-long = roomy .highs-room;
     axis = both roomy;
     walks = subst (λ (p : Plain). WellFormed (capacities memory) p) (sym (ap (λ (s : State). s .lists) nothing)) (empty-well-formed (capacities memory));
   }

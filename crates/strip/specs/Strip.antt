@@ -219,7 +219,7 @@ module _ (w : Words) (words entry : List ℕ) where
     told : stripped w words (length entry) ≡ strip (capacities w) (state-of (shape-of w)) words (length entry)
     told = ap (λ (n : ℕ). judged-strip n (state-of (shape-of w)) (strip (capacities w) (state-of (shape-of w)) words (length entry))) (sym (j .first) ∙ sound)
 
-    -- "strip not a multiple of four | 3 | its length | everything"
+    -- "Number 3 now concerns multiples of five": 3, its length, everything
     pub strip-ragged : (length words % operation-words ≡ 0 → ⊥) → StripOf w words entry 3 (length words) w entry
     unfolding strip
     strip-ragged ragged =

@@ -22,21 +22,23 @@ ghost use Rattle.strip.specs.Strip.{Runnable, Ran, StripOf};
 // A fresh store in the memory lent: "13, nodes before edges, then 2". It is empty with bounds 0, so that no word of it is a field, and none is written.
 pub fn fresh(
     nodes: &[u32],
-    edges: &[u32],
+    lows: &[u32],
+    highs: &[u32],
     live_nodes: &[u64],
     live_edges: &[u64],
     outgoing: &[u32],
     incoming: &[u32],
 ) -> Changed
     ensures { λ r. ⌜ FreshOf
-        (at-entry (r .counts) nodes edges «live_nodes» «live_edges» outgoing incoming)
+        (at-entry (r .counts) nodes lows highs «live_nodes» «live_edges» outgoing incoming)
         (r .number) (r .value) ⌝ }
 {
     let told = memory::fresh_answer(
         Limits::BOX,
         Lengths {
             nodes: nodes.len(),
-            edges: edges.len(),
+            lows: lows.len(),
+            highs: highs.len(),
             live_nodes: live_nodes.len(),
             live_edges: live_edges.len(),
             outgoing: outgoing.len(),
@@ -64,7 +66,13 @@ fn operation_at(words: &[u32], i: usize) -> Operation
     ensures { λ r. ⌜ r ≡ getD (operations (now (words .entry))) i Unknown ⌝ }
 {
     let at = OPERATION_WORDS * i;
-    Operation::decode(words[at], words[at + 1], words[at + 2], words[at + 3])
+    Operation::decode(
+        words[at],
+        words[at + 1],
+        words[at + 2],
+        words[at + 3],
+        words[at + 4],
+    )
 }
 
 // Writes the two words of answer i.
@@ -81,7 +89,8 @@ fn write_answer(answers: &mut [u32], i: usize, number: u32, value: u32)
 fn run(
     counts: Counts,
     nodes: &mut [u32],
-    edges: &mut [u32],
+    lows: &mut [u32],
+    highs: &mut [u32],
     live_nodes: &mut [u64],
     live_edges: &mut [u64],
     outgoing: &mut [u32],
@@ -89,11 +98,11 @@ fn run(
     words: &[u32],
     answers: &mut [u32],
 ) -> Counts
-    requires { ⌜ Runnable (lent counts nodes edges «live_nodes» «live_edges» outgoing incoming) (now words) (now answers) ⌝ }
+    requires { ⌜ Runnable (lent counts nodes lows highs «live_nodes» «live_edges» outgoing incoming) (now words) (now answers) ⌝ }
     ensures { λ r. ⌜ Ran
-        (at-entry counts nodes edges «live_nodes» «live_edges» outgoing incoming)
+        (at-entry counts nodes lows highs «live_nodes» «live_edges» outgoing incoming)
         (operations (now (words .entry))) (now (answers .entry))
-        (at-exit r nodes edges «live_nodes» «live_edges» outgoing incoming)
+        (at-exit r nodes lows highs «live_nodes» «live_edges» outgoing incoming)
         (now (answers .exit)) ⌝ }
 {
     let count = words.len() / OPERATION_WORDS;
@@ -104,7 +113,8 @@ fn run(
         let done = step::step(
             counts,
             nodes,
-            edges,
+            lows,
+            highs,
             live_nodes,
             live_edges,
             outgoing,
@@ -122,7 +132,8 @@ fn run(
 pub fn strip(
     counts: Counts,
     nodes: &mut [u32],
-    edges: &mut [u32],
+    lows: &mut [u32],
+    highs: &mut [u32],
     live_nodes: &mut [u64],
     live_edges: &mut [u64],
     outgoing: &mut [u32],
@@ -131,15 +142,16 @@ pub fn strip(
     answers: &mut [u32],
 ) -> Changed
     ensures { λ r. ⌜ StripOf
-        (at-entry counts nodes edges «live_nodes» «live_edges» outgoing incoming)
+        (at-entry counts nodes lows highs «live_nodes» «live_edges» outgoing incoming)
         (now (words .entry)) (now (answers .entry)) (r .number) (r .value)
-        (at-exit (r .counts) nodes edges «live_nodes» «live_edges» outgoing incoming)
+        (at-exit (r .counts) nodes lows highs «live_nodes» «live_edges» outgoing incoming)
         (now (answers .exit)) ⌝ }
 {
     let rule = validate::judging::judge(
         counts,
         nodes,
-        edges,
+        lows,
+        highs,
         live_nodes,
         live_edges,
         outgoing,
@@ -171,7 +183,8 @@ pub fn strip(
     let after = run(
         counts,
         nodes,
-        edges,
+        lows,
+        highs,
         live_nodes,
         live_edges,
         outgoing,

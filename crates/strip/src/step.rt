@@ -1,6 +1,7 @@
 // One operation on a checked store, with document 01's refusals in their order. All functions are internal: the strip has checked the store.
 
 use plain::Counts;
+use plain::EdgePayload;
 use plain::Operation;
 use plain::TraversalDirection;
 use plain::numbers;
@@ -13,6 +14,7 @@ ghost use Rattle.plain.specs.declared.Operation.the-variants.{AddNode, AddEdge,
 ghost use Rattle.shape.specs.Checked.{Checked};
 ghost use Rattle.shape.specs.Lent.{lent, at-entry, at-exit};
 ghost use Rattle.liveness.specs.Flags.{live-flags};
+ghost use Rattle.plain.specs.Step.{payload-fault as fault-of-payload};
 ghost use Rattle.strip.specs.Faults.{fault-of};
 ghost use Rattle.strip.specs.Step.{StepOf};
 
@@ -37,6 +39,16 @@ fn fault(live: &[u64], bound: u32, slot: u32, absent: u32, removed: u32) -> u32
     removed
 }
 
+// "It refuses with 16 .. for a low above its high": 0 where it is not.
+fn payload_fault(payload: EdgePayload) -> u32
+    ensures { λ r. ⌜ r ≡ fault-of-payload payload ⌝ }
+{
+    if payload.low <= payload.high {
+        return 0;
+    }
+    numbers::INVERTED
+}
+
 // A refused operation: its number and no value; the counts are as they were.
 fn refused(number: u32, counts: Counts) -> Stepped
     ensures { λ r. ⌜ r ≡ record { number = number; value = none; counts = counts } ⌝ }
@@ -52,17 +64,18 @@ fn refused(number: u32, counts: Counts) -> Stepped
 pub fn add_node(
     counts: Counts,
     nodes: &mut [u32],
-    edges: &[u32],
+    lows: &[u32],
+    highs: &[u32],
     live_nodes: &mut [u64],
     live_edges: &[u64],
     outgoing: &mut [u32],
     incoming: &mut [u32],
     payload: u32,
 ) -> Stepped
-    requires { ⌜ Checked (lent counts nodes edges «live_nodes» «live_edges» outgoing incoming) ⌝ }
+    requires { ⌜ Checked (lent counts nodes lows highs «live_nodes» «live_edges» outgoing incoming) ⌝ }
     ensures { λ r. ⌜ StepOf (AddNode payload)
-        (at-entry counts nodes edges «live_nodes» «live_edges» outgoing incoming)
-        (at-exit (r .counts) nodes edges «live_nodes» «live_edges» outgoing incoming)
+        (at-entry counts nodes lows highs «live_nodes» «live_edges» outgoing incoming)
+        (at-exit (r .counts) nodes lows highs «live_nodes» «live_edges» outgoing incoming)
         (r .number) (r .value) ⌝ }
 {
     let slots = counts.nodes;
@@ -73,7 +86,8 @@ pub fn add_node(
     let after = store::add_node(
         counts,
         nodes,
-        edges,
+        lows,
+        highs,
         live_nodes,
         live_edges,
         outgoing,
@@ -87,25 +101,30 @@ pub fn add_node(
     }
 }
 
-// "Add edge: 4, source 5, 6, target 5, 6, then 10."
+// "Add edge: 4, source 5, 6, target 5, 6, then 10", with 16 "directly after 4".
 pub fn add_edge(
     counts: Counts,
     nodes: &[u32],
-    edges: &mut [u32],
+    lows: &mut [u32],
+    highs: &mut [u32],
     live_nodes: &[u64],
     live_edges: &mut [u64],
     outgoing: &mut [u32],
     incoming: &mut [u32],
     source: u32,
     target: u32,
-    payload: u32,
+    payload: EdgePayload,
 ) -> Stepped
-    requires { ⌜ Checked (lent counts nodes edges «live_nodes» «live_edges» outgoing incoming) ⌝ }
+    requires { ⌜ Checked (lent counts nodes lows highs «live_nodes» «live_edges» outgoing incoming) ⌝ }
     ensures { λ r. ⌜ StepOf (AddEdge source target payload)
-        (at-entry counts nodes edges «live_nodes» «live_edges» outgoing incoming)
-        (at-exit (r .counts) nodes edges «live_nodes» «live_edges» outgoing incoming)
+        (at-entry counts nodes lows highs «live_nodes» «live_edges» outgoing incoming)
+        (at-exit (r .counts) nodes lows highs «live_nodes» «live_edges» outgoing incoming)
         (r .number) (r .value) ⌝ }
 {
+    let inverted = payload_fault(payload);
+    if inverted != 0 {
+        return refused(inverted, counts);
+    }
     let others = counts.nodes;
     let slots = counts.edges;
     let bound = slots.bound;
@@ -129,20 +148,22 @@ pub fn add_edge(
     if to != 0 {
         return refused(to, counts);
     }
-    if edges.len() <= bound as usize {
+    if lows.len() <= bound as usize {
         return refused(numbers::FULL, counts);
     }
     let after = store::add_edge(
         counts,
         nodes,
-        edges,
+        lows,
+        highs,
         live_nodes,
         live_edges,
         outgoing,
         incoming,
         source,
         target,
-        payload,
+        payload.low,
+        payload.high,
     );
     Stepped {
         number: numbers::DONE,
@@ -155,23 +176,25 @@ pub fn add_edge(
 pub fn remove_edge(
     counts: Counts,
     nodes: &[u32],
-    edges: &[u32],
+    lows: &[u32],
+    highs: &[u32],
     live_nodes: &[u64],
     live_edges: &mut [u64],
     outgoing: &[u32],
     incoming: &[u32],
     edge: u32,
 ) -> Stepped
-    requires { ⌜ Checked (lent counts nodes edges «live_nodes» «live_edges» outgoing incoming) ⌝ }
+    requires { ⌜ Checked (lent counts nodes lows highs «live_nodes» «live_edges» outgoing incoming) ⌝ }
     ensures { λ r. ⌜ StepOf (RemoveEdge edge)
-        (at-entry counts nodes edges «live_nodes» «live_edges» outgoing incoming)
-        (at-exit (r .counts) nodes edges «live_nodes» «live_edges» outgoing incoming)
+        (at-entry counts nodes lows highs «live_nodes» «live_edges» outgoing incoming)
+        (at-exit (r .counts) nodes lows highs «live_nodes» «live_edges» outgoing incoming)
         (r .number) (r .value) ⌝ }
 {
     let removal = store::remove_edge(
         counts,
         nodes,
-        edges,
+        lows,
+        highs,
         live_nodes,
         live_edges,
         outgoing,
@@ -197,23 +220,25 @@ pub fn remove_edge(
 pub fn remove_node(
     counts: Counts,
     nodes: &[u32],
-    edges: &[u32],
+    lows: &[u32],
+    highs: &[u32],
     live_nodes: &mut [u64],
     live_edges: &mut [u64],
     outgoing: &[u32],
     incoming: &[u32],
     node: u32,
 ) -> Stepped
-    requires { ⌜ Checked (lent counts nodes edges «live_nodes» «live_edges» outgoing incoming) ⌝ }
+    requires { ⌜ Checked (lent counts nodes lows highs «live_nodes» «live_edges» outgoing incoming) ⌝ }
     ensures { λ r. ⌜ StepOf (RemoveNode node)
-        (at-entry counts nodes edges «live_nodes» «live_edges» outgoing incoming)
-        (at-exit (r .counts) nodes edges «live_nodes» «live_edges» outgoing incoming)
+        (at-entry counts nodes lows highs «live_nodes» «live_edges» outgoing incoming)
+        (at-exit (r .counts) nodes lows highs «live_nodes» «live_edges» outgoing incoming)
         (r .number) (r .value) ⌝ }
 {
     let removal = store::remove_node(
         counts,
         nodes,
-        edges,
+        lows,
+        highs,
         live_nodes,
         live_edges,
         outgoing,
@@ -239,7 +264,8 @@ pub fn remove_node(
 pub fn redirect(
     counts: Counts,
     nodes: &[u32],
-    edges: &[u32],
+    lows: &[u32],
+    highs: &[u32],
     live_nodes: &[u64],
     live_edges: &[u64],
     outgoing: &mut [u32],
@@ -248,10 +274,10 @@ pub fn redirect(
     edge: u32,
     node: u32,
 ) -> Stepped
-    requires { ⌜ Checked (lent counts nodes edges «live_nodes» «live_edges» outgoing incoming) ⌝ }
+    requires { ⌜ Checked (lent counts nodes lows highs «live_nodes» «live_edges» outgoing incoming) ⌝ }
     ensures { λ r. ⌜ StepOf (Redirect direction edge node)
-        (at-entry counts nodes edges «live_nodes» «live_edges» outgoing incoming)
-        (at-exit (r .counts) nodes edges «live_nodes» «live_edges» outgoing incoming)
+        (at-entry counts nodes lows highs «live_nodes» «live_edges» outgoing incoming)
+        (at-exit (r .counts) nodes lows highs «live_nodes» «live_edges» outgoing incoming)
         (r .number) (r .value) ⌝ }
 {
     let others = counts.nodes;
@@ -279,7 +305,8 @@ pub fn redirect(
     let previous = store::redirect(
         counts,
         nodes,
-        edges,
+        lows,
+        highs,
         live_nodes,
         live_edges,
         outgoing,
@@ -299,7 +326,8 @@ pub fn redirect(
 pub fn move_adjacency(
     counts: Counts,
     nodes: &[u32],
-    edges: &[u32],
+    lows: &[u32],
+    highs: &[u32],
     live_nodes: &[u64],
     live_edges: &[u64],
     outgoing: &mut [u32],
@@ -308,10 +336,10 @@ pub fn move_adjacency(
     old: u32,
     new: u32,
 ) -> Stepped
-    requires { ⌜ Checked (lent counts nodes edges «live_nodes» «live_edges» outgoing incoming) ⌝ }
+    requires { ⌜ Checked (lent counts nodes lows highs «live_nodes» «live_edges» outgoing incoming) ⌝ }
     ensures { λ r. ⌜ StepOf (Move direction old new)
-        (at-entry counts nodes edges «live_nodes» «live_edges» outgoing incoming)
-        (at-exit (r .counts) nodes edges «live_nodes» «live_edges» outgoing incoming)
+        (at-entry counts nodes lows highs «live_nodes» «live_edges» outgoing incoming)
+        (at-exit (r .counts) nodes lows highs «live_nodes» «live_edges» outgoing incoming)
         (r .number) (r .value) ⌝ }
 {
     let slots = counts.nodes;
@@ -324,7 +352,8 @@ pub fn move_adjacency(
     if reads::degree(
         counts,
         nodes,
-        edges,
+        lows,
+        highs,
         live_nodes,
         live_edges,
         outgoing,
@@ -353,7 +382,8 @@ pub fn move_adjacency(
     let moved = store::move_adjacency(
         counts,
         nodes,
-        edges,
+        lows,
+        highs,
         live_nodes,
         live_edges,
         outgoing,
@@ -369,24 +399,29 @@ pub fn move_adjacency(
     }
 }
 
-// "Set payload: 4, 7."
+// "Set payload: 4, 7", with 16 "directly after 4".
 pub fn set_payload(
     counts: Counts,
     nodes: &[u32],
-    edges: &mut [u32],
+    lows: &mut [u32],
+    highs: &mut [u32],
     live_nodes: &[u64],
     live_edges: &[u64],
     outgoing: &[u32],
     incoming: &[u32],
     edge: u32,
-    payload: u32,
+    payload: EdgePayload,
 ) -> Stepped
-    requires { ⌜ Checked (lent counts nodes edges «live_nodes» «live_edges» outgoing incoming) ⌝ }
+    requires { ⌜ Checked (lent counts nodes lows highs «live_nodes» «live_edges» outgoing incoming) ⌝ }
     ensures { λ r. ⌜ StepOf (SetPayload edge payload)
-        (at-entry counts nodes edges «live_nodes» «live_edges» outgoing incoming)
-        (at-exit (r .counts) nodes edges «live_nodes» «live_edges» outgoing incoming)
+        (at-entry counts nodes lows highs «live_nodes» «live_edges» outgoing incoming)
+        (at-exit (r .counts) nodes lows highs «live_nodes» «live_edges» outgoing incoming)
         (r .number) (r .value) ⌝ }
 {
+    let inverted = payload_fault(payload);
+    if inverted != 0 {
+        return refused(inverted, counts);
+    }
     let slots = counts.edges;
     if slots.bound <= edge {
         return refused(numbers::OUT_OF_RANGE_EDGE, counts);
@@ -394,13 +429,15 @@ pub fn set_payload(
     store::set_payload(
         counts,
         nodes,
-        edges,
+        lows,
+        highs,
         live_nodes,
         live_edges,
         outgoing,
         incoming,
         edge,
-        payload,
+        payload.low,
+        payload.high,
     );
     Stepped {
         number: numbers::DONE,
@@ -413,24 +450,26 @@ pub fn set_payload(
 pub fn step(
     counts: Counts,
     nodes: &mut [u32],
-    edges: &mut [u32],
+    lows: &mut [u32],
+    highs: &mut [u32],
     live_nodes: &mut [u64],
     live_edges: &mut [u64],
     outgoing: &mut [u32],
     incoming: &mut [u32],
     operation: Operation,
 ) -> Stepped
-    requires { ⌜ Checked (lent counts nodes edges «live_nodes» «live_edges» outgoing incoming) ⌝ }
+    requires { ⌜ Checked (lent counts nodes lows highs «live_nodes» «live_edges» outgoing incoming) ⌝ }
     ensures { λ r. ⌜ StepOf operation
-        (at-entry counts nodes edges «live_nodes» «live_edges» outgoing incoming)
-        (at-exit (r .counts) nodes edges «live_nodes» «live_edges» outgoing incoming)
+        (at-entry counts nodes lows highs «live_nodes» «live_edges» outgoing incoming)
+        (at-exit (r .counts) nodes lows highs «live_nodes» «live_edges» outgoing incoming)
         (r .number) (r .value) ⌝ }
 {
     match operation {
         Operation::AddNode { payload } => add_node(
             counts,
             nodes,
-            edges,
+            lows,
+            highs,
             live_nodes,
             live_edges,
             outgoing,
@@ -444,7 +483,8 @@ pub fn step(
         } => add_edge(
             counts,
             nodes,
-            edges,
+            lows,
+            highs,
             live_nodes,
             live_edges,
             outgoing,
@@ -456,7 +496,8 @@ pub fn step(
         Operation::RemoveEdge { edge } => remove_edge(
             counts,
             nodes,
-            edges,
+            lows,
+            highs,
             live_nodes,
             live_edges,
             outgoing,
@@ -466,7 +507,8 @@ pub fn step(
         Operation::RemoveNode { node } => remove_node(
             counts,
             nodes,
-            edges,
+            lows,
+            highs,
             live_nodes,
             live_edges,
             outgoing,
@@ -480,7 +522,8 @@ pub fn step(
         } => redirect(
             counts,
             nodes,
-            edges,
+            lows,
+            highs,
             live_nodes,
             live_edges,
             outgoing,
@@ -496,7 +539,8 @@ pub fn step(
         } => move_adjacency(
             counts,
             nodes,
-            edges,
+            lows,
+            highs,
             live_nodes,
             live_edges,
             outgoing,
@@ -508,7 +552,8 @@ pub fn step(
         Operation::SetPayload { edge, payload } => set_payload(
             counts,
             nodes,
-            edges,
+            lows,
+            highs,
             live_nodes,
             live_edges,
             outgoing,

@@ -8,7 +8,7 @@ use Rattle.plain.specs.Lists.{member, distinct, from, keep, all, count, joined}
 use Rattle.liveness.specs.Flags.{bit, live-bit, live-flags, packed}
 use Rattle.shape.specs.Chains.{chain, until, ring}
 use Rattle.shape.specs.Shape.{Words, store, base-of, run-list, run-of, ring-of, axis-of, shape-of, plain-of}
-use Rattle.shape.specs.Rules.{rule-1, rule-2, rule-3, rule-4, rule-5, rule-6, rule-7, index-right, ring-right, last-of, runs-right, walks-right, broken}
+use Rattle.shape.specs.Rules.{rule-1, rule-2, rule-3, rule-4, rule-5, rule-6, rule-7, index-right, ring-right, last-of, runs-right, walks-right, weights-right, broken}
 
 abbrev slots : ℕ → ℕ → ℕ → Slots
 slots bound base live = record { bound = bound; base = base; live = live }
@@ -18,13 +18,13 @@ slots bound base live = record { bound = bound; base = base; live = live }
 abbrev axis : List ℕ
 axis = 0 ∷ 0 ∷ 0 ∷ 9 ∷ 9 ∷ 1 ∷ 9 ∷ 9 ∷ 1 ∷ 9 ∷ 9 ∷ 9 ∷ 0 ∷ 0 ∷ 1 ∷ []
 
--- that store but for its node bound, the live word of its edges and its outgoing axis
-abbrev made : ℕ → ℕ → List ℕ → Words
-made bound live outgoing =
-    store (record { nodes = slots bound 1 1; edges = slots 2 1 2 }) (7 ∷ []) (5 ∷ 6 ∷ []) (1 ∷ []) (live ∷ []) outgoing axis
+-- that store but for its node bound, the highs of its edges, their live word and its outgoing axis
+abbrev made : ℕ → List ℕ → ℕ → List ℕ → Words
+made bound highs live outgoing =
+    store (record { nodes = slots bound 1 1; edges = slots 2 1 2 }) (7 ∷ []) (5 ∷ 6 ∷ []) highs (1 ∷ []) (live ∷ []) outgoing axis
 
 abbrev with-outgoing : List ℕ → Words
-with-outgoing = made 1 3
+with-outgoing = made 1 (5 ∷ 8 ∷ []) 3
 
 -- a run, its mark set
 abbrev with-run : ℕ → ℕ → ℕ → List ℕ
@@ -33,11 +33,15 @@ with-run first tail count = set (set (set (set axis 9 first) 10 tail) 11 count) 
 pub record Examples : Type 0 where
   pub sound : broken (with-outgoing axis) ≡ 0
   -- (1) a node bound above the capacity
-  pub first-1 : broken (made 2 3 axis) ≡ 1
+  pub first-1 : broken (made 2 (5 ∷ 8 ∷ []) 3 axis) ≡ 1
+  -- (1) a high for the first edge alone
+  pub highs-1 : broken (made 1 (5 ∷ []) 3 axis) ≡ 1
   -- (2) one live bit, and a count of two
-  pub first-2 : broken (made 1 1 axis) ≡ 2
+  pub first-2 : broken (made 1 (5 ∷ 8 ∷ []) 1 axis) ≡ 2
   -- (3) edge 1 ends at a node that is not there
   pub first-3 : broken (with-outgoing (set axis 1 1)) ≡ 3
+  -- (3) edge 1 has the low 6 and the high 5
+  pub weights-3 : broken (made 1 (5 ∷ 5 ∷ []) 3 axis) ≡ 3
   -- (4) the offsets end above the base
   pub first-4 : broken (with-outgoing (set axis 14 2)) ≡ 4
   -- (5) the ring goes on to an edge of the base
@@ -50,12 +54,14 @@ pub record Examples : Type 0 where
   pub first-7 : broken (with-outgoing (with-run 9 9 0)) ≡ 7
 
 examples : Examples
-unfolding broken rule-1 rule-2 rule-3 rule-4 rule-5 rule-6 rule-7 index-right ring-right last-of runs-right walks-right base-of run-list run-of ring-of axis-of shape-of plain-of chain until ring member distinct from keep all count joined bit live-bit live-flags packed
+unfolding broken rule-1 rule-2 rule-3 weights-right rule-4 rule-5 rule-6 rule-7 index-right ring-right last-of runs-right walks-right base-of run-list run-of ring-of axis-of shape-of plain-of chain until ring member distinct from keep all count joined bit live-bit live-flags packed
 examples = record {
   sound = refl;
   first-1 = refl;
+  highs-1 = refl;
   first-2 = refl;
   first-3 = refl;
+  weights-3 = refl;
   first-4 = refl;
   first-5 = refl;
   first-6 = refl;

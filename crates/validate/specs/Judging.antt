@@ -6,8 +6,9 @@ use mathlib.Core.List.{[]}
 use lib.ListN.{getD}
 use Rattle.plain.specs.declared.Answer.{Answer}
 use Rattle.plain.specs.declared.Record.{Record}
-use Rattle.plain.specs.Reads.{Reply, no-record}
-use Rattle.plain.specs.Calls.{judged, judged-reply, judged-record}
+use Rattle.plain.specs.declared.Total.{Total}
+use Rattle.plain.specs.Reads.{Reply, no-record, no-total}
+use Rattle.plain.specs.Calls.{judged, judged-reply, judged-record, judged-total}
 use Rattle.shape.specs.Shape.{Words}
 use Rattle.shape.specs.Rules.{broken}
 use Rattle.shape.specs.Checked.{Checked}
@@ -19,8 +20,8 @@ pub record Judged (w : Words) (rule : ℕ) : Type 0 where
   pub checked : rule ≡ 0 → Checked w
 
 -- a slice's payload words are words of 32 bits, so words of which no rule is broken are a checked store
-pub judges : {w : Words} {rule : ℕ} → rule ≡ broken w → ((x : ℕ) → getD (w .nodes) x 0 < 2 ^ 32) → ((e : ℕ) → getD (w .edges) e 0 < 2 ^ 32) → Judged w rule
-judges {w} first nodes edges = record { first = first; checked = λ h. unbroken-checked w (record { nodes = nodes; edges = edges }) (sym first ∙ h) }
+pub judges : {w : Words} {rule : ℕ} → rule ≡ broken w → ((x : ℕ) → getD (w .nodes) x 0 < 2 ^ 32) → ((e : ℕ) → getD (w .highs) e 0 < 2 ^ 32) → Judged w rule
+judges {w} first nodes highs = record { first = first; checked = λ h. unbroken-checked w (record { nodes = nodes; highs = highs }) (sym first ∙ h) }
 
 -- "words are no store | 1 | rule 1 to 7 | everything"
 abbrev pub refusal : ℕ → Answer
@@ -43,6 +44,10 @@ counts-record : (rule : ℕ) (a : Record) → rule ≡ 0 → a ≡ judged-record
 counts-record zero a h = refl
 counts-record (suc rule) a h = absurd (omega arith)
 
+counts-total : (rule : ℕ) (a : Total) → rule ≡ 0 → a ≡ judged-total rule a
+counts-total zero a h = refl
+counts-total (suc rule) a h = absurd (omega arith)
+
 -- ---- a rule is broken: it is answered, whatever the call would answer
 
 refuses : (rule : ℕ) (a : Answer) → (rule ≡ 0 → ⊥) → refusal rule ≡ judged rule a
@@ -57,6 +62,10 @@ refuses-record : (rule : ℕ) (a : Record) → (rule ≡ 0 → ⊥) → no-recor
 refuses-record zero a h = absurd (h refl)
 refuses-record (suc rule) a h = refl
 
+refuses-total : (rule : ℕ) (a : Total) → (rule ≡ 0 → ⊥) → no-total 1 rule ≡ judged-total rule a
+refuses-total zero a h = absurd (h refl)
+refuses-total (suc rule) a h = refl
+
 -- ---- the same of a store that was judged
 
 module _ {w : Words} {rule : ℕ} (j : Judged w rule) where
@@ -69,6 +78,9 @@ module _ {w : Words} {rule : ℕ} (j : Judged w rule) where
   pub record-counts : rule ≡ 0 → (a : Record) → a ≡ judged-record (broken w) a
   record-counts h a = counts-record rule a h ∙ ap (λ (n : ℕ). judged-record n a) (j .first)
 
+  pub total-counts : rule ≡ 0 → (a : Total) → a ≡ judged-total (broken w) a
+  total-counts h a = counts-total rule a h ∙ ap (λ (n : ℕ). judged-total n a) (j .first)
+
   pub answer-refused : (rule ≡ 0 → ⊥) → (a : Answer) → refusal rule ≡ judged (broken w) a
   answer-refused h a = refuses rule a h ∙ ap (λ (n : ℕ). judged n a) (j .first)
 
@@ -77,3 +89,6 @@ module _ {w : Words} {rule : ℕ} (j : Judged w rule) where
 
   pub record-refused : (rule ≡ 0 → ⊥) → (a : Record) → no-record 1 rule ≡ judged-record (broken w) a
   record-refused h a = refuses-record rule a h ∙ ap (λ (n : ℕ). judged-record n a) (j .first)
+
+  pub total-refused : (rule ≡ 0 → ⊥) → (a : Total) → no-total 1 rule ≡ judged-total (broken w) a
+  total-refused h a = refuses-total rule a h ∙ ap (λ (n : ℕ). judged-total n a) (j .first)

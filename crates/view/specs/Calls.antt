@@ -6,14 +6,15 @@ use mathlib.Core.List.{List, []}
 use lib.ListN.{length}
 use Rattle.plain.specs.declared.Answer.{Answer}
 use Rattle.plain.specs.declared.Record.{Record}
+use Rattle.plain.specs.declared.Total.{Total}
 use Rattle.plain.specs.Numbers.{NONE}
 use Rattle.plain.specs.Lists.{written}
-use Rattle.plain.specs.Reads.{Reply, no-record, listing}
-use Rattle.plain.specs.Calls.{judged, judged-reply, judged-record}
+use Rattle.plain.specs.Reads.{Reply, no-record, no-total, listing}
+use Rattle.plain.specs.Calls.{judged, judged-reply, judged-record, judged-total}
 use Rattle.plain.specs.Laws.CallCases.{lent-short, lent-done}
 use Rattle.shape.specs.Shape.{Words}
 use Rattle.shape.specs.Rules.{broken}
-use Rattle.validate.specs.Judging.{Judged, refusal, answer-counts, answer-refused, reply-counts, reply-refused, record-counts, record-refused}
+use Rattle.validate.specs.Judging.{Judged, refusal, answer-counts, answer-refused, reply-counts, reply-refused, record-counts, record-refused, total-counts, total-refused}
 
 -- A read that answers number and value.
 pub record Answered (w : Words) (read : Words → Answer) (answer : Answer) : Type 0 where
@@ -22,6 +23,10 @@ pub record Answered (w : Words) (read : Words → Answer) (answer : Answer) : Ty
 -- A read that answers a record.
 pub record Recorded (w : Words) (read : Words → Record) (answer : Record) : Type 0 where
   pub answers : answer ≡ judged-record (broken w) (read w)
+
+-- A read that answers a total.
+pub record Totalled (w : Words) (read : Words → Total) (answer : Total) : Type 0 where
+  pub answers : answer ≡ judged-total (broken w) (read w)
 
 -- A read that writes into one lent slice: what the slice holds as the call begins and as it ends. A refusal writes nothing, and words past the answer's end
 -- keep their content.
@@ -40,6 +45,9 @@ module _ {w : Words} {rule : ℕ} (j : Judged w rule) where
   pub record-refuses : {read : Words → Record} {r : Record} → (rule ≡ 0 → ⊥) → r ≡ no-record 1 rule → Recorded w read r
   record-refuses {read} h is = record { answers = is ∙ record-refused j h (read w) }
 
+  pub total-refuses : {read : Words → Total} {r : Total} → (rule ≡ 0 → ⊥) → r ≡ no-total 1 rule → Totalled w read r
+  total-refuses {read} h is = record { answers = is ∙ total-refused j h (read w) }
+
   pub reply-refuses : {read : Words → ℕ → Reply} {entry : List ℕ} {r : Answer} → (rule ≡ 0 → ⊥) → r ≡ refusal rule → Replied w read entry r entry
   reply-refuses {read} {entry} h is =
       let same = reply-refused j h (read w (length entry)) in
@@ -55,6 +63,9 @@ module _ {w : Words} {rule : ℕ} (j : Judged w rule) where
 
   pub record-done : {read : Words → Record} {r : Record} → rule ≡ 0 → r ≡ read w → Recorded w read r
   record-done {read} h is = record { answers = is ∙ record-counts j h (read w) }
+
+  pub total-done : {read : Words → Total} {r : Total} → rule ≡ 0 → r ≡ read w → Totalled w read r
+  total-done {read} h is = record { answers = is ∙ total-counts j h (read w) }
 
   module _ (h : rule ≡ 0) {read : Words → ℕ → Reply} {entry : List ℕ} where
     -- what the read comes to is answered, and its words are written

@@ -21,18 +21,26 @@ abbrev pub refused : ℕ → Answer
 refused number = record { number = number; value = NONE }
 
 -- an edge's record by its words
-abbrev pub record-words : List ℕ → List ℕ → List ℕ → ℕ → Record
-record-words edges outgoing incoming e = record { number = 0; value = 0; source = getD outgoing e 0; target = getD incoming e 0; payload = getD edges e 0 }
+abbrev pub record-words : List ℕ → List ℕ → List ℕ → List ℕ → ℕ → Record
+record-words lows highs outgoing incoming e = record {
+  number = 0;
+  value = 0;
+  source = getD outgoing e 0;
+  target = getD incoming e 0;
+  payload = record { low = getD lows e 0; high = getD highs e 0 };
+}
 
 -- The words of an edge's record are there.
-pub record RecordThere (edges outgoing incoming : List ℕ) (e : ℕ) : Type 0 where
-  pub payload : e < length edges
+pub record RecordThere (lows highs outgoing incoming : List ℕ) (e : ℕ) : Type 0 where
+  pub low : e < length lows
+  pub high : e < length highs
   pub source : e < length outgoing
   pub target : e < length incoming
 
-pub record-there : {w : Words} → Checked w → (e : ℕ) → e < w .counts .edges .bound → RecordThere (w .edges) (w .outgoing) (w .incoming) e
+pub record-there : {w : Words} → Checked w → (e : ℕ) → e < w .counts .edges .bound → RecordThere (w .lows) (w .highs) (w .outgoing) (w .incoming) e
 record-there {w} checked e l = record {
-  payload = omega (arith, checked .edges .bounded .bound-within);
+  low = omega (arith, checked .edges .bounded .bound-within);
+  high = omega (arith, checked .edges .bounded .bound-within, checked .highs-long);
   source = omega (arith, checked .edges .bounded .bound-within, checked .axis Outgoing .sized .room);
   target = omega (arith, checked .edges .bounded .bound-within, checked .axis Incoming .sized .room);
 }
@@ -54,7 +62,7 @@ module _ (w : Words) where
   record-past e h = edge-record-absent (lists w) e (rw (edge-bound-is w) h)
 
   -- and is the edge's words below it
-  pub record-read : (e : ℕ) → e < w .counts .edges .bound → edge-record (lists w) e ≡ record-words (w .edges) (w .outgoing) (w .incoming) e
+  pub record-read : (e : ℕ) → e < w .counts .edges .bound → edge-record (lists w) e ≡ record-words (w .lows) (w .highs) (w .outgoing) (w .incoming) e
   unfolding plain-of
   record-read e l = edge-record-there (lists w) e (rw (edge-bound-is w) l) ∙ rw (plain-end w Outgoing e l, plain-end w Incoming e l, edge-at w e l)
 
@@ -72,7 +80,7 @@ module _ (w : Words) where
 
   -- and else is the record
   pub live-record-read : (e : ℕ) → e < w .counts .edges .bound → getD (edge-live w) e false ≡ true
-      → live-edge-record (lists w) e ≡ record-words (w .edges) (w .outgoing) (w .incoming) e
+      → live-edge-record (lists w) e ≡ record-words (w .lows) (w .highs) (w .outgoing) (w .incoming) e
   unfolding plain-of
   live-record-read e l live =
       live-edge-record-there (lists w) e (rw (edge-flags-are w) live) ∙ sym (edge-record-there (lists w) e (rw (edge-bound-is w) l)) ∙ record-read e l

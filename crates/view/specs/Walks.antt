@@ -7,20 +7,26 @@ use mathlib.Core.List.{List, [], map}
 use lib.ListN.{length, getD, length-map}
 use Rattle.plain.specs.declared.TraversalDirection.{TraversalDirection}
 use Rattle.plain.specs.declared.Answer.{Answer}
+use Rattle.plain.specs.declared.Total.{Total}
 use Rattle.plain.specs.Numbers.{NONE}
 use Rattle.plain.specs.Lists.{written}
 use Rattle.plain.specs.Plain.{node-flags, list-of, end-of, opposite}
-use Rattle.plain.specs.Reads.{Reply, answered, listing, walk, neighbors, degree}
+use Rattle.plain.specs.Reads.{Reply, answered, no-total, payloads-of, listing, walk, neighbors, degree, total}
+use Rattle.plain.specs.Calls.{judged-total}
 use Rattle.plain.specs.Laws.Cases.{Absent}
-use Rattle.plain.specs.Laws.CallCases.{walk-absent, walk-there, neighbors-absent, neighbors-there, degree-absent, degree-there}
+use Rattle.plain.specs.Laws.Totals.{Totals, totals}
+use Rattle.plain.specs.Laws.CallCases.{walk-absent, walk-there, neighbors-absent, neighbors-there, degree-absent, degree-there, total-absent, total-there}
 use Rattle.liveness.specs.FlagLaws.{length-flags}
 use Rattle.shape.specs.Columns.{end-at}
 use Rattle.shape.specs.Shape.{Words, node-capacity, edge-capacity, node-live, axis-words, plain-of, lists}
 use Rattle.shape.specs.Checked.{Checked}
+use Rattle.shape.specs.Laws.Judging.{checked-sound}
 use Rattle.shape.specs.Laws.Reading.{node-bound-is, node-flags-are}
+use Rattle.adjacency.specs.declared.cursor.Sums.{Sums}
 use Rattle.adjacency.specs.Walk.{walk-in, WalkFits}
+use Rattle.store.specs.Reads.{sums-in}
 use Rattle.validate.specs.Judging.{Judged, refusal}
-use Rattle.view.specs.Calls.{Answered, Replied, answer-refuses, answer-done, reply-refuses, reply-absent, list-short, list-done}
+use Rattle.view.specs.Calls.{Answered, Totalled, Replied, answer-refuses, answer-done, reply-refuses, reply-absent, list-short, list-done}
 use Rattle.adjacency.specs.StoreWalks.{checked-walkable, list-is-walk, far-ends}
 
 -- a node's list, and the far ends of it
@@ -50,6 +56,17 @@ module _ (w : Words) (d : TraversalDirection) (x : ℕ) where
   unfolding plain-of
   degree-below l is = ap answered is ∙ sym (degree-there d (lists w) x 0 (rw (node-bound-is w) l))
 
+  -- a total is refused past the bound
+  pub total-past : w .counts .nodes .bound ≤ x → no-total 5 NONE ≡ total d (lists w) x
+  total-past h = sym (total-absent d (lists w) x (absent w x h))
+
+  -- and is both sums of the list below it
+  pub total-below : x < w .counts .nodes .bound → {sums : Sums} → sums ≡ sums-in d (lists w) x
+      → record { number = 0; value = 0; low = sums .low; high = sums .high } ≡ total d (lists w) x
+  unfolding plain-of
+  total-below l {sums} is =
+      ap (λ (s : Sums). record { number = 0; value = 0; low = s .low; high = s .high }) is ∙ sym (total-there d (lists w) x (rw (node-bound-is w) l))
+
   module _ (room : ℕ) where
     walk-past : w .counts .nodes .bound ≤ x → walk d (lists w) x room ≡ record { number = 5; value = NONE; words = [] }
     walk-past h = walk-absent d (lists w) x room (absent w x h)
@@ -64,6 +81,15 @@ module _ (w : Words) (d : TraversalDirection) (x : ℕ) where
     neighbors-below : x < w .counts .nodes .bound → neighbors d (lists w) x room ≡ listing room (far-ends-in d w x)
     unfolding plain-of
     neighbors-below l = neighbors-there d (lists w) x room (rw (node-bound-is w) l)
+
+-- "every choice of weights within the ranges sums to between them, and both ends are reached": of what is answered of a node below the bound of a checked store
+pub totals-answered : {w : Words} (d : TraversalDirection) (x : ℕ) {r : Total} → Checked w → x < w .counts .nodes .bound
+    → Totalled w (λ w. total d (lists w) x) r → Totals r (payloads-of d (lists w) x)
+unfolding plain-of
+totals-answered {w} d x k l t =
+    subst (λ (r : Total). Totals r (payloads-of d (lists w) x))
+    (sym (t .answers ∙ ap (λ (n : ℕ). judged-total n (total d (lists w) x)) (checked-sound w k)))
+    (totals (k .walks) d x (k .axis d .sized .edges-within) (rw (node-bound-is w) l))
 
 -- as many far ends as entries
 far-ends-long : (w : Words) (d : TraversalDirection) (x : ℕ) → length (list-in d w x) ≡ length (far-ends-in d w x)

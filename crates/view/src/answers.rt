@@ -1,12 +1,14 @@
 // What the reads answer, by value: done, yes or no, and refused.
 
 use plain::Answer;
+use plain::EdgePayload;
 use plain::NONE;
 use plain::Record;
+use plain::Total;
 use plain::numbers::DONE;
 ghost use mathlib.Core.Path.{_≡_};
 ghost use Rattle.plain.specs.Numbers.{NONE as none};
-ghost use Rattle.plain.specs.Reads.{answered as answer-of, yes-or-no as test-of, no-record};
+ghost use Rattle.plain.specs.Reads.{answered as answer-of, yes-or-no as test-of, no-record, no-total};
 ghost use Rattle.view.specs.Slots.{refused as refusal-of};
 
 // A number as an answer.
@@ -48,6 +50,18 @@ pub fn no_record(number: u32) -> Record
         value: NONE as u64,
         source: 0,
         target: 0,
-        payload: 0,
+        payload: EdgePayload { low: 0, high: 0 },
+    }
+}
+
+// The same where a total is read: "with both sums 0".
+pub fn no_total(number: u32) -> Total
+    ensures { λ r. ⌜ r ≡ no-total number none ⌝ }
+{
+    Total {
+        number,
+        value: NONE as u64,
+        low: 0,
+        high: 0,
     }
 }

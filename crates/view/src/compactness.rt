@@ -27,15 +27,16 @@ fn no_runs(axis: &[u32], edges: usize, nodes: usize, bound: u32) -> bool
 pub fn is_compact_checked(
     counts: Counts,
     nodes: &[u32],
-    edges: &[u32],
+    lows: &[u32],
+    highs: &[u32],
     live_nodes: &[u64],
     live_edges: &[u64],
     outgoing: &[u32],
     incoming: &[u32],
 ) -> bool
-    requires { ⌜ Checked (lent counts nodes edges «live_nodes» «live_edges» outgoing incoming) ⌝ }
+    requires { ⌜ Checked (lent counts nodes lows highs «live_nodes» «live_edges» outgoing incoming) ⌝ }
     ensures { λ r. ⌜ r ≡ is-compact (shape-of
-        (at-entry counts nodes edges «live_nodes» «live_edges» outgoing incoming)) ⌝ }
+        (at-entry counts nodes lows highs «live_nodes» «live_edges» outgoing incoming)) ⌝ }
 {
     let node_slots = counts.nodes;
     let edge_slots = counts.edges;
@@ -52,30 +53,32 @@ pub fn is_compact_checked(
     if edge_slots.live != edge_slots.bound {
         return false;
     }
-    if !no_runs(outgoing, edges.len(), nodes.len(), bound) {
+    if !no_runs(outgoing, lows.len(), nodes.len(), bound) {
         return false;
     }
-    no_runs(incoming, edges.len(), nodes.len(), bound)
+    no_runs(incoming, lows.len(), nodes.len(), bound)
 }
 
 // Whether the store is compact.
 pub fn is_compact(
     counts: Counts,
     nodes: &[u32],
-    edges: &[u32],
+    lows: &[u32],
+    highs: &[u32],
     live_nodes: &[u64],
     live_edges: &[u64],
     outgoing: &[u32],
     incoming: &[u32],
 ) -> Answer
     ensures { λ r. ⌜ Answered
-        (at-entry counts nodes edges «live_nodes» «live_edges» outgoing incoming)
+        (at-entry counts nodes lows highs «live_nodes» «live_edges» outgoing incoming)
         (λ w. compact-answer (state-of (shape-of w))) r ⌝ }
 {
     let rule = judge(
         counts,
         nodes,
-        edges,
+        lows,
+        highs,
         live_nodes,
         live_edges,
         outgoing,
@@ -87,7 +90,8 @@ pub fn is_compact(
     yes_or_no(is_compact_checked(
         counts,
         nodes,
-        edges,
+        lows,
+        highs,
         live_nodes,
         live_edges,
         outgoing,

@@ -18,7 +18,8 @@ ghost use Rattle.view.specs.Calls.{Answered};
 pub fn find(
     counts: Counts,
     nodes: &[u32],
-    edges: &[u32],
+    lows: &[u32],
+    highs: &[u32],
     live_nodes: &[u64],
     live_edges: &[u64],
     outgoing: &[u32],
@@ -27,13 +28,14 @@ pub fn find(
     second: u32,
 ) -> Answer
     ensures { λ r. ⌜ Answered
-        (at-entry counts nodes edges «live_nodes» «live_edges» outgoing incoming)
+        (at-entry counts nodes lows highs «live_nodes» «live_edges» outgoing incoming)
         (λ w. find-of (lists w) first second) r ⌝ }
 {
     let rule = judge(
         counts,
         nodes,
-        edges,
+        lows,
+        highs,
         live_nodes,
         live_edges,
         outgoing,
@@ -60,7 +62,7 @@ pub fn find(
     let edge = adjacency::walk::find(
         outgoing,
         incoming,
-        edges.len(),
+        lows.len(),
         nodes.len(),
         counts,
         live_edges,

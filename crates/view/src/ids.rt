@@ -34,7 +34,8 @@ fn write_live(words: &[u64], bound: usize, slots: &mut [u32])
 pub fn node_ids(
     counts: Counts,
     nodes: &[u32],
-    edges: &[u32],
+    lows: &[u32],
+    highs: &[u32],
     live_nodes: &[u64],
     live_edges: &[u64],
     outgoing: &[u32],
@@ -42,13 +43,14 @@ pub fn node_ids(
     slots: &mut [u32],
 ) -> Answer
     ensures { λ r. ⌜ Replied
-        (at-entry counts nodes edges «live_nodes» «live_edges» outgoing incoming)
+        (at-entry counts nodes lows highs «live_nodes» «live_edges» outgoing incoming)
         (λ w room. node-slots (lists w) room) (now (slots .entry)) r (now (slots .exit)) ⌝ }
 {
     let rule = judge(
         counts,
         nodes,
-        edges,
+        lows,
+        highs,
         live_nodes,
         live_edges,
         outgoing,
@@ -76,7 +78,8 @@ pub fn node_ids(
 pub fn edge_ids(
     counts: Counts,
     nodes: &[u32],
-    edges: &[u32],
+    lows: &[u32],
+    highs: &[u32],
     live_nodes: &[u64],
     live_edges: &[u64],
     outgoing: &[u32],
@@ -84,13 +87,14 @@ pub fn edge_ids(
     slots: &mut [u32],
 ) -> Answer
     ensures { λ r. ⌜ Replied
-        (at-entry counts nodes edges «live_nodes» «live_edges» outgoing incoming)
+        (at-entry counts nodes lows highs «live_nodes» «live_edges» outgoing incoming)
         (λ w room. edge-slots (lists w) room) (now (slots .entry)) r (now (slots .exit)) ⌝ }
 {
     let rule = judge(
         counts,
         nodes,
-        edges,
+        lows,
+        highs,
         live_nodes,
         live_edges,
         outgoing,

@@ -7,6 +7,7 @@ use crate::answers::yes_or_no;
 use liveness::is_live;
 use plain::Answer;
 use plain::Counts;
+use plain::EdgePayload;
 use plain::Record;
 use plain::numbers::DONE;
 use plain::numbers::OUT_OF_RANGE_EDGE;
@@ -23,9 +24,9 @@ ghost use Rattle.view.specs.Calls.{Answered, Recorded};
 ghost use Rattle.view.specs.Slots.{RecordThere, record-words};
 
 // The record of an edge slot below the bound. Internal.
-fn record_at(edges: &[u32], outgoing: &[u32], incoming: &[u32], edge: u32) -> Record
-    requires { ⌜ RecordThere (now edges) (now outgoing) (now incoming) edge ⌝ }
-    ensures { λ r. ⌜ r ≡ record-words (now (edges .entry)) (now (outgoing .entry)) (now (incoming .entry)) edge ⌝ }
+fn record_at(lows: &[u32], highs: &[u32], outgoing: &[u32], incoming: &[u32], edge: u32) -> Record
+    requires { ⌜ RecordThere (now lows) (now highs) (now outgoing) (now incoming) edge ⌝ }
+    ensures { λ r. ⌜ r ≡ record-words (now (lows .entry)) (now (highs .entry)) (now (outgoing .entry)) (now (incoming .entry)) edge ⌝ }
 {
     let at = edge as usize;
     Record {
@@ -33,7 +34,10 @@ fn record_at(edges: &[u32], outgoing: &[u32], incoming: &[u32], edge: u32) -> Re
         value: 0,
         source: outgoing[at],
         target: incoming[at],
-        payload: edges[at],
+        payload: EdgePayload {
+            low: lows[at],
+            high: highs[at],
+        },
     }
 }
 
@@ -41,7 +45,8 @@ fn record_at(edges: &[u32], outgoing: &[u32], incoming: &[u32], edge: u32) -> Re
 pub fn node_payload(
     counts: Counts,
     nodes: &[u32],
-    edges: &[u32],
+    lows: &[u32],
+    highs: &[u32],
     live_nodes: &[u64],
     live_edges: &[u64],
     outgoing: &[u32],
@@ -49,13 +54,14 @@ pub fn node_payload(
     node: u32,
 ) -> Answer
     ensures { λ r. ⌜ Answered
-        (at-entry counts nodes edges «live_nodes» «live_edges» outgoing incoming)
+        (at-entry counts nodes lows highs «live_nodes» «live_edges» outgoing incoming)
         (λ w. node-payload (lists w) node) r ⌝ }
 {
     let rule = judge(
         counts,
         nodes,
-        edges,
+        lows,
+        highs,
         live_nodes,
         live_edges,
         outgoing,
@@ -74,7 +80,8 @@ pub fn node_payload(
 pub fn edge_record(
     counts: Counts,
     nodes: &[u32],
-    edges: &[u32],
+    lows: &[u32],
+    highs: &[u32],
     live_nodes: &[u64],
     live_edges: &[u64],
     outgoing: &[u32],
@@ -82,13 +89,14 @@ pub fn edge_record(
     edge: u32,
 ) -> Record
     ensures { λ r. ⌜ Recorded
-        (at-entry counts nodes edges «live_nodes» «live_edges» outgoing incoming)
+        (at-entry counts nodes lows highs «live_nodes» «live_edges» outgoing incoming)
         (λ w. edge-record (lists w) edge) r ⌝ }
 {
     let rule = judge(
         counts,
         nodes,
-        edges,
+        lows,
+        highs,
         live_nodes,
         live_edges,
         outgoing,
@@ -100,14 +108,15 @@ pub fn edge_record(
     if counts.edges.bound <= edge {
         return no_record(OUT_OF_RANGE_EDGE);
     }
-    record_at(edges, outgoing, incoming, edge)
+    record_at(lows, highs, outgoing, incoming, edge)
 }
 
 // The record of a live edge. "Live record 1, 7, 8."
 pub fn live_edge_record(
     counts: Counts,
     nodes: &[u32],
-    edges: &[u32],
+    lows: &[u32],
+    highs: &[u32],
     live_nodes: &[u64],
     live_edges: &[u64],
     outgoing: &[u32],
@@ -115,13 +124,14 @@ pub fn live_edge_record(
     edge: u32,
 ) -> Record
     ensures { λ r. ⌜ Recorded
-        (at-entry counts nodes edges «live_nodes» «live_edges» outgoing incoming)
+        (at-entry counts nodes lows highs «live_nodes» «live_edges» outgoing incoming)
         (λ w. live-edge-record (lists w) edge) r ⌝ }
 {
     let rule = judge(
         counts,
         nodes,
-        edges,
+        lows,
+        highs,
         live_nodes,
         live_edges,
         outgoing,
@@ -135,7 +145,7 @@ pub fn live_edge_record(
         return no_record(OUT_OF_RANGE_EDGE);
     }
     if is_live(live_edges, bound as usize, edge as usize) {
-        return record_at(edges, outgoing, incoming, edge);
+        return record_at(lows, highs, outgoing, incoming, edge);
     }
     no_record(REMOVED_EDGE)
 }
@@ -144,7 +154,8 @@ pub fn live_edge_record(
 pub fn contains_node(
     counts: Counts,
     nodes: &[u32],
-    edges: &[u32],
+    lows: &[u32],
+    highs: &[u32],
     live_nodes: &[u64],
     live_edges: &[u64],
     outgoing: &[u32],
@@ -152,13 +163,14 @@ pub fn contains_node(
     node: u32,
 ) -> Answer
     ensures { λ r. ⌜ Answered
-        (at-entry counts nodes edges «live_nodes» «live_edges» outgoing incoming)
+        (at-entry counts nodes lows highs «live_nodes» «live_edges» outgoing incoming)
         (λ w. contains-node (lists w) node) r ⌝ }
 {
     let rule = judge(
         counts,
         nodes,
-        edges,
+        lows,
+        highs,
         live_nodes,
         live_edges,
         outgoing,
@@ -174,7 +186,8 @@ pub fn contains_node(
 pub fn contains_edge(
     counts: Counts,
     nodes: &[u32],
-    edges: &[u32],
+    lows: &[u32],
+    highs: &[u32],
     live_nodes: &[u64],
     live_edges: &[u64],
     outgoing: &[u32],
@@ -182,13 +195,14 @@ pub fn contains_edge(
     edge: u32,
 ) -> Answer
     ensures { λ r. ⌜ Answered
-        (at-entry counts nodes edges «live_nodes» «live_edges» outgoing incoming)
+        (at-entry counts nodes lows highs «live_nodes» «live_edges» outgoing incoming)
         (λ w. contains-edge (lists w) edge) r ⌝ }
 {
     let rule = judge(
         counts,
         nodes,
-        edges,
+        lows,
+        highs,
         live_nodes,
         live_edges,
         outgoing,

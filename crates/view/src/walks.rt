@@ -1,10 +1,13 @@
-// Public reads of a node's list: degree, walk, and the far ends of a walk (successors or predecessors). "Walk: 1, 5, 2." "Degree and node payload: 1, 5."
+// Public reads of a node's list: degree, total, walk, and the far ends of a walk (successors or predecessors). "Walk: 1, 5, 2." "Degree and node payload: 1, 5."
+// "A total refuses 1, then 5".
 
+use crate::answers::no_total;
 use adjacency;
 use liveness;
 use plain::Answer;
 use plain::Counts;
 use plain::NONE;
+use plain::Total;
 use plain::TraversalDirection;
 use plain::numbers::DONE;
 use plain::numbers::OUT_OF_RANGE_NODE;
@@ -12,19 +15,21 @@ use plain::numbers::TOO_SHORT;
 use store::reads;
 use validate::judging::judge;
 use validate::judging::no_store;
+use validate::judging::no_store_total;
 ghost use mathlib.Core.Path.{_≡_};
 ghost use Rattle.plain.specs.Lists.{written};
-ghost use Rattle.plain.specs.Reads.{degree as degree-of, walk as walk-of, neighbors as neighbors-of};
+ghost use Rattle.plain.specs.Reads.{degree as degree-of, total as total-of, walk as walk-of, neighbors as neighbors-of};
 ghost use Rattle.shape.specs.Shape.{lists};
 ghost use Rattle.shape.specs.Lent.{lent, at-entry};
-ghost use Rattle.view.specs.Calls.{Answered, Replied};
+ghost use Rattle.view.specs.Calls.{Answered, Totalled, Replied};
 ghost use Rattle.view.specs.Walks.{CountAnswer, ListAnswer, ListFits, list-in, far-ends-in};
 
 // Writes a node's list to the start of `slots`. Internal: the list has been counted.
 fn write_list(
     counts: Counts,
     nodes: &[u32],
-    edges: &[u32],
+    lows: &[u32],
+    highs: &[u32],
     live_nodes: &[u64],
     live_edges: &[u64],
     outgoing: &[u32],
@@ -33,9 +38,9 @@ fn write_list(
     node: u32,
     slots: &mut [u32],
 )
-    requires { ⌜ ListFits (lent counts nodes edges «live_nodes» «live_edges» outgoing incoming) direction node (now slots) ⌝ }
+    requires { ⌜ ListFits (lent counts nodes lows highs «live_nodes» «live_edges» outgoing incoming) direction node (now slots) ⌝ }
     ensures { λ _. ⌜ now (slots .exit) ≡ written (list-in direction
-        (at-entry counts nodes edges «live_nodes» «live_edges» outgoing incoming) node) (now (slots .entry)) ⌝ }
+        (at-entry counts nodes lows highs «live_nodes» «live_edges» outgoing incoming) node) (now (slots .entry)) ⌝ }
 {
     let node_slots = counts.nodes;
     let bound = node_slots.bound as usize;
@@ -45,7 +50,7 @@ fn write_list(
         TraversalDirection::Outgoing => {
             adjacency::walk::write_walk(
                 outgoing,
-                edges.len(),
+                lows.len(),
                 nodes.len(),
                 counts,
                 live_edges,
@@ -57,7 +62,7 @@ fn write_list(
         TraversalDirection::Incoming => {
             adjacency::walk::write_walk(
                 incoming,
-                edges.len(),
+                lows.len(),
                 nodes.len(),
                 counts,
                 live_edges,
@@ -73,7 +78,8 @@ fn write_list(
 fn write_far_ends(
     counts: Counts,
     nodes: &[u32],
-    edges: &[u32],
+    lows: &[u32],
+    highs: &[u32],
     live_nodes: &[u64],
     live_edges: &[u64],
     outgoing: &[u32],
@@ -82,9 +88,9 @@ fn write_far_ends(
     node: u32,
     slots: &mut [u32],
 )
-    requires { ⌜ ListFits (lent counts nodes edges «live_nodes» «live_edges» outgoing incoming) direction node (now slots) ⌝ }
+    requires { ⌜ ListFits (lent counts nodes lows highs «live_nodes» «live_edges» outgoing incoming) direction node (now slots) ⌝ }
     ensures { λ _. ⌜ now (slots .exit) ≡ written (far-ends-in direction
-        (at-entry counts nodes edges «live_nodes» «live_edges» outgoing incoming) node) (now (slots .entry)) ⌝ }
+        (at-entry counts nodes lows highs «live_nodes» «live_edges» outgoing incoming) node) (now (slots .entry)) ⌝ }
 {
     let node_slots = counts.nodes;
     let bound = node_slots.bound as usize;
@@ -95,7 +101,7 @@ fn write_far_ends(
             adjacency::walk::write_neighbors(
                 outgoing,
                 incoming,
-                edges.len(),
+                lows.len(),
                 nodes.len(),
                 counts,
                 live_edges,
@@ -108,7 +114,7 @@ fn write_far_ends(
             adjacency::walk::write_neighbors(
                 incoming,
                 outgoing,
-                edges.len(),
+                lows.len(),
                 nodes.len(),
                 counts,
                 live_edges,
@@ -124,7 +130,8 @@ fn write_far_ends(
 fn count_answer(
     counts: Counts,
     nodes: &[u32],
-    edges: &[u32],
+    lows: &[u32],
+    highs: &[u32],
     live_nodes: &[u64],
     live_edges: &[u64],
     outgoing: &[u32],
@@ -133,13 +140,14 @@ fn count_answer(
     node: u32,
 ) -> Answer
     ensures { λ r. ⌜ CountAnswer
-        (at-entry counts nodes edges «live_nodes» «live_edges» outgoing incoming)
+        (at-entry counts nodes lows highs «live_nodes» «live_edges» outgoing incoming)
         direction node r ⌝ }
 {
     let rule = judge(
         counts,
         nodes,
-        edges,
+        lows,
+        highs,
         live_nodes,
         live_edges,
         outgoing,
@@ -157,7 +165,8 @@ fn count_answer(
     let entries = reads::degree(
         counts,
         nodes,
-        edges,
+        lows,
+        highs,
         live_nodes,
         live_edges,
         outgoing,
@@ -175,7 +184,8 @@ fn count_answer(
 fn list_answer(
     counts: Counts,
     nodes: &[u32],
-    edges: &[u32],
+    lows: &[u32],
+    highs: &[u32],
     live_nodes: &[u64],
     live_edges: &[u64],
     outgoing: &[u32],
@@ -185,13 +195,14 @@ fn list_answer(
     room: usize,
 ) -> Answer
     ensures { λ r. ⌜ ListAnswer
-        (at-entry counts nodes edges «live_nodes» «live_edges» outgoing incoming)
+        (at-entry counts nodes lows highs «live_nodes» «live_edges» outgoing incoming)
         direction node room r ⌝ }
 {
     let counted = count_answer(
         counts,
         nodes,
-        edges,
+        lows,
+        highs,
         live_nodes,
         live_edges,
         outgoing,
@@ -216,7 +227,8 @@ fn list_answer(
 pub fn degree(
     counts: Counts,
     nodes: &[u32],
-    edges: &[u32],
+    lows: &[u32],
+    highs: &[u32],
     live_nodes: &[u64],
     live_edges: &[u64],
     outgoing: &[u32],
@@ -225,13 +237,14 @@ pub fn degree(
     node: u32,
 ) -> Answer
     ensures { λ r. ⌜ Answered
-        (at-entry counts nodes edges «live_nodes» «live_edges» outgoing incoming)
+        (at-entry counts nodes lows highs «live_nodes» «live_edges» outgoing incoming)
         (λ w. degree-of direction (lists w) node) r ⌝ }
 {
     count_answer(
         counts,
         nodes,
-        edges,
+        lows,
+        highs,
         live_nodes,
         live_edges,
         outgoing,
@@ -241,11 +254,65 @@ pub fn degree(
     )
 }
 
+// The total of a node's list: the sum of the lowest weights and the sum of the highest.
+pub fn total(
+    counts: Counts,
+    nodes: &[u32],
+    lows: &[u32],
+    highs: &[u32],
+    live_nodes: &[u64],
+    live_edges: &[u64],
+    outgoing: &[u32],
+    incoming: &[u32],
+    direction: TraversalDirection,
+    node: u32,
+) -> Total
+    ensures { λ r. ⌜ Totalled
+        (at-entry counts nodes lows highs «live_nodes» «live_edges» outgoing incoming)
+        (λ w. total-of direction (lists w) node) r ⌝ }
+{
+    let rule = judge(
+        counts,
+        nodes,
+        lows,
+        highs,
+        live_nodes,
+        live_edges,
+        outgoing,
+        incoming,
+    );
+    if rule != 0 {
+        return no_store_total(rule);
+    }
+    if counts.nodes.bound <= node {
+        return no_total(OUT_OF_RANGE_NODE);
+    }
+    let sums = reads::total(
+        counts,
+        nodes,
+        lows,
+        highs,
+        live_nodes,
+        live_edges,
+        outgoing,
+        incoming,
+        direction,
+        node,
+    );
+    Total {
+        number: DONE,
+        value: 0,
+        low: sums.low,
+        high: sums.high,
+    }
+}
+
 // A node's list into `slots`.
 pub fn walk(
     counts: Counts,
     nodes: &[u32],
-    edges: &[u32],
+    lows: &[u32],
+    highs: &[u32],
     live_nodes: &[u64],
     live_edges: &[u64],
     outgoing: &[u32],
@@ -255,13 +322,14 @@ pub fn walk(
     slots: &mut [u32],
 ) -> Answer
     ensures { λ r. ⌜ Replied
-        (at-entry counts nodes edges «live_nodes» «live_edges» outgoing incoming)
+        (at-entry counts nodes lows highs «live_nodes» «live_edges» outgoing incoming)
         (λ w room. walk-of direction (lists w) node room) (now (slots .entry)) r (now (slots .exit)) ⌝ }
 {
     let answer = list_answer(
         counts,
         nodes,
-        edges,
+        lows,
+        highs,
         live_nodes,
         live_edges,
         outgoing,
@@ -276,7 +344,8 @@ pub fn walk(
     write_list(
         counts,
         nodes,
-        edges,
+        lows,
+        highs,
         live_nodes,
         live_edges,
         outgoing,
@@ -292,7 +361,8 @@ pub fn walk(
 pub fn neighbors(
     counts: Counts,
     nodes: &[u32],
-    edges: &[u32],
+    lows: &[u32],
+    highs: &[u32],
     live_nodes: &[u64],
     live_edges: &[u64],
     outgoing: &[u32],
@@ -302,13 +372,14 @@ pub fn neighbors(
     slots: &mut [u32],
 ) -> Answer
     ensures { λ r. ⌜ Replied
-        (at-entry counts nodes edges «live_nodes» «live_edges» outgoing incoming)
+        (at-entry counts nodes lows highs «live_nodes» «live_edges» outgoing incoming)
         (λ w room. neighbors-of direction (lists w) node room) (now (slots .entry)) r (now (slots .exit)) ⌝ }
 {
     let answer = list_answer(
         counts,
         nodes,
-        edges,
+        lows,
+        highs,
         live_nodes,
         live_edges,
         outgoing,
@@ -323,7 +394,8 @@ pub fn neighbors(
     write_far_ends(
         counts,
         nodes,
-        edges,
+        lows,
+        highs,
         live_nodes,
         live_edges,
         outgoing,

@@ -15,20 +15,22 @@ ghost use Rattle.view.specs.Calls.{Answered};
 pub fn node_bound(
     counts: Counts,
     nodes: &[u32],
-    edges: &[u32],
+    lows: &[u32],
+    highs: &[u32],
     live_nodes: &[u64],
     live_edges: &[u64],
     outgoing: &[u32],
     incoming: &[u32],
 ) -> Answer
     ensures { λ r. ⌜ Answered
-        (at-entry counts nodes edges «live_nodes» «live_edges» outgoing incoming)
+        (at-entry counts nodes lows highs «live_nodes» «live_edges» outgoing incoming)
         (λ w. node-bound-answer (lists w)) r ⌝ }
 {
     let rule = judge(
         counts,
         nodes,
-        edges,
+        lows,
+        highs,
         live_nodes,
         live_edges,
         outgoing,
@@ -44,20 +46,22 @@ pub fn node_bound(
 pub fn edge_bound(
     counts: Counts,
     nodes: &[u32],
-    edges: &[u32],
+    lows: &[u32],
+    highs: &[u32],
     live_nodes: &[u64],
     live_edges: &[u64],
     outgoing: &[u32],
     incoming: &[u32],
 ) -> Answer
     ensures { λ r. ⌜ Answered
-        (at-entry counts nodes edges «live_nodes» «live_edges» outgoing incoming)
+        (at-entry counts nodes lows highs «live_nodes» «live_edges» outgoing incoming)
         (λ w. edge-bound-answer (lists w)) r ⌝ }
 {
     let rule = judge(
         counts,
         nodes,
-        edges,
+        lows,
+        highs,
         live_nodes,
         live_edges,
         outgoing,
@@ -73,20 +77,22 @@ pub fn edge_bound(
 pub fn node_count(
     counts: Counts,
     nodes: &[u32],
-    edges: &[u32],
+    lows: &[u32],
+    highs: &[u32],
     live_nodes: &[u64],
     live_edges: &[u64],
     outgoing: &[u32],
     incoming: &[u32],
 ) -> Answer
     ensures { λ r. ⌜ Answered
-        (at-entry counts nodes edges «live_nodes» «live_edges» outgoing incoming)
+        (at-entry counts nodes lows highs «live_nodes» «live_edges» outgoing incoming)
         (λ w. node-count (lists w)) r ⌝ }
 {
     let rule = judge(
         counts,
         nodes,
-        edges,
+        lows,
+        highs,
         live_nodes,
         live_edges,
         outgoing,
@@ -102,20 +108,22 @@ pub fn node_count(
 pub fn edge_count(
     counts: Counts,
     nodes: &[u32],
-    edges: &[u32],
+    lows: &[u32],
+    highs: &[u32],
     live_nodes: &[u64],
     live_edges: &[u64],
     outgoing: &[u32],
     incoming: &[u32],
 ) -> Answer
     ensures { λ r. ⌜ Answered
-        (at-entry counts nodes edges «live_nodes» «live_edges» outgoing incoming)
+        (at-entry counts nodes lows highs «live_nodes» «live_edges» outgoing incoming)
         (λ w. edge-count (lists w)) r ⌝ }
 {
     let rule = judge(
         counts,
         nodes,
-        edges,
+        lows,
+        highs,
         live_nodes,
         live_edges,
         outgoing,
@@ -131,20 +139,22 @@ pub fn edge_count(
 pub fn is_empty(
     counts: Counts,
     nodes: &[u32],
-    edges: &[u32],
+    lows: &[u32],
+    highs: &[u32],
     live_nodes: &[u64],
     live_edges: &[u64],
     outgoing: &[u32],
     incoming: &[u32],
 ) -> Answer
     ensures { λ r. ⌜ Answered
-        (at-entry counts nodes edges «live_nodes» «live_edges» outgoing incoming)
+        (at-entry counts nodes lows highs «live_nodes» «live_edges» outgoing incoming)
         (λ w. is-empty (lists w)) r ⌝ }
 {
     let rule = judge(
         counts,
         nodes,
-        edges,
+        lows,
+        highs,
         live_nodes,
         live_edges,
         outgoing,

@@ -36,19 +36,20 @@ fn added(rng: &mut Rng) -> RustStore {
         edges: SLOTS,
     });
     for _ in 0..SLOTS {
-        rust.operation([1, 0, 0, rng.word()]);
+        rust.operation([1, 0, 0, rng.word(), 0]);
     }
     for _ in 0..SLOTS {
         let [source, target] = [(); 2].map(|()| rng.word() % SLOTS);
-        rust.operation([2, source, target, rng.word()]);
+        let weight = rng.word();
+        rust.operation([2, source, target, weight, weight]);
     }
     rust
 }
 
 fn redirected(mut rust: RustStore, rng: &mut Rng) -> RustStore {
     for edge in 0..SLOTS {
-        rust.operation([5, edge, rng.word() % SLOTS, 0]);
-        rust.operation([6, edge, rng.word() % SLOTS, 0]);
+        rust.operation([5, edge, rng.word() % SLOTS, 0, 0]);
+        rust.operation([6, edge, rng.word() % SLOTS, 0, 0]);
     }
     rust
 }
@@ -99,7 +100,7 @@ impl Pair {
     }
 
     /// The Rust's time for the operations, all of which it can do.
-    fn rust_time(&self, operations: &[[u32; 4]]) -> Duration {
+    fn rust_time(&self, operations: &[[u32; 5]]) -> Duration {
         let decoded = operations.iter().map(|&words| Operation::decode(words));
         let decoded: Vec<Operation> = decoded.map(|each| each.expect("an operation")).collect();
         let mut graph = self.rust.graph.clone();
@@ -115,7 +116,7 @@ impl Pair {
 
     /// The port's time for the operations by strips of so many, and that of the
     /// check alone, made besides on the store before each strip.
-    fn port_times(&self, operations: &[[u32; 4]], strip: usize) -> [Duration; 2] {
+    fn port_times(&self, operations: &[[u32; 5]], strip: usize) -> [Duration; 2] {
         let mut book = self.book.clone();
         let mut answers = vec![0; 2 * strip];
         let mut times = [Duration::ZERO; 2];
@@ -137,7 +138,7 @@ impl Pair {
     }
 
     /// Both sides on the operations, by strips of these lengths.
-    fn compare(&self, name: &str, operations: &[[u32; 4]], strips: &[usize]) {
+    fn compare(&self, name: &str, operations: &[[u32; 5]], strips: &[usize]) {
         for &strip in strips {
             let repeats = if strip == 1 { 1 } else { REPEATS };
             let mut times = [const { Vec::new() }; 3];
@@ -279,12 +280,13 @@ impl Pair {
 }
 
 /// Redirections of either end of random edges to random nodes.
-fn redirects(count: u32, rng: &mut Rng) -> Vec<[u32; 4]> {
+fn redirects(count: u32, rng: &mut Rng) -> Vec<[u32; 5]> {
     let redirect = |_| {
         [
             5 + rng.word() % 2,
             rng.word() % SLOTS,
             rng.word() % SLOTS,
+            0,
             0,
         ]
     };
@@ -303,7 +305,7 @@ fn shuffled(rng: &mut Rng) -> Vec<u32> {
 /// is there before the first operation that is timed.
 fn compare_one_removed(hub: Pair, rng: &mut Rng) {
     const EDITS: usize = 4096;
-    let after = |pair: &Pair, operations: &[[u32; 4]]| {
+    let after = |pair: &Pair, operations: &[[u32; 5]]| {
         let mut pair = pair.clone();
         let mut answers = vec![0; 2 * operations.len()];
         for &words in operations {
@@ -315,12 +317,15 @@ fn compare_one_removed(hub: Pair, rng: &mut Rng) {
         pair
     };
     let last = SLOTS - 1;
-    let hub = after(&hub, &[[5, 0, 1, 0], [5, 0, 0, 0], [3, last, 0, 0]]);
-    let away = |edge: u32| [5, edge, 1 + edge % (SLOTS - 1), 0];
-    let in_order: Vec<[u32; 4]> = (1..).map(away).take(EDITS).collect();
+    let hub = after(
+        &hub,
+        &[[5, 0, 1, 0, 0], [5, 0, 0, 0, 0], [3, last, 0, 0, 0]],
+    );
+    let away = |edge: u32| [5, edge, 1 + edge % (SLOTS - 1), 0, 0];
+    let in_order: Vec<[u32; 5]> = (1..).map(away).take(EDITS).collect();
     let mut any = shuffled(rng);
     any.retain(|&edge| edge != last);
-    let any: Vec<[u32; 4]> = any.into_iter().map(away).take(EDITS).collect();
+    let any: Vec<[u32; 5]> = any.into_iter().map(away).take(EDITS).collect();
     let name = "a hub with one removed edge";
     hub.compare(
         &format!("redirects away from {name}, in its order"),
@@ -332,20 +337,26 @@ fn compare_one_removed(hub: Pair, rng: &mut Rng) {
         &any,
         &[EDITS],
     );
-    let to: Vec<[u32; 4]> = any.iter().map(|&[_, edge, ..]| [5, edge, 0, 0]).collect();
+    let to: Vec<[u32; 5]> = any
+        .iter()
+        .map(|&[_, edge, ..]| [5, edge, 0, 0, 0])
+        .collect();
     after(&hub, &any).compare(&format!("redirects to {name}"), &to, &[EDITS]);
-    let moves: Vec<[u32; 4]> = (0..EDITS as u32)
-        .map(|node| [7, node, node + 1, 0])
+    let moves: Vec<[u32; 5]> = (0..EDITS as u32)
+        .map(|node| [7, node, node + 1, 0, 0])
         .collect();
     hub.compare(&format!("moves of {name}"), &moves, &[EDITS]);
 }
 
 fn compare_operations(rng: &mut Rng) {
-    let nodes = (0..SLOTS).map(|payload| [1, 0, 0, payload]);
-    let edges: Vec<[u32; 4]> = (0..SLOTS)
-        .map(|payload| [2, rng.word() % SLOTS, rng.word() % SLOTS, payload])
+    let nodes = (0..SLOTS).map(|payload| [1, 0, 0, payload, 0]);
+    let edges: Vec<[u32; 5]> = (0..SLOTS)
+        .map(|weight| {
+            let [source, target] = [(); 2].map(|()| rng.word() % SLOTS);
+            [2, source, target, weight, weight]
+        })
         .collect();
-    let build: Vec<[u32; 4]> = nodes.clone().chain(edges).collect();
+    let build: Vec<[u32; 5]> = nodes.clone().chain(edges).collect();
     let capacities = Capacities {
         nodes: SLOTS,
         edges: SLOTS,
@@ -361,18 +372,18 @@ fn compare_operations(rng: &mut Rng) {
     built.compare("random redirects", &redirects(SLOTS, rng), &[64, 4096]);
 
     let mut rust = empty.rust;
-    for words in nodes.chain((0..SLOTS).map(|payload| [2, 0, payload, payload])) {
+    for words in nodes.chain((0..SLOTS).map(|target| [2, 0, target, target, target])) {
         rust.operation(words);
     }
     let hub = Pair::of(rust);
-    let away = |edge: u32| [5, edge, 1 + edge % (SLOTS - 1), 0];
-    let in_order: Vec<[u32; 4]> = (0..8192).map(away).collect();
+    let away = |edge: u32| [5, edge, 1 + edge % (SLOTS - 1), 0, 0];
+    let in_order: Vec<[u32; 5]> = (0..8192).map(away).collect();
     hub.compare(
         "redirects away from a hub, in its order",
         &in_order,
         &[4096],
     );
-    let any: Vec<[u32; 4]> = shuffled(rng).into_iter().take(8192).map(away).collect();
+    let any: Vec<[u32; 5]> = shuffled(rng).into_iter().take(8192).map(away).collect();
     hub.compare("redirects away from a hub, in any order", &any, &[4096]);
     hub.compare_compaction("compaction of a hub, its ring of all edges ascending");
     let mut value = written(&hub.rust.graph);
@@ -385,25 +396,26 @@ fn compare_operations(rng: &mut Rng) {
 
     compare_one_removed(hub, rng);
 
-    let moves: Vec<[u32; 4]> = (0..SLOTS)
+    let moves: Vec<[u32; 5]> = (0..SLOTS)
         .map(|_| {
             [
                 7 + rng.word() % 2,
                 rng.word() % SLOTS,
                 rng.word() % SLOTS,
                 0,
+                0,
             ]
         })
-        .filter(|[_, old, new, _]| old != new)
+        .filter(|[_, old, new, ..]| old != new)
         .collect();
     built.compare("moves", &moves, &[64, 4096]);
 
     let edges = shuffled(rng)
         .into_iter()
         .take(SLOTS as usize / 2)
-        .map(|edge| [3, edge, 0, 0]);
-    let nodes = shuffled(rng).into_iter().map(|node| [4, node, 0, 0]);
-    let removals: Vec<[u32; 4]> = edges.chain(nodes).collect();
+        .map(|edge| [3, edge, 0, 0, 0]);
+    let nodes = shuffled(rng).into_iter().map(|node| [4, node, 0, 0, 0]);
+    let removals: Vec<[u32; 5]> = edges.chain(nodes).collect();
     built.compare(
         "removals, half of the edges and then every node",
         &removals,

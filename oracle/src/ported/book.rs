@@ -9,16 +9,17 @@ use std::fmt;
 
 use super::damaged::{damage, written};
 use super::memory::Memory;
+use super::ranges::{self, Ranged};
 use super::strips::operations;
 use super::words::Words;
 use super::{Port, compare_strip, kept, lent};
 use crate::calls::{self, Lots};
 use crate::checked::read;
-use crate::generate::{Generator, MEDIUM, MIXES, Mix, SHORT, Size, compact_lists};
+use crate::generate::{Generator, MEDIUM, MIXES, Mix, SHORT, Size, compact_lists, one_weight};
 use crate::graph::store::Graph;
 use crate::graph::traverse::TraversalDirection;
 use crate::image;
-use crate::lots::{EdgeRecord, LotBook, Refused, maps};
+use crate::lots::{EdgePayload, EdgeRecord, LotBook, Refused, maps};
 use crate::model::{Answer, Capacities, DIRECTIONS, Model, NONE};
 use crate::record::spoiled_image;
 use crate::rng::Rng;
@@ -41,18 +42,16 @@ impl Port for LotBook {
 type ListRead = fn(&LotBook, u32, &mut [u32]) -> Result<u32, Refused>;
 type NodeRead = fn(&LotBook, u32) -> Result<u32, Refused>;
 
-/// The reads of a node's list: edges, far ends, and how many.
-const LISTS: [(TraversalDirection, ListRead, ListRead, NodeRead); 2] = [
+/// The reads of a node's list: edges and far ends, and how many.
+const LISTS: [(TraversalDirection, [ListRead; 2], NodeRead); 2] = [
     (
         TraversalDirection::Outgoing,
-        LotBook::outgoing_into,
-        LotBook::successors_into,
+        [LotBook::outgoing_into, LotBook::successors_into],
         LotBook::out_degree,
     ),
     (
         TraversalDirection::Incoming,
-        LotBook::incoming_into,
-        LotBook::predecessors_into,
+        [LotBook::incoming_into, LotBook::predecessors_into],
         LotBook::in_degree,
     ),
 ];
@@ -129,7 +128,7 @@ impl Shelf {
         tally: &mut Tally,
     ) -> Result<u64, Difference> {
         let words = operations(most, &self.model, generator);
-        let length = words.len() / 2 + generator.rng.below(3);
+        let length = 2 * (words.len() / 5) + generator.rng.below(3);
         let Self {
             model,
             shape,
@@ -139,7 +138,7 @@ impl Shelf {
         } = self;
         compare_strip(model, shape, rust, book, &words, length, tally)?;
         self.compare_reads(generator.rng, tally)?;
-        Ok(words.len() as u64 / 4)
+        Ok(words.len() as u64 / 5)
     }
 
     /// Compacts on both sides: the maps and the lists into slices with words to
@@ -184,32 +183,6 @@ impl Shelf {
         self.compact_again(tally)
     }
 
-    /// The image of both sides, into a slice with bytes to spare and into one that
-    /// is too short; of a store that is not compact it is refused.
-    fn compare_image(&self, tally: &mut Tally) -> Same {
-        let place = || "the image".to_string();
-        let expected = calls::write_image(&self.rust, usize::MAX);
-        let needed = expected.as_ref().map_or(0, Vec::len);
-        let mut bytes = vec![77; needed + 2];
-        let given = self.book.image_into(&mut bytes).map_err(Answer::from);
-        let past = bytes.split_off(needed);
-        let given = given.map(|length| (length as usize, bytes));
-        let expected = expected.map(|image| (image.len(), image));
-        tally.same(
-            Thing::BookImage,
-            place,
-            (expected, vec![77; 2]),
-            (given, past),
-        )?;
-        if let Some(shorter) = needed.checked_sub(1) {
-            let mut bytes = vec![77; shorter];
-            let given = self.book.image_into(&mut bytes).map_err(Answer::from);
-            let expected = (Err(Answer::too_short(needed)), vec![77; shorter]);
-            tally.same(Thing::BookImage, place, expected, (given, bytes))?;
-        }
-        Ok(())
-    }
-
     /// Reads an image, its own where it has one, another or a spoiled one, on both
     /// sides, then every read. Refused, every word stays.
     fn read(&mut self, rng: &mut Rng, tally: &mut Tally) -> Same {
@@ -217,13 +190,21 @@ impl Shelf {
         let capacities = self.rust.capacities;
         let bytes = match (rng.below(3), calls::write_image(&self.rust, usize::MAX)) {
             (0, Ok(own)) => own,
-            (1, _) => spoiled_image(rng),
-            _ => image::write(&compact_lists(rng, capacities)),
+            (1, _) => spoiled_image(rng, one_weight),
+            _ => image::write(&compact_lists(rng, capacities, one_weight)),
         };
+        let Capacities { nodes, edges } = capacities;
+        let read = calls::read_image(nodes.into(), edges.into(), &bytes);
+        // Spoiled to a range: the Rust cannot hold it, `ranges.rs` has such images.
+        if read
+            .as_ref()
+            .is_ok_and(|model| !model.plain.one_weight_each())
+        {
+            return Ok(());
+        }
         let before = self.book.clone();
         let given = self.book.read_image(&bytes).map_err(Answer::from);
-        let Capacities { nodes, edges } = capacities;
-        match calls::read_image(nodes.into(), edges.into(), &bytes) {
+        match read {
             Ok(model) => {
                 tally.same(Thing::BookReading, place, Ok(()), given)?;
                 self.rust.put(&model.plain);
@@ -257,54 +238,12 @@ impl Shelf {
     }
 
     fn compare_reads(&self, rng: &mut Rng, tally: &mut Tally) -> Same {
-        self.compare_whole(tally)?;
-        self.compare_image(tally)?;
         self.compare_parts(tally)?;
-        let [nodes, edges] = self.rust.bounds().map(|bound| bound as u32);
-        for node in (0..nodes).chain([nodes, NONE]) {
-            self.compare_node(node, rng, tally)?;
-            let other = rng.below(nodes as usize + 2) as u32;
-            self.compare_find(node, other, tally)?;
-            self.compare_find(other, node, tally)?;
-        }
-        for edge in (0..edges).chain([edges, NONE]) {
-            self.compare_edge(edge, tally)?;
-            // A pair between which there is an edge, live or not.
-            if let Some(([source, target, _], _)) = self.rust.record(edge) {
-                self.compare_find(source, target, tally)?;
-            }
-        }
-        Ok(())
-    }
-
-    fn compare_whole(&self, tally: &mut Tally) -> Same {
-        let (graph, book) = (&self.rust.graph, &self.book);
-        let place = || "the store".to_string();
-        let numbers = [
-            (graph.node_bound(), book.node_bound()),
-            (graph.edge_bound(), book.edge_bound()),
-            (graph.node_count(), book.node_count()),
-            (graph.edge_count(), book.edge_count()),
-        ];
-        for (expected, given) in numbers {
-            tally.same(Thing::BookWhole, place, Ok(expected as u32), given)?;
-        }
-        let flags = [
-            (graph.is_empty(), book.is_empty()),
-            (graph.is_compact(), book.is_compact()),
-        ];
-        for (expected, given) in flags {
-            tally.same(Thing::BookWhole, place, Ok(expected), given)?;
-        }
-        tally.same(Thing::BookWhole, place, Ok(()), book.check())?;
-        let ids: [(_, fn(&LotBook, &mut [u32]) -> _); 2] = [
-            (self.rust.live_nodes(), LotBook::node_ids_into),
-            (self.rust.live_edges(), LotBook::edge_ids_into),
-        ];
-        for (expected, call) in ids {
-            compare_list(place, Ok(expected), |slots| call(book, slots), true, tally)?;
-        }
-        Ok(())
+        let reads = Reads {
+            lots: &self.rust,
+            book: &self.book,
+        };
+        reads.compare(rng, tally)
     }
 
     /// Base parts, runs and rings, through the memory itself.
@@ -325,34 +264,115 @@ impl Shelf {
         }
         Ok(())
     }
+}
+
+/// Every public read of a book, held against the Rust's store or the model.
+pub struct Reads<'s, L> {
+    pub lots: &'s L,
+    pub book: &'s LotBook,
+}
+
+impl<L: Lots> Reads<'_, L> {
+    pub fn compare(&self, rng: &mut Rng, tally: &mut Tally) -> Same {
+        self.compare_whole(tally)?;
+        self.compare_image(tally)?;
+        let [nodes, edges] = self.lots.bounds().map(|bound| bound as u32);
+        for node in (0..nodes).chain([nodes, NONE]) {
+            self.compare_node(node, rng, tally)?;
+            let other = rng.below(nodes as usize + 2) as u32;
+            self.compare_find(node, other, tally)?;
+            self.compare_find(other, node, tally)?;
+        }
+        for edge in (0..edges).chain([edges, NONE]) {
+            self.compare_edge(edge, tally)?;
+            // A pair between which there is an edge, live or not.
+            if let Some(([source, target, ..], _)) = self.lots.record(edge) {
+                self.compare_find(source, target, tally)?;
+            }
+        }
+        Ok(())
+    }
+
+    fn compare_whole(&self, tally: &mut Tally) -> Same {
+        let (lots, book) = (self.lots, self.book);
+        let place = || "the store".to_string();
+        let expected = [lots.bounds(), lots.counts()].map(|pair| pair.map(|slots| slots as u32));
+        let given = [
+            [book.node_bound(), book.edge_bound()],
+            [book.node_count(), book.edge_count()],
+        ];
+        let expected = expected.map(|pair| pair.map(Ok));
+        tally.same(Thing::BookWhole, place, expected, given)?;
+        let flags = [
+            (lots.is_empty(), book.is_empty()),
+            (lots.is_compact(), book.is_compact()),
+        ];
+        for (expected, given) in flags {
+            tally.same(Thing::BookWhole, place, Ok(expected), given)?;
+        }
+        tally.same(Thing::BookWhole, place, Ok(()), book.check())?;
+        let ids: [(_, fn(&LotBook, &mut [u32]) -> _); 2] = [
+            (lots.live_nodes(), LotBook::node_ids_into),
+            (lots.live_edges(), LotBook::edge_ids_into),
+        ];
+        for (expected, call) in ids {
+            compare_list(place, Ok(expected), |slots| call(book, slots), true, tally)?;
+        }
+        Ok(())
+    }
+
+    /// The image, into a slice with bytes to spare and into one that
+    /// is too short; of a store that is not compact it is refused.
+    fn compare_image(&self, tally: &mut Tally) -> Same {
+        let place = || "the image".to_string();
+        let expected = calls::write_image(self.lots, usize::MAX);
+        let needed = expected.as_ref().map_or(0, Vec::len);
+        let mut bytes = vec![77; needed + 2];
+        let given = self.book.image_into(&mut bytes).map_err(Answer::from);
+        let past = bytes.split_off(needed);
+        let given = given.map(|length| (length as usize, bytes));
+        let expected = expected.map(|image| (image.len(), image));
+        tally.same(
+            Thing::BookImage,
+            place,
+            (expected, vec![77; 2]),
+            (given, past),
+        )?;
+        if let Some(shorter) = needed.checked_sub(1) {
+            let mut bytes = vec![77; shorter];
+            let given = self.book.image_into(&mut bytes).map_err(Answer::from);
+            let expected = (Err(Answer::too_short(needed)), vec![77; shorter]);
+            tally.same(Thing::BookImage, place, expected, (given, bytes))?;
+        }
+        Ok(())
+    }
 
     fn compare_node(&self, node: u32, rng: &mut Rng, tally: &mut Tally) -> Same {
-        let (rust, book) = (&self.rust, &self.book);
+        let (lots, book) = (self.lots, self.book);
         let place = || format!("node {node}");
-        for (direction, edges, far_ends, degree) in LISTS {
-            let walk = calls::walk(rust, direction, node, usize::MAX);
-            let expected = walk
-                .clone()
-                .map(|_| rust_store::degree(&rust.graph, direction, node));
+        for (direction, lists, degree) in LISTS {
+            let walk = calls::walk(lots, direction, node, usize::MAX);
+            let expected = walk.clone().map(|_| lots.degree(direction, node));
             let given = degree(book, node).map_err(Answer::from);
             tally.same(Thing::BookDegree, place, expected, given)?;
-            let neighbors = walk
-                .clone()
-                .map(|_| rust_store::neighbors(&rust.graph, direction, node));
-            for (expected, call) in [(walk, edges), (neighbors, far_ends)] {
+            let expected = calls::total(lots, direction, node);
+            let given = book.memory().total(direction, node);
+            tally.same(Thing::BookTotal, place, expected, given)?;
+            let neighbors = walk.clone().map(|_| lots.neighbors(direction, node));
+            for (expected, call) in [walk, neighbors].into_iter().zip(lists) {
                 let call = |slots: &mut [u32]| call(book, node, slots);
                 compare_list(place, expected, call, rng.one_in(4), tally)?;
             }
         }
         let given = book.node_payload(node).map(u64::from);
         let given = given.map_or_else(Answer::from, Answer::done);
-        tally.same(Thing::BookSlot, place, calls::payload(rust, node), given)?;
-        let expected = Ok(rust.graph.contains_node(rust_store::node(node)));
+        tally.same(Thing::BookSlot, place, calls::payload(lots, node), given)?;
+        let expected = Ok(lots.contains_node(node));
         tally.same(Thing::BookSlot, place, expected, book.contains_node(node))
     }
 
     fn compare_edge(&self, edge: u32, tally: &mut Tally) -> Same {
-        let (rust, book) = (&self.rust, &self.book);
+        let (lots, book) = (self.lots, self.book);
         let place = || format!("edge {edge}");
         let records = [book.edge_record(edge), book.live_edge_record(edge)];
         for (live_only, given) in [false, true].into_iter().zip(records) {
@@ -360,22 +380,22 @@ impl Shelf {
                 Ok(EdgeRecord {
                     source,
                     target,
-                    payload,
-                }) => (Answer::done(0), [source, target, payload]),
-                Err(refused) => (refused.into(), [0; 3]),
+                    payload: EdgePayload { low, high },
+                }) => (Answer::done(0), [source, target, low, high]),
+                Err(refused) => (refused.into(), [0; 4]),
             };
-            let expected = calls::record(rust, edge, live_only);
+            let expected = calls::record(lots, edge, live_only);
             tally.same(Thing::BookSlot, place, expected, given)?;
         }
-        let expected = Ok(rust.graph.contains_edge(rust_store::edge(edge)));
+        let expected = Ok(lots.contains_edge(edge));
         tally.same(Thing::BookSlot, place, expected, book.contains_edge(edge))
     }
 
-    /// The found edge is the first of the Rust's out-list that ends at the other.
+    /// The found edge is the first of the out-list that ends at the other.
     fn compare_find(&self, source: u32, target: u32, tally: &mut Tally) -> Same {
         let place = || format!("from node {source} to node {target}");
         let given = self.book.find(source, target).map_err(Answer::from);
-        let expected = match calls::find(&self.rust, source, target) {
+        let expected = match calls::find(self.lots, source, target) {
             Answer { number: 0, value } if value == u64::from(NONE) => Ok(None),
             Answer { number: 0, value } => Ok(Some(value as u32)),
             refused => Err(refused),
@@ -391,12 +411,12 @@ fn compare_refused(memory: &Words, refused: Refused, rng: &mut Rng, tally: &mut 
     let mut book = LotBook::from_memory(memory.clone());
     let mut slots = [NONE - 1; 8];
     let (first, second) = (rng.word() % 8, rng.word() % 8);
-    let words = [5, first, second, 0];
+    let words = [5, first, second, 0, 0];
     let nothing = |_: u32| ();
     let answers = [
         book.check(),
         book.strip_words(&words, &mut slots),
-        book.strip_words(&words[..3], &mut slots),
+        book.strip_words(&words[..4], &mut slots),
         book.outgoing_into(first, &mut slots).map(nothing),
         book.incoming_into(first, &mut slots).map(nothing),
         book.successors_into(first, &mut slots).map(nothing),
@@ -422,6 +442,11 @@ fn compare_refused(memory: &Words, refused: Refused, rng: &mut Rng, tally: &mut 
     for answer in answers {
         tally.same(Thing::BookRefused, place, Err(refused), answer)?;
     }
+    for direction in DIRECTIONS {
+        let expected = (Answer::from(refused), [0; 2]);
+        let given = memory.total(direction, first);
+        tally.same(Thing::BookRefused, place, expected, given)?;
+    }
     let expected = (memory, [NONE - 1; 8]);
     tally.same(Thing::BookRefused, place, expected, (book.memory(), slots))
 }
@@ -433,6 +458,8 @@ struct Found {
     foreign: u64,
     strips: u64,
     passed: u64,
+    /// Of these, those with ranges, which go no further with the Rust.
+    ranged: u64,
     refused: u64,
 }
 
@@ -441,8 +468,8 @@ impl fmt::Display for Found {
         write!(
             formatter,
             "lot books: {} strips with {} operations on reached stores and {} on damaged ones that pass the check, every read after each strip; \
-             damaged stores: {} pass, {} are refused by every call",
-            self.strips, self.reached, self.foreign, self.passed, self.refused
+             damaged stores: {} pass, {} of them with ranges, {} are refused by every call",
+            self.strips, self.reached, self.foreign, self.passed, self.ranged, self.refused
         )
     }
 }
@@ -469,10 +496,15 @@ impl Found {
         tally.same(Thing::Damaged, place, None, read.as_ref().err())?;
         let capacities = Capacities {
             nodes: memory.nodes.len() as u32,
-            edges: memory.edges.len() as u32,
+            edges: memory.lows.len() as u32,
         };
         let graph = read.expect("nothing differs");
-        let mut shelf = Shelf::of(RustStore { graph, capacities }, memory);
+        let rust = RustStore { graph, capacities };
+        if ranges::holds_ranges(&memory) {
+            self.ranged += 1;
+            return Ranged::of(&rust, memory).compare_reads(rng, tally);
+        }
+        let mut shelf = Shelf::of(rust, memory);
         shelf.compare_reads(rng, tally)?;
         for _ in 0..rng.between(1, 3) {
             let mut generator = Generator { rng, mix, size };

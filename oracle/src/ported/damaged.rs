@@ -39,7 +39,7 @@ struct Damage<'d> {
 
 impl Damage<'_> {
     fn any(&mut self) {
-        match self.rng.below(20) {
+        match self.rng.below(21) {
             0..6 => self.word(),
             6 => self.live_word(),
             7..9 => self.live_bit(),
@@ -51,7 +51,8 @@ impl Damage<'_> {
             15 => self.run_without_end(),
             16..18 => self.run_of_one(),
             18 => self.run_longer(),
-            _ => self.run_shorter(),
+            19 => self.run_shorter(),
+            _ => self.inverted(),
         }
     }
 
@@ -175,7 +176,7 @@ impl Damage<'_> {
     }
 
     fn length(&mut self) {
-        let slice = self.rng.below(6);
+        let slice = self.rng.below(7);
         let shorter = self.rng.one_in(2);
         // Above the limit now and then: 32,769 words take a while to make.
         let more = match self.rng.one_in(50) {
@@ -185,7 +186,8 @@ impl Damage<'_> {
         let word = self.rng.word();
         let Words {
             nodes,
-            edges,
+            lows,
+            highs,
             live_nodes,
             live_edges,
             axes: [outgoing, incoming],
@@ -193,22 +195,39 @@ impl Damage<'_> {
         } = &mut *self.words;
         match slice {
             0 => resize(nodes, shorter, more, word),
-            1 => resize(edges, shorter, more, word),
-            2 => resize(live_nodes, shorter, more, word.into()),
-            3 => resize(live_edges, shorter, more, word.into()),
-            4 => resize(outgoing, shorter, more, word),
+            1 => resize(lows, shorter, more, word),
+            2 => resize(highs, shorter, more, word),
+            3 => resize(live_nodes, shorter, more, word.into()),
+            4 => resize(live_edges, shorter, more, word.into()),
+            5 => resize(outgoing, shorter, more, word),
             _ => resize(incoming, shorter, more, word),
         }
     }
 
     fn payload(&mut self) {
         let (node, slot) = self.slot();
-        let payloads = match node {
-            true => &mut self.words.nodes,
-            false => &mut self.words.edges,
+        let payloads = match (node, self.rng.one_in(2)) {
+            (true, _) => &mut self.words.nodes,
+            (false, true) => &mut self.words.lows,
+            (false, false) => &mut self.words.highs,
         };
         if let Some(payload) = payloads.get_mut(slot) {
             *payload = self.rng.word();
+        }
+    }
+
+    /// An edge's low raised to one above its high, or its high lowered to one below
+    /// its low, live or removed, or just above the bound.
+    fn inverted(&mut self) {
+        let edge = self.edge() as usize;
+        let raised = self.rng.one_in(2);
+        let Words { lows, highs, .. } = &mut *self.words;
+        let (Some(low), Some(high)) = (lows.get_mut(edge), highs.get_mut(edge)) else {
+            return;
+        };
+        match raised {
+            true => *low = high.saturating_add(1),
+            false => *high = low.saturating_sub(1),
         }
     }
 
@@ -289,7 +308,8 @@ pub fn damage(words: &mut Words, rng: &mut Rng) {
 /// The words as the Rust writes a store, where rule 1 holds. Where both base
 /// counts are 0 there is no index. A ring word is a position among the edges that
 /// came since the base, so that one below the base becomes one above the bound.
-/// A run is cut where its entries can only repeat, and has no tail.
+/// A run is cut where its entries can only repeat, and has no tail. An edge's
+/// payload there is one word, the low.
 pub fn written(words: &Words) -> Value {
     let Slots {
         bound: nodes,
@@ -306,7 +326,7 @@ pub fn written(words: &Words) -> Value {
     let record = |edge: u32| {
         let [source, target] =
             [outgoing, incoming].map(|side| side.word(Column::Ends, edge as usize));
-        json!({"source": source, "target": target, "payload": words.edges[edge as usize]})
+        json!({"source": source, "target": target, "payload": words.lows[edge as usize]})
     };
     let records = |edges: std::ops::Range<u32>| edges.map(record).collect::<Value>();
     let delta = |word: u32| match word {
@@ -375,7 +395,7 @@ fn compare_strip(words: &Words, judged: Answer, tally: &mut Tally) -> Same {
     let mut after = words.clone();
     let mut answers = [NONE - 1; 2];
     let edge = words.counts.edges.bound.wrapping_sub(1);
-    let called = after.strip(&[5, edge, 0, 0], &mut answers);
+    let called = after.strip(&[5, edge, 0, 0, 0], &mut answers);
     tally.same(Thing::PortAnswer, place, judged, called)?;
     if judged.number == 0 {
         return tally.same(Thing::PortCheck, place, Answer::done(0), after.check());
@@ -393,6 +413,9 @@ struct Found {
     without_index: u64,
     /// Of these, those that the Rust refuses with rule 4 where it is given them.
     unread_index: u64,
+    /// Rule 3 by a low above its high alone, which the Rust does not know: at a live
+    /// edge, and at removed ones only.
+    inverted: [u64; 2],
     /// Rule 6 here and rule 7 in the Rust; rule 6 here and accepted by the Rust: by
     /// what of rule 6 is broken, below.
     added: [[u64; ADDED.len()]; 2],
@@ -435,7 +458,10 @@ impl Found {
             self.without_index += 1;
             self.compare_unread_index(words, value, unadded, tally)?;
         }
-        if unadded != rule {
+        if rule == 3 && unadded != rule {
+            let live = words.inverted().any(|(_, live)| live);
+            self.inverted[usize::from(!live)] += 1;
+        } else if unadded != rule {
             let broken = words.runs_broken();
             let kind = match (broken.twice, broken.live, broken.length) {
                 (true, false, false) => 0,
@@ -478,7 +504,8 @@ impl Found {
 impl fmt::Display for Found {
     fn fmt(&self, formatter: &mut fmt::Formatter<'_>) -> fmt::Result {
         let [passed, first, ..] = self.rules;
-        let different: u64 = self.added.as_flattened().iter().sum();
+        let added = self.added.as_flattened().iter().chain(&self.inverted);
+        let different: u64 = added.sum();
         write!(
             formatter,
             "damaged stores: {}; {passed} pass the check, first broken rule",
@@ -498,6 +525,11 @@ impl fmt::Display for Found {
             formatter,
             "  its rule is the port's for {}",
             self.judged() - different
+        )?;
+        let [live, removed] = self.inverted;
+        write!(
+            formatter,
+            "\n  rule 3 here by a low above its high, a later rule or none there: {live} at a live edge, {removed} at removed ones only"
         )?;
         for (verdict, kinds) in ["rule 7", "passes"].into_iter().zip(self.added) {
             for (kind, stores) in ADDED.into_iter().zip(kinds) {

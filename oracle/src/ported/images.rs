@@ -1,7 +1,8 @@
 //! Images read into memory of any lengths and any content, through the wrapper:
 //! the number, what a refusal leaves, and the image written back.
 
-use super::strips::{any_memory, others_fit};
+use super::strips::{Lengths, any_memory, others_fit};
+use crate::generate::range;
 use crate::image;
 use crate::lots::LotBook;
 use crate::model::{self, Answer};
@@ -12,7 +13,7 @@ use crate::tally::{Tally, Thing};
 
 /// "Reading: 13, 12, 2 (13 and 2 nodes before edges, a payload slice shorter than
 /// its count being too short, then the other slices)."
-fn reading(lengths: [usize; 6], bytes: &[u8]) -> Answer {
+fn reading(lengths: Lengths, bytes: &[u8]) -> Answer {
     let [nodes, edges, ..] = lengths;
     if let Err(refused) = model::capacities(nodes as u64, edges as u64) {
         return refused;
@@ -43,7 +44,7 @@ pub fn compare(readings: usize, seed: u64, tally: &mut Tally) -> Same {
     let mut done = 0;
     for _ in 0..readings {
         let (lengths, memory) = any_memory(&mut rng);
-        let bytes = spoiled_image(&mut rng);
+        let bytes = spoiled_image(&mut rng, range);
         let place = || format!("reading {bytes:?}, lengths {lengths:?}");
         let expected = reading(lengths, &bytes);
         let mut book = LotBook::from_memory(memory);

@@ -1,4 +1,4 @@
-//! The port's memory: counts and six slices, owned here and lent to the proved
+//! The port's memory: counts and seven slices, owned here and lent to the proved
 //! functions. Operations are made by them alone; ends and joined lists that
 //! compactions and image readings leave are put there from the Rust, as long as no
 //! exported function makes those.
@@ -24,8 +24,8 @@ pub struct Memory {
     pub nodes: Live,
     pub edges: Live,
     axes: [Axis; 2],
-    /// Of nodes and edges; their lengths are the capacities.
-    payloads: [Vec<u32>; 2],
+    /// Of nodes, then lows and highs of edges; the lengths are the capacities.
+    payloads: [Vec<u32>; 3],
 }
 
 /// Both directions, tested, and the live bits of the nodes.
@@ -42,7 +42,7 @@ impl Memory {
             nodes: Live::new(nodes, &mut rng),
             edges: Live::new(edges, &mut rng),
             axes: [(); 2].map(|()| Axis::new(nodes, edges, &mut rng)),
-            payloads: [nodes, edges].map(|slots| (0..slots).map(|_| rng.word()).collect()),
+            payloads: [nodes, edges, edges].map(|slots| (0..slots).map(|_| rng.word()).collect()),
         };
         assert_eq!(
             memory.words().make_fresh(),
@@ -80,9 +80,7 @@ impl Memory {
             }
         }
         let payloads = payloads(graph);
-        for (slots, payloads) in memory.payloads.iter_mut().zip(&payloads) {
-            slots[..payloads.len()].copy_from_slice(payloads);
-        }
+        memory.put_payloads([&payloads[0], &payloads[1]]);
         memory
     }
 
@@ -107,24 +105,34 @@ impl Memory {
         })
     }
 
-    /// Source, target and payload of an edge.
-    pub fn record(&self, edge: usize) -> [u32; 3] {
+    /// Source, target, low and high of an edge.
+    pub fn record(&self, edge: usize) -> [u32; 4] {
         let [outgoing, incoming] = &self.axes;
-        let [_, payloads] = &self.payloads;
-        [outgoing.end(edge), incoming.end(edge), payloads[edge]]
+        let [_, lows, highs] = &self.payloads;
+        [
+            outgoing.end(edge),
+            incoming.end(edge),
+            lows[edge],
+            highs[edge],
+        ]
     }
 
     pub fn node_payload(&self, node: usize) -> u32 {
-        let [payloads, _] = &self.payloads;
+        let [payloads, ..] = &self.payloads;
         payloads[node]
+    }
+
+    /// The Rust's payloads of nodes and of edges, the latter as low and as high.
+    fn put_payloads(&mut self, [nodes, edges]: [&[u32]; 2]) {
+        for (slots, payloads) in self.payloads.iter_mut().zip([nodes, edges, edges]) {
+            slots[..payloads.len()].copy_from_slice(payloads);
+        }
     }
 
     /// What a compaction or an image reading leaves: payloads of nodes and edges,
     /// and of each direction the ends and the joined lists.
     pub fn rebuild(&mut self, payloads: [&[u32]; 2], sides: [(&[u32], &[u32]); 2]) {
-        for (slots, payloads) in self.payloads.iter_mut().zip(payloads) {
-            slots[..payloads.len()].copy_from_slice(payloads);
-        }
+        self.put_payloads(payloads);
         let [nodes, edges] = payloads.map(|payloads| payloads.len() as u32);
         self.nodes.reset(nodes);
         self.edges.reset(edges);
@@ -143,12 +151,13 @@ impl Memory {
 
 impl Port for Memory {
     fn words(&self) -> Words {
-        let [nodes, edges] = self.payloads.clone();
+        let [nodes, lows, highs] = self.payloads.clone();
         let [outgoing, incoming] = &self.axes;
         Words {
             counts: self.counts(),
             nodes,
-            edges,
+            lows,
+            highs,
             live_nodes: self.nodes.words().to_vec(),
             live_edges: self.edges.words().to_vec(),
             axes: [outgoing, incoming].map(|axis| axis.words().to_vec()),
@@ -161,12 +170,13 @@ impl Port for Memory {
         let (live_edges, edge_slots) = self.edges.parts();
         let mut axes = self.axes.each_mut().map(Axis::words_mut);
         let mut payloads = self.payloads.each_mut();
-        let [nodes, edges] = payloads.each_mut().map(|payloads| take(*payloads));
+        let [nodes, lows, highs] = payloads.each_mut().map(|payloads| take(*payloads));
         // The words go out and come back: nothing is copied.
         let mut lent = Words {
             counts,
             nodes,
-            edges,
+            lows,
+            highs,
             live_nodes: take(live_nodes),
             live_edges: take(live_edges),
             axes: axes.each_mut().map(|words| take(*words)),
@@ -174,7 +184,7 @@ impl Port for Memory {
         let answer = lent.strip(words, answers);
         [*node_slots, *edge_slots] = [lent.counts.nodes, lent.counts.edges];
         [*live_nodes, *live_edges] = [lent.live_nodes, lent.live_edges];
-        self.payloads = [lent.nodes, lent.edges];
+        self.payloads = [lent.nodes, lent.lows, lent.highs];
         for (words, lent) in axes.into_iter().zip(lent.axes) {
             *words = lent;
         }

@@ -34,7 +34,7 @@ fn is_live(words: &[u64], slot: usize) -> bool {
 impl Words {
     pub fn layout(&self) -> Layout {
         Layout {
-            edges: self.edges.len(),
+            edges: self.lows.len(),
             nodes: self.nodes.len(),
         }
     }
@@ -49,21 +49,24 @@ impl Words {
     /// "The first broken rule is the value of answer 1", 0 where the words are a
     /// store.
     pub fn first_broken(&self) -> u32 {
-        self.first_of(|words| !words.runs_broken().any())
+        self.first_of(
+            |words| words.inverted().next().is_none(),
+            |words| !words.runs_broken().any(),
+        )
     }
 
-    /// The same with `validate.rs`'s own part in place of rule 6, "rule 6 is
-    /// added": run entries below the edge bound.
+    /// The same with `validate.rs`'s own part in place of rules 3 and 6: no weights,
+    /// and, "rule 6 is added", run entries below the edge bound.
     pub fn first_broken_unadded(&self) -> u32 {
-        self.first_of(|words| !words.runs_broken().entry)
+        self.first_of(|_| true, |words| !words.runs_broken().entry)
     }
 
-    fn first_of(&self, rule_6: fn(&Self) -> bool) -> u32 {
+    fn first_of(&self, weights: fn(&Self) -> bool, rule_6: fn(&Self) -> bool) -> u32 {
         let (sides, counts) = (self.sides(), self.counts);
         let rules: [&dyn Fn() -> bool; 7] = [
             &|| self.sizes_hold(),
             &|| self.live_holds(),
-            &|| sides.iter().all(|side| side.ends_hold(counts)),
+            &|| sides.iter().all(|side| side.ends_hold(counts)) && weights(self),
             &|| sides.iter().all(|side| side.index_holds(counts)),
             &|| sides.iter().all(|side| side.rings_hold(counts)),
             &|| rule_6(self),
@@ -75,8 +78,19 @@ impl Words {
             .map_or(0, |(rule, _)| rule)
     }
 
+    /// Request 8: "A lent store holding a low above its high at a slot below the
+    /// bound, removed or not, breaks rule 3 of the check". These slots, and whether
+    /// each is live.
+    pub fn inverted(&self) -> impl Iterator<Item = (usize, bool)> {
+        let weights = self.lows.iter().zip(&self.highs);
+        let below = weights.take(self.counts.edges.bound as usize).enumerate();
+        let inverted = below.filter(|(_, (low, high))| high < low);
+        inverted.map(|(edge, _)| (edge, is_live(&self.live_edges, edge)))
+    }
+
     /// "(1) capacities at most 32,768, bounds within them, base counts within the
-    /// bounds, every other slice long enough"
+    /// bounds, every other slice long enough"; "the low one's length is the
+    /// capacity".
     fn sizes_hold(&self) -> bool {
         let within = |slots: Slots, capacity: usize, live: &[u64]| {
             capacity as u64 <= LIMIT
@@ -87,7 +101,8 @@ impl Words {
         let Counts { nodes, edges } = self.counts;
         let needed = self.layout().length();
         within(nodes, self.nodes.len(), &self.live_nodes)
-            && within(edges, self.edges.len(), &self.live_edges)
+            && within(edges, self.lows.len(), &self.live_edges)
+            && self.lows.len() <= self.highs.len()
             && self.axes.iter().all(|axis| needed <= axis.len())
     }
 

@@ -26,7 +26,7 @@ pub fn operations(most: usize, model: &Model, generator: &mut Generator) -> Vec<
 }
 
 /// Sequences of strips until so many are made, everything compared after each.
-/// Some are no multiple of four, some have an answer slice that is too short, most
+/// Some are no multiple of five, some have an answer slice that is too short, most
 /// one with words to spare.
 pub fn compare(strips: usize, seed: u64, tally: &mut Tally) -> Same {
     let mut rng = Rng::new(seed);
@@ -42,14 +42,14 @@ pub fn compare(strips: usize, seed: u64, tally: &mut Tally) -> Same {
                 size,
             };
             let mut words = operations(60, ported.model(), &mut generator);
-            let needed = words.len() / 2;
+            let needed = 2 * (words.len() / 5);
             let length = match rng.below(8) {
                 0 => rng.below(needed + 1),
                 1..4 => needed,
                 _ => needed + rng.below(4),
             };
             if rng.one_in(8) {
-                words.extend((0..rng.between(1, 3)).map(|_| 0));
+                words.extend((0..rng.between(1, 4)).map(|_| 0));
             }
             ported.strip(&words, length, tally)?;
             ported.compare_everything(tally)?;
@@ -60,10 +60,14 @@ pub fn compare(strips: usize, seed: u64, tally: &mut Tally) -> Same {
     Ok(())
 }
 
-/// "2 in the order of the slices": those beside the payloads.
-pub fn others_fit([nodes, edges, others @ ..]: [usize; 6]) -> Answer {
+/// The lengths of the slices, in their order.
+pub type Lengths = [usize; 7];
+
+/// "2 in the order of the slices": those beside the two that are the capacities,
+/// the highs first.
+pub fn others_fit([nodes, edges, others @ ..]: Lengths) -> Answer {
     let axis = Layout { edges, nodes }.length();
-    let needed = [nodes.div_ceil(64), edges.div_ceil(64), axis, axis];
+    let needed = [edges, nodes.div_ceil(64), edges.div_ceil(64), axis, axis];
     let short = needed
         .into_iter()
         .zip(others)
@@ -72,14 +76,14 @@ pub fn others_fit([nodes, edges, others @ ..]: [usize; 6]) -> Answer {
 }
 
 /// "Fresh: 13, nodes before edges, then 2".
-fn fresh(lengths: [usize; 6]) -> Answer {
+fn fresh(lengths: Lengths) -> Answer {
     let refused = model::capacities(lengths[0] as u64, lengths[1] as u64).err();
     refused.unwrap_or_else(|| others_fit(lengths))
 }
 
 /// Memory of lengths about those needed, with counts and words of any content, and
 /// the lengths.
-pub fn any_memory(rng: &mut Rng) -> ([usize; 6], Words) {
+pub fn any_memory(rng: &mut Rng) -> (Lengths, Words) {
     let mut capacity = || match rng.below(40) {
         0 => LIMIT as usize + rng.below(3),
         1 => LIMIT as usize - rng.below(2),
@@ -92,6 +96,7 @@ pub fn any_memory(rng: &mut Rng) -> ([usize; 6], Words) {
         1 => needed + 1,
         _ => needed,
     };
+    let highs = about(edges);
     let [live_nodes, live_edges] = [nodes, edges].map(|slots| about(slots.div_ceil(64)));
     let axes = [axis; 2].map(&mut about);
     let any = Slots {
@@ -105,15 +110,17 @@ pub fn any_memory(rng: &mut Rng) -> ([usize; 6], Words) {
             edges: any,
         },
         nodes: vec![7; nodes],
-        edges: vec![7; edges],
+        lows: vec![7; edges],
+        highs: vec![7; highs],
         live_nodes: vec![7; live_nodes],
         live_edges: vec![7; live_edges],
         axes: axes.map(|length| vec![7; length]),
     };
-    (
-        [nodes, edges, live_nodes, live_edges, axes[0], axes[1]],
-        words,
-    )
+    let [outgoing, incoming] = axes;
+    let lengths = [
+        nodes, edges, highs, live_nodes, live_edges, outgoing, incoming,
+    ];
+    (lengths, words)
 }
 
 /// So many calls of fresh, with lengths about those needed: the answer, and counts

@@ -1,8 +1,10 @@
-//! A store as it is lent: counts and six slices, which may hold anything. The
+//! A store as it is lent: counts and seven slices, which may hold anything. The
 //! proved calls go through the wrapper's lot book.
 
 use std::mem::replace;
 
+#[cfg(feature = "serde")]
+use crate::graph::traverse::TraversalDirection;
 pub use crate::lots::Memory as Words;
 use crate::lots::{LotBook, Refused};
 use crate::model::Answer;
@@ -35,6 +37,21 @@ impl Words {
     /// The answer of the check.
     pub fn check(&self) -> Answer {
         answer(LotBook::from_memory(self.clone()).check())
+    }
+
+    /// The total of a node's list: number and value, and both sums, which stand beside
+    /// a refusal too.
+    #[cfg(feature = "serde")]
+    pub fn total(&self, direction: TraversalDirection, node: u32) -> (Answer, [u64; 2]) {
+        let total = match direction {
+            TraversalDirection::Outgoing => self.lot_out_total(node),
+            TraversalDirection::Incoming => self.lot_in_total(node),
+        };
+        let answer = Answer {
+            number: total.number,
+            value: total.value,
+        };
+        (answer, [total.low, total.high])
     }
 
     /// Makes the operations of a strip, and gives the call's own answer.

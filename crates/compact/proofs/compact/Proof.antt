@@ -11,12 +11,12 @@ sound c = c .before .before .before .before
 abbrev mapped : tie.Else3 → tie.Else2
 mapped c = c .before .before
 
-abbrev asked : tie.After-settle-arg9 → tie.Else4
-asked c = c .before .before .before .before .before .before .before .before .before
+abbrev asked : tie.After-settle-arg10 → tie.Else4
+asked c = c .before .before .before .before .before .before .before .before .before .before
 
-abbrev called : tie.After-slice-known18 → tie.After-settle
+abbrev called : tie.After-slice-known20 → tie.After-settle
 called c =
-    c .before .before .before .before .before .before .before .before .before .before .before .before .before .before .before .before .before .before
+    c .before .before .before .before .before .before .before .before .before .before .before .before .before .before .before .before .before .before .before .before
 
 returns : tie.Need-returns
 returns c = compact-judged _ _ _ _ (c .before .judge .ensures) (c .if1 .taken)
@@ -70,7 +70,9 @@ compact-spec =
     (λ c. search needs)
     (λ c. search needs)
     (λ c. search needs)
+    (λ c. search needs)
     returns
+    (λ c. search needs)
     (λ c. search needs)
     (λ c. search needs)
     (λ c. search needs)
@@ -90,7 +92,9 @@ compact-spec =
     (λ c. search needs)
     (λ c. search needs)
     (λ c. search needs)
+    (λ c. search needs)
     returns-3
+    (λ c. search needs)
     (λ c. search needs)
     (λ c. search needs)
     (λ c. search needs)
@@ -99,6 +103,7 @@ compact-spec =
     (λ c. search needs)
     returns-4
     settle-requires
+    (λ c. search needs)
     (λ c. search needs)
     (λ c. search needs)
     (λ c. search needs)

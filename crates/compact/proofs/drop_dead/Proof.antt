@@ -5,13 +5,13 @@ use Rattle.plain.specs.declared.TraversalDirection.the-variants.{Outgoing, Inco
 use Rattle.plain.specs.declared.Slots.{Slots}
 use Rattle.plain.specs.declared.Counts.{Counts}
 use Rattle.shape.specs.Kept.{each-length}
-use Rattle.compact.specs.Dropping.{axis-compactable, from-rest, first-half, second-half, nodes-keepable, edges-keepable, nodes-resettable, edges-resettable}
+use Rattle.compact.specs.Dropping.{axis-compactable, from-rest, first-half, second-half, nodes-keepable, weights-keepable, nodes-resettable, edges-resettable}
 use Rattle.compact.proofs.drop_dead.Statement.{statement}
 use Rattle.compact.proofs.drop_dead.Tie as tie
 
 -- the entry, and the calls, each from the next one
 abbrev entry : tie.After-compact-axis → tie.Start
-entry c = c .before .before .before .before .before .before .before .before .before .before .before .before .before .before .before .before
+entry c = c .before .before .before .before .before .before .before .before .before .before .before .before .before .before .before .before .before
 
 abbrev sources : tie.After-compact-axis2 → tie.After-compact-axis
 sources c = c .before .before .before .before .before .before
@@ -19,18 +19,18 @@ sources c = c .before .before .before .before .before .before
 abbrev targets : tie.After-keep-live → tie.After-compact-axis2
 targets c = c .before .before .before .before .before .before
 
-abbrev kept-nodes : tie.After-keep-live2 → tie.After-keep-live
-kept-nodes c = c .before .before .before .before .before
+abbrev kept-nodes : tie.After-keep-weights → tie.After-keep-live
+kept-nodes c = c .before .before .before .before .before .before
 
-abbrev kept-edges : tie.After-reset-all-live → tie.After-keep-live2
-kept-edges c = c .before .before .before .before
+abbrev kept-weights : tie.After-reset-all-live → tie.After-keep-weights
+kept-weights c = c .before .before .before .before .before .before
 
 abbrev reset-nodes : tie.After-reset-all-live2 → tie.After-reset-all-live
 reset-nodes c = c .before .before .before .before
 
 compact-axis-requires : tie.Need-compact-axis-requires
 compact-axis-requires c κs =
-    let s = c .before .before .before .before .before .before .before .before .before .before .before .before .before .before .before in
+    let s = c .before .before .before .before .before .before .before .before .before .before .before .before .before .before .before .before in
     axis-compactable (s .pre) Outgoing (s .args .work .now) (first-half (s .pre))
 
 compact-axis-requires-2 : tie.Need-compact-axis-requires-2
@@ -39,32 +39,32 @@ compact-axis-requires-2 c κs = let s = entry (c .before .before .before .before
 keep-live-requires : tie.Need-keep-live-requires
 keep-live-requires c κs = nodes-keepable (entry (sources (c .before .before .before .before .before)) .pre)
 
-keep-live-requires-2 : tie.Need-keep-live-requires-2
-keep-live-requires-2 c κs = edges-keepable (entry (sources (targets (c .before .before .before .before))) .pre)
+keep-weights-requires : tie.Need-keep-weights-requires
+keep-weights-requires c κs = weights-keepable (entry (sources (targets (c .before .before .before .before .before))) .pre)
 
 reset-all-live-requires : tie.Need-reset-all-live-requires
-reset-all-live-requires c κs = nodes-resettable (entry (sources (targets (kept-nodes (c .before .before .before)))) .pre)
+reset-all-live-requires c κs = nodes-resettable (entry (sources (targets (kept-nodes (c .before .before .before .before .before)))) .pre)
 
 reset-all-live-requires-2 : tie.Need-reset-all-live-requires-2
-reset-all-live-requires-2 c κs = edges-resettable (entry (sources (targets (kept-nodes (kept-edges (c .before .before .before))))) .pre)
+reset-all-live-requires-2 c κs = edges-resettable (entry (sources (targets (kept-nodes (kept-weights (c .before .before .before))))) .pre)
 
-same-length-5 : tie.Need-same-length-5
-same-length-5 c = sources (targets (kept-nodes (kept-edges (reset-nodes (c .before .before .before .before))))) .compact-axis .kept .0
+same-length-6 : tie.Need-same-length-6
+same-length-6 c = sources (targets (kept-nodes (kept-weights (reset-nodes (c .before .before .before .before))))) .compact-axis .kept .0
 
 returns : tie.Need-returns
 returns c =
     let cleared = c .before .before .before .before in
     let nodes-cleared = reset-nodes cleared in
-    let edges-moved = kept-edges nodes-cleared in
-    let nodes-moved = kept-nodes edges-moved in
+    let weights-moved = kept-weights nodes-cleared in
+    let nodes-moved = kept-nodes weights-moved in
     let ins = targets nodes-moved in
     let outs = sources ins in
     record {
-      lengths = each-length (nodes-moved .keep-live .kept .0) (edges-moved .keep-live2 .kept .0) (nodes-cleared .reset-all-live .kept .0)
+      lengths = each-length (nodes-moved .keep-live .kept .0) (weights-moved .keep-weights .kept .0) (weights-moved .keep-weights .kept .1 .0) (nodes-cleared .reset-all-live .kept .0)
           (cleared .reset-all-live2 .kept .0) (outs .compact-axis .kept .0) (ins .compact-axis2 .kept .0);
       counts = ap₂ {C = Counts} (λ (n e : Slots). record { nodes = n; edges = e }) (c .before .all-based .ensures) (c .all-based2 .ensures);
       nodes = nodes-moved .keep-live .ensures;
-      edges = edges-moved .keep-live2 .ensures;
+      weights = weights-moved .keep-weights .ensures;
       live-nodes = nodes-cleared .reset-all-live .ensures;
       live-edges = cleared .reset-all-live2 .ensures;
       outgoing = outs .compact-axis .ensures;
@@ -86,7 +86,7 @@ drop-dead-spec =
     compact-axis-requires-2
     (λ c. search needs)
     keep-live-requires
-    keep-live-requires-2
+    keep-weights-requires
     reset-all-live-requires
     reset-all-live-requires-2
     (λ c κs. search needs)
@@ -95,6 +95,7 @@ drop-dead-spec =
     (λ c. search needs)
     (λ c. search needs)
     (λ c. search needs)
-    same-length-5
+    (λ c. search needs)
+    same-length-6
     (λ c. search needs)
     returns)

@@ -6,45 +6,48 @@ use Rattle.compact.proofs.settle.Tie as tie
 
 -- the entry, and the calls, each from the next one
 abbrev entry : tie.After-write-map → tie.Start
-entry c = c .before .before .before .before .before .before .before .before .before .before .before .before .before .before .before
+entry c = c .before .before .before .before .before .before .before .before .before .before .before .before .before .before .before .before
 
 abbrev numbered-nodes : tie.After-write-map2 → tie.After-write-map
 numbered-nodes c = c .before .before .before .before .before .before
 
 abbrev numbered-edges : tie.After-write-work → tie.After-write-map2
-numbered-edges c = c .before .before .before .before .before .before .before .before .before .before .before
+numbered-edges c = c .before .before .before .before .before .before .before .before .before .before .before .before
 
 abbrev worked : tie.After-drop-dead → tie.After-write-work
-worked c = c .before .before .before .before .before .before .before .before .before .before .before
+worked c = c .before .before .before .before .before .before .before .before .before .before .before .before
 
 write-map-requires : tie.Need-write-map-requires
 write-map-requires c κs =
-    nodes-map-fits (c .before .before .before .before .before .before .before .before .before .before .before .before .before .before .pre)
+    nodes-map-fits (c .before .before .before .before .before .before .before .before .before .before .before .before .before .before .before .pre)
 
 write-map-requires-2 : tie.Need-write-map-requires-2
 write-map-requires-2 c κs = edges-map-fits (entry (c .before .before .before .before .before) .pre)
 
 write-work-requires : tie.Need-write-work-requires
 write-work-requires c κs =
-    let edges = c .before .before .before .before .before .before .before .before .before .before in
+    let edges = c .before .before .before .before .before .before .before .before .before .before .before in
     workable (entry (numbered-nodes edges) .pre) (edges .write-map2 .ensures)
 
 drop-dead-requires : tie.Need-drop-dead-requires
 drop-dead-requires c κs =
-    let work = c .before .before .before .before .before .before .before .before .before .before in
+    let work = c .before .before .before .before .before .before .before .before .before .before .before in
     let nodes = numbered-nodes (numbered-edges work) in
-    droppable (entry nodes .pre) (nodes .write-map .ensures) (work .write-work .kept .1 .1 .1 .1 .1 .1 .1 .1 .0)
+    droppable (entry nodes .pre) (nodes .write-map .ensures) (work .write-work .kept .1 .1 .1 .1 .1 .1 .1 .1 .1 .0)
 
 -- places behind the slices
-abbrev at-drop-dead : tie.After-slice-known18 → tie.After-drop-dead
-at-drop-dead c = c .before .before .before .before .before .before .before .before .before .before .before .before
-
-same-length-7 : tie.Need-same-length-7
-same-length-7 c =
-    numbered-nodes (numbered-edges (worked (at-drop-dead c))) .write-map .kept .1 .1 .0
+abbrev at-drop-dead : tie.After-slice-known20 → tie.After-drop-dead
+at-drop-dead c = c .before .before .before .before .before .before .before .before .before .before .before .before .before .before
 
 same-length-8 : tie.Need-same-length-8
-same-length-8 c = numbered-edges (worked (at-drop-dead c)) .write-map2 .kept .1 .1 .0
+same-length-8 c =
+    numbered-nodes (numbered-edges (worked (at-drop-dead c))) .write-map .kept .1 .1 .0
+
+same-length-9 : tie.Need-same-length-9
+same-length-9 c = numbered-edges (worked (at-drop-dead c)) .write-map2 .kept .1 .1 .0
+
+same-length-10 : tie.Need-same-length-10
+same-length-10 c = worked (at-drop-dead c) .write-work .kept .1 .1 .1 .1 .1 .1 .1 .1 .1 .0
 
 returns : tie.Need-returns
 returns c =
@@ -75,7 +78,8 @@ settle-spec =
     (λ c. search needs)
     (λ c. search needs)
     (λ c. search needs)
-    same-length-7
-    same-length-8
     (λ c. search needs)
+    same-length-8
+    same-length-9
+    same-length-10
     returns)

@@ -33,7 +33,7 @@ behind-two a b slices others same = rw same
 exact-long : (caps : Capacities) → LongEnough (other-slices (exact caps))
 exact-long caps =
     let itself : (n : ℕ) → n ≤ n = λ n. omega arith in
-    slice-fits (itself _) (slice-fits (itself _) (slice-fits (itself _) (slice-fits (itself _) no-slice)))
+    slice-fits (itself _) (slice-fits (itself _) (slice-fits (itself _) (slice-fits (itself _) (slice-fits (itself _) no-slice))))
 
 -- so it is read into as one with no word to spare
 pub roomy-read : (l : Lengths) → LongEnough (other-slices l) → (bytes : List ℕ) → read-image l bytes ≡ read-image (exact (l .capacities)) bytes
@@ -46,7 +46,8 @@ roomy-read l long bytes =
 -- the memory of a checked store is long enough
 pub checked-long : {w : Words} → Checked w → LongEnough (other-slices (lengths-of w))
 checked-long k =
-    slice-fits (k .nodes .live-long) (slice-fits (k .edges .live-long) (slice-fits (k .axis Outgoing .sized .room) (slice-fits (k .axis Incoming .sized .room) no-slice)))
+    slice-fits (k .highs-long)
+    (slice-fits (k .nodes .live-long) (slice-fits (k .edges .live-long) (slice-fits (k .axis Outgoing .sized .room) (slice-fits (k .axis Incoming .sized .room) no-slice))))
 
 -- ---- the numbers that calls can answer
 
@@ -83,6 +84,8 @@ module _ (caps : Capacities) (s : State) where
   reading-numbers bytes (read-too-short e (short-later k (short-later l (short-later m (short-here h))))) = absurd (omega arith)
   reading-numbers bytes (read-too-short e (short-later k (short-later l (short-later m (short-later n (short-here h)))))) = absurd (omega arith)
   reading-numbers bytes (read-too-short e (short-later k (short-later l (short-later m (short-later n (short-later o (short-here h))))))) = absurd (omega arith)
+  reading-numbers bytes (read-too-short e (short-later k (short-later l (short-later m (short-later n (short-later o (short-later p (short-here h)))))))) =
+      absurd (omega arith)
 
   pub call-numbers : Within caps → (c : Call) → CanAnswer caps (s .lists) c (call caps s c .number)
   unfolding call

@@ -14,7 +14,7 @@ use Rattle.plain.specs.Reads.{Reply}
 use Rattle.plain.specs.Compaction.{renumbering, survivors}
 use Rattle.plain.specs.Image.{image}
 use Rattle.plain.specs.Calls.{Compacted, compacting, write-image, judged-reply}
-use Rattle.plain.specs.WellFormed.{WellFormed, Sound}
+use Rattle.plain.specs.WellFormed.{Sound}
 use Rattle.plain.specs.Laws.Compacting.{survivors-sound}
 use Rattle.plain.specs.Laws.Renumberings.{renumbering-all-live}
 use Rattle.plain.specs.Laws.Histories.{compaction-state, closing-compaction-number, closing-image-number, closing-bytes}

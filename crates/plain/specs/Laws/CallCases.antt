@@ -14,10 +14,11 @@ use Rattle.plain.specs.declared.TraversalDirection.the-variants.{Outgoin
 use Rattle.plain.specs.declared.Answer.{Answer}
 use Rattle.plain.specs.declared.Record.{Record}
 use Rattle.plain.specs.Numbers.{NONE}
-use Rattle.plain.specs.Plain.{Plain, NodeSlot, EdgeSlot, no-node, no-edge, node-bound, edge-bound, node-flags, edge-flags, list-of, end-of, opposite}
+use Rattle.plain.specs.Lists.{sum}
+use Rattle.plain.specs.Plain.{low-of, high-of, Plain, NodeSlot, EdgeSlot, no-node, no-edge, node-bound, edge-bound, node-flags, edge-flags, list-of, end-of, opposite}
 use Rattle.plain.specs.Operations.{operation-words, operations}
 use Rattle.plain.specs.Step.{Capacities, State, node-missing, run, answers}
-use Rattle.plain.specs.Reads.{lent, listing, answered, yes-or-no, no-record, walk, neighbors, degree, node-payload, edge-record, live-edge-record, contains-node, contains-edge, is-live, found, find}
+use Rattle.plain.specs.Reads.{lent, listing, answered, yes-or-no, no-record, no-total, payloads-of, walk, neighbors, degree, total, node-payload, edge-record, live-edge-record, contains-node, contains-edge, is-live, found, find}
 use Rattle.plain.specs.Compaction.{survivors}
 use Rattle.plain.specs.Image.{image, broken-image, nodes-in, edges-in}
 use Rattle.plain.specs.Memory.{Slice, first-short, Lengths, other-slices}
@@ -95,6 +96,16 @@ module _ (d : TraversalDirection) (p : Plain) (x room : ℕ) where
   pub degree-there : x < node-bound p → degree d p x ≡ answered (length (list-of d p x))
   unfolding degree
   degree-there h = rw (there p x h)
+
+module _ (d : TraversalDirection) (p : Plain) (x : ℕ) where
+  pub total-absent : Absent (node-flags p) x → total d p x ≡ no-total 5 NONE
+  unfolding total
+  total-absent h = rw (missing p x h)
+
+  pub total-there : x < node-bound p
+      → total d p x ≡ record { number = 0; value = 0; low = sum (map low-of (payloads-of d p x)); high = sum (map high-of (payloads-of d p x)) }
+  unfolding total
+  total-there h = rw (there p x h)
 
 -- ---- reads of a slot
 

@@ -11,6 +11,7 @@ use lib.ListN.{length, getD, getElem?, length-map}
 use lib.Dec.{eqb}
 use borrow.Author.Tests.{eq-eqb, ne-eqb, eqb-true, eqb-false, le-leb, lt-leb}
 use Rattle.plain.specs.declared.TraversalDirection.{TraversalDirection}
+use Rattle.plain.specs.declared.EdgePayload.{EdgePayload}
 use Rattle.plain.specs.declared.Operation.{Operation}
 use Rattle.plain.specs.declared.Operation.the-variants.{AddNode, AddEdge, RemoveEdge, RemoveNode, Redirect, Move, SetPayload, Unknown}
 use Rattle.plain.specs.Plain.{Plain, NodeSlot, EdgeSlot, incidence, with-incidence, node-bound, edge-bound, node-flags, edge-flags, list-of, end-of, node-added, edge-added, edge-removed, node-removed, redirected, moved, payload-set}
@@ -83,13 +84,15 @@ pub data Case (caps : Capacities) (p : Plain) : Operation → Outcome → Type 0
   -- "Add node: 4, 10."
   add-node-full : {v : ℕ} → caps .nodes ≤ node-bound p → Case caps p (AddNode v) (refused 10 p)
   add-node : {v : ℕ} → node-bound p < caps .nodes → Case caps p (AddNode v) (changed (node-bound p) (node-added v p))
-  -- "Add edge: 4, source 5, 6, target 5, 6, then 10."
-  add-edge-source-absent : {s t v : ℕ} → Absent (node-flags p) s → Case caps p (AddEdge s t v) (refused 5 p)
-  add-edge-source-removed : {s t v : ℕ} → Removed (node-flags p) s → Case caps p (AddEdge s t v) (refused 6 p)
-  add-edge-target-absent : {s t v : ℕ} → Live (node-flags p) s → Absent (node-flags p) t → Case caps p (AddEdge s t v) (refused 5 p)
-  add-edge-target-removed : {s t v : ℕ} → Live (node-flags p) s → Removed (node-flags p) t → Case caps p (AddEdge s t v) (refused 6 p)
-  add-edge-full : {s t v : ℕ} → Live (node-flags p) s → Live (node-flags p) t → caps .edges ≤ edge-bound p → Case caps p (AddEdge s t v) (refused 10 p)
-  add-edge : {s t v : ℕ} → Live (node-flags p) s → Live (node-flags p) t → edge-bound p < caps .edges
+  -- "Add edge: 4, source 5, 6, target 5, 6, then 10", with 16 "directly after 4"
+  add-edge-inverted : {s t : ℕ} {v : EdgePayload} → v .high < v .low → Case caps p (AddEdge s t v) (refused 16 p)
+  add-edge-source-absent : {s t : ℕ} {v : EdgePayload} → v .low ≤ v .high → Absent (node-flags p) s → Case caps p (AddEdge s t v) (refused 5 p)
+  add-edge-source-removed : {s t : ℕ} {v : EdgePayload} → v .low ≤ v .high → Removed (node-flags p) s → Case caps p (AddEdge s t v) (refused 6 p)
+  add-edge-target-absent : {s t : ℕ} {v : EdgePayload} → v .low ≤ v .high → Live (node-flags p) s → Absent (node-flags p) t → Case caps p (AddEdge s t v) (refused 5 p)
+  add-edge-target-removed : {s t : ℕ} {v : EdgePayload} → v .low ≤ v .high → Live (node-flags p) s → Removed (node-flags p) t → Case caps p (AddEdge s t v) (refused 6 p)
+  add-edge-full : {s t : ℕ} {v : EdgePayload} → v .low ≤ v .high → Live (node-flags p) s → Live (node-flags p) t → caps .edges ≤ edge-bound p
+      → Case caps p (AddEdge s t v) (refused 10 p)
+  add-edge : {s t : ℕ} {v : EdgePayload} → v .low ≤ v .high → Live (node-flags p) s → Live (node-flags p) t → edge-bound p < caps .edges
       → Case caps p (AddEdge s t v) (changed (edge-bound p) (edge-added s t v p))
   -- "Removals: 4." "1 or 0, where 0 means nothing live was there."
   remove-edge-absent : {e : ℕ} → Absent (edge-flags p) e → Case caps p (RemoveEdge e) (unchanged 0 p)
@@ -118,9 +121,11 @@ pub data Case (caps : Capacities) (p : Plain) : Operation → Outcome → Type 0
       → Case caps p (Move d old new) (refused 6 p)
   move : {d : TraversalDirection} {old new : ℕ} → (old ≡ new → ⊥) → old < node-bound p → (list-of d p old ≡ [] → ⊥) → Live (node-flags p) new
       → Case caps p (Move d old new) (changed (length (list-of d p old)) (with-incidence d (moved old new (incidence d p)) p))
-  -- "Set payload: 4, 7", of removed edges too.
-  set-payload-absent : {e v : ℕ} → Absent (edge-flags p) e → Case caps p (SetPayload e v) (refused 7 p)
-  set-payload : {e v : ℕ} → e < edge-bound p → Case caps p (SetPayload e v) (record { number = 0; value = 0; lists = payload-set e v p; keeps-compact = true })
+  -- "Set payload: 4, 7", of removed edges too, with 16 "directly after 4"
+  set-payload-inverted : {e : ℕ} {v : EdgePayload} → v .high < v .low → Case caps p (SetPayload e v) (refused 16 p)
+  set-payload-absent : {e : ℕ} {v : EdgePayload} → v .low ≤ v .high → Absent (edge-flags p) e → Case caps p (SetPayload e v) (refused 7 p)
+  set-payload : {e : ℕ} {v : EdgePayload} → v .low ≤ v .high → e < edge-bound p
+      → Case caps p (SetPayload e v) (record { number = 0; value = 0; lists = payload-set e v p; keeps-compact = true })
   -- "unknown code or unused word not 0"
   unknown : Case caps p Unknown (refused 4 p)
 
@@ -156,12 +161,15 @@ pub comes-to : {caps : Capacities} {p : Plain} {operation : Operation} {o : Outc
 unfolding step
 comes-to {caps} {p} (add-node-full h) = rw (le-leb (caps .nodes) (node-bound p) h)
 comes-to {caps} {p} (add-node h) = rw (lt-leb (caps .nodes) (node-bound p) h)
-comes-to {p = p} (add-edge-source-absent {s} h) = rw (node-absent p s h)
-comes-to {p = p} (add-edge-source-removed {s} h) = rw (node-dead p s h)
-comes-to {p = p} (add-edge-target-absent {s} {t} h k) = rw (node-ok p s h, node-absent p t k)
-comes-to {p = p} (add-edge-target-removed {s} {t} h k) = rw (node-ok p s h, node-dead p t k)
-comes-to {caps} {p} (add-edge-full {s} {t} h k l) = rw (node-ok p s h, node-ok p t k, le-leb (caps .edges) (edge-bound p) l)
-comes-to {caps} {p} (add-edge {s} {t} h k l) = rw (node-ok p s h, node-ok p t k, lt-leb (caps .edges) (edge-bound p) l)
+comes-to (add-edge-inverted {v = v} o) = rw (lt-leb (v .low) (v .high) o)
+comes-to {p = p} (add-edge-source-absent {s} {v = v} o h) = rw (le-leb (v .low) (v .high) o, node-absent p s h)
+comes-to {p = p} (add-edge-source-removed {s} {v = v} o h) = rw (le-leb (v .low) (v .high) o, node-dead p s h)
+comes-to {p = p} (add-edge-target-absent {s} {t} {v} o h k) = rw (le-leb (v .low) (v .high) o, node-ok p s h, node-absent p t k)
+comes-to {p = p} (add-edge-target-removed {s} {t} {v} o h k) = rw (le-leb (v .low) (v .high) o, node-ok p s h, node-dead p t k)
+comes-to {caps} {p} (add-edge-full {s} {t} {v} o h k l) =
+    rw (le-leb (v .low) (v .high) o, node-ok p s h, node-ok p t k, le-leb (caps .edges) (edge-bound p) l)
+comes-to {caps} {p} (add-edge {s} {t} {v} o h k l) =
+    rw (le-leb (v .low) (v .high) o, node-ok p s h, node-ok p t k, lt-leb (caps .edges) (edge-bound p) l)
 comes-to {p = p} (remove-edge-absent {e} h) = rw (flag-absent (λ (s : EdgeSlot). s .live) (p .edges) e h)
 comes-to {p = p} (remove-edge-removed {e} h) = rw (flag-removed (λ (s : EdgeSlot). s .live) (p .edges) e h)
 comes-to {p = p} (remove-edge {e} h) = rw (flag-live (λ (s : EdgeSlot). s .live) (p .edges) e h)
@@ -183,8 +191,9 @@ comes-to {p = p} (move-new-removed {d} {old} {new} h k l m) =
     rw (ne-eqb old new h, fault-below (λ (s : NodeSlot). s .live) 5 (p .nodes) old k, moving-some d old new (list-of d p old) p l, node-dead p new m)
 comes-to {p = p} (move {d} {old} {new} h k l m) =
     rw (ne-eqb old new h, fault-below (λ (s : NodeSlot). s .live) 5 (p .nodes) old k, moving-some d old new (list-of d p old) p l, node-ok p new m)
-comes-to {p = p} (set-payload-absent {e} h) = rw (fault-absent (λ (s : EdgeSlot). s .live) 7 0 (p .edges) e h)
-comes-to {p = p} (set-payload {e} h) = rw (fault-below (λ (s : EdgeSlot). s .live) 7 (p .edges) e h)
+comes-to (set-payload-inverted {v = v} o) = rw (lt-leb (v .low) (v .high) o)
+comes-to {p = p} (set-payload-absent {e} {v} o h) = rw (le-leb (v .low) (v .high) o, fault-absent (λ (s : EdgeSlot). s .live) 7 0 (p .edges) e h)
+comes-to {p = p} (set-payload {e} {v} o h) = rw (le-leb (v .low) (v .high) o, fault-below (λ (s : EdgeSlot). s .live) 7 (p .edges) e h)
 comes-to unknown = refl
 
 -- an outcome's case is a case of `step`
@@ -192,12 +201,14 @@ settled : {caps : Capacities} {p : Plain} {operation : Operation} {o : Outcome} 
 settled {caps} {p} {operation} c = subst (λ (o : Outcome). Case caps p operation o) (sym (comes-to c)) c
 
 module _ (caps : Capacities) (p : Plain) where
-  add-edge-case : (s t v : ℕ) → Slot (node-flags p) s → Slot (node-flags p) t → Case caps p (AddEdge s t v) (step caps p (AddEdge s t v))
-  add-edge-case s t v (absent h) k = settled (add-edge-source-absent h)
-  add-edge-case s t v (removed h) k = settled (add-edge-source-removed h)
-  add-edge-case s t v (live h) (absent k) = settled (add-edge-target-absent h k)
-  add-edge-case s t v (live h) (removed k) = settled (add-edge-target-removed h k)
-  add-edge-case s t v (live h) (live k) = ⊎-elim (λ l. settled (add-edge h k l)) (λ l. settled (add-edge-full h k l)) (below-or-not (edge-bound p) (caps .edges))
+  add-edge-case : (s t : ℕ) (v : EdgePayload) → v .low ≤ v .high → Slot (node-flags p) s → Slot (node-flags p) t
+      → Case caps p (AddEdge s t v) (step caps p (AddEdge s t v))
+  add-edge-case s t v o (absent h) k = settled (add-edge-source-absent o h)
+  add-edge-case s t v o (removed h) k = settled (add-edge-source-removed o h)
+  add-edge-case s t v o (live h) (absent k) = settled (add-edge-target-absent o h k)
+  add-edge-case s t v o (live h) (removed k) = settled (add-edge-target-removed o h k)
+  add-edge-case s t v o (live h) (live k) =
+      ⊎-elim (λ l. settled (add-edge o h k l)) (λ l. settled (add-edge-full o h k l)) (below-or-not (edge-bound p) (caps .edges))
 
   remove-edge-case : (e : ℕ) → Slot (edge-flags p) e → Case caps p (RemoveEdge e) (step caps p (RemoveEdge e))
   remove-edge-case e (absent h) = settled (remove-edge-absent h)
@@ -227,7 +238,8 @@ module _ (caps : Capacities) (p : Plain) where
   -- every operation is in a case, with the outcome that `step` gives it
   pub case-of : (operation : Operation) → Case caps p operation (step caps p operation)
   case-of (AddNode v) = ⊎-elim (λ l. settled (add-node l)) (λ l. settled (add-node-full l)) (below-or-not (node-bound p) (caps .nodes))
-  case-of (AddEdge s t v) = add-edge-case s t v (slot (node-flags p) s) (slot (node-flags p) t)
+  case-of (AddEdge s t v) =
+      ⊎-elim (λ o. settled (add-edge-inverted o)) (λ o. add-edge-case s t v o (slot (node-flags p) s) (slot (node-flags p) t)) (below-or-not (v .high) (v .low))
   case-of (RemoveEdge e) = remove-edge-case e (slot (edge-flags p) e)
   case-of (RemoveNode x) = remove-node-case x (slot (node-flags p) x)
   case-of (Redirect d e x) = redirect-case d e x (slot (edge-flags p) e) (slot (node-flags p) x)
@@ -236,6 +248,7 @@ module _ (caps : Capacities) (p : Plain) where
       (λ q. ⊎-elim (λ l. move-case d old new (eqb-false old new q) l (list-of d p old) refl (slot (node-flags p) new))
       (λ l. settled (move-old-absent (eqb-false old new q) (rw (length-map (p .nodes) (λ (s : NodeSlot). s .live)) l))) (below-or-not old (node-bound p)))
   case-of (SetPayload e v) =
-      ⊎-elim (λ l. settled (set-payload l)) (λ l. settled (set-payload-absent (rw (length-map (p .edges) (λ (s : EdgeSlot). s .live)) l)))
-      (below-or-not e (edge-bound p))
+      ⊎-elim (λ o. settled (set-payload-inverted o))
+      (λ o. ⊎-elim (λ l. settled (set-payload o l)) (λ l. settled (set-payload-absent o (rw (length-map (p .edges) (λ (s : EdgeSlot). s .live)) l)))
+      (below-or-not e (edge-bound p))) (below-or-not (v .high) (v .low))
   case-of Unknown = settled unknown

@@ -9,16 +9,17 @@ use lib.Dec.{eqb}
 use borrow.Author.Tests.{eqb-true, eq-eqb, ltb-true, lt-ltb}
 use Rattle.plain.specs.declared.TraversalDirection.{TraversalDirection}
 use Rattle.plain.specs.declared.TraversalDirection.the-variants.{Outgoing, Incoming}
+use Rattle.plain.specs.declared.EdgePayload.{EdgePayload}
 use Rattle.plain.specs.Numbers.{LIMIT}
 use Rattle.plain.specs.Lists.{member, distinct, from}
-use Rattle.plain.specs.Plain.{Plain, Incidence, NodeSlot, EdgeSlot, no-node, no-edge, node-flags, edge-flags, node-bound, edge-bound, incidence, end-of, list-of}
+use Rattle.plain.specs.Plain.{Plain, Incidence, NodeSlot, EdgeSlot, no-node, no-payload, no-edge, node-flags, edge-flags, node-bound, edge-bound, incidence, end-of, list-of}
 use Rattle.plain.specs.Step.{Capacities}
 use Rattle.plain.specs.Reads.{live-count, live-slots, live-nodes, live-edges}
-use Rattle.plain.specs.Compaction.{rank, EdgeRecord, Survivors, surviving-edge, surviving-list, survivors, kept-node, kept-edge, source-of, target-of, of-survivors, compacted}
-use Rattle.plain.specs.WellFormed.{Incident, WellFormed, Fitted, Sound}
+use Rattle.plain.specs.Compaction.{rank, EdgeRecord, Survivors, surviving-edge, surviving-list, survivors, kept-node, kept-edge, source-of, target-of, payload-of, of-survivors, compacted}
+use Rattle.plain.specs.WellFormed.{Weighed, Incident, WellFormed, Fitted, Sound}
 use Rattle.plain.specs.Laws.Booleans.{same-truth, and-left, and-right, both-true}
 use Rattle.plain.specs.Laws.ListLaws.{getD-map-each, member-mapped, member-source, member-getD-map, distinct-map, map-same, map-unchanged, map-getD, map-replicate, count-length, member-below}
-use Rattle.plain.specs.Laws.Operating.{incident}
+use Rattle.plain.specs.Laws.Operating.{incident, no-payload-weighed}
 use Rattle.plain.specs.Laws.Rank.{rank-live, rank-injective, rank-all-live, length-live-slots, live-slot-live, rank-live-slot, getD-at-rank, live-all-live, live-from-all-live}
 use Rattle.plain.specs.Laws.Fitting.{has-end, has-end-below, has-end-at, live-has-end, incident-fitted, fitted-incident}
 
@@ -172,9 +173,8 @@ survivors-sound caps p w few-nodes few-edges = record {
   edges-within = let slots = surviving-edges-within p in let bound = w .edges-within in omega arith;
   node-payloads = getD-map-each (λ (n : ℕ). n < 2 ^ 32) (λ x. getD (p .nodes) x no-node .payload) (live-slots (node-flags p)) 0 (omega arith) (w .node-payloads);
   edge-payloads =
-      subst (λ (l : List ℕ). (e : ℕ) → getD l e 0 < 2 ^ 32)
-      (sym (map-map (λ (r : EdgeRecord). r .payload) (surviving-edge p) (live-slots (edge-flags p))))
-      (getD-map-each (λ (n : ℕ). n < 2 ^ 32) (λ e. getD (p .edges) e no-edge .payload) (live-slots (edge-flags p)) 0 (omega arith) (w .edge-payloads));
+      subst (λ (l : List EdgePayload). (e : ℕ) → Weighed (getD l e no-payload)) (sym (map-map payload-of (surviving-edge p) (live-slots (edge-flags p))))
+      (getD-map-each Weighed (λ e. getD (p .edges) e no-edge .payload) (live-slots (edge-flags p)) no-payload no-payload-weighed (w .edge-payloads));
   outs = survivors-fitted caps p w Outgoing;
   ins = survivors-fitted caps p w Incoming;
 }
@@ -199,11 +199,11 @@ node-payload-of s x =
     ∙ ap (λ (l : List ℕ). getD l x 0) (map-map (λ (k : NodeSlot). k .payload) kept-node (s .nodes) ∙ map-id (s .nodes))
 
 -- and those of their edges
-pub edge-payload-of : (s : Survivors) (e : ℕ) → getD (of-survivors s .edges) e no-edge .payload ≡ getD (map (λ (r : EdgeRecord). r .payload) (s .edges)) e 0
+pub edge-payload-of : (s : Survivors) (e : ℕ) → getD (of-survivors s .edges) e no-edge .payload ≡ getD (map payload-of (s .edges)) e no-payload
 unfolding of-survivors
 edge-payload-of s e =
     sym (List·getD-map (λ (k : EdgeSlot). k .payload) (map kept-edge (s .edges)) e no-edge)
-    ∙ ap (λ (l : List ℕ). getD l e 0) (map-map (λ (k : EdgeSlot). k .payload) kept-edge (s .edges))
+    ∙ ap (λ (l : List EdgePayload). getD l e no-payload) (map-map (λ (k : EdgeSlot). k .payload) kept-edge (s .edges))
 
 -- the node bound is the number of nodes that survive
 pub node-bound-of : (s : Survivors) → node-bound (of-survivors s) ≡ length (s .nodes)
@@ -223,8 +223,8 @@ live-edges-of : (s : Survivors) → live-slots (edge-flags (of-survivors s)) ≡
 live-edges-of s = ap live-slots (edge-flags-of s) ∙ live-from-all-live 0 (length (s .edges))
 
 -- what stands past the end of a list of records, and is never read
-abbrev no-ends : EdgeRecord
-no-ends = record { source = 0; target = 0; payload = 0 }
+abbrev pub no-ends : EdgeRecord
+no-ends = record { source = 0; target = 0; payload = no-payload }
 
 -- each direction has one end an edge
 length-ends-of : (s : Survivors) (d : TraversalDirection) → length (incidence d (of-survivors s) .ends) ≡ length (s .edges)
@@ -259,7 +259,7 @@ module _ (s : Survivors) (sound : Sound s) where
   edge-again e h = λ i. record {
     source = (end-again Outgoing e h ∙ List·getD-map source-of (s .edges) e no-ends) i;
     target = (end-again Incoming e h ∙ List·getD-map target-of (s .edges) e no-ends) i;
-    payload = (edge-payload-of s e ∙ List·getD-map (λ (r : EdgeRecord). r .payload) (s .edges) e no-ends) i;
+    payload = (edge-payload-of s e ∙ List·getD-map payload-of (s .edges) e no-ends) i;
   }
 
   -- and a list
@@ -378,5 +378,5 @@ pub compacted-edge-payload : (p : Plain) (e : ℕ) → getD (edge-flags p) e fal
 unfolding survivors compacted
 compacted-edge-payload p e live =
     edge-payload-of (survivors p) (rank (edge-flags p) e)
-    ∙ ap (λ (l : List ℕ). getD l (rank (edge-flags p) e) 0) (map-map (λ (r : EdgeRecord). r .payload) (surviving-edge p) (live-slots (edge-flags p)))
-    ∙ getD-at-rank (λ e. getD (p .edges) e no-edge .payload) (edge-flags p) e 0 live
+    ∙ ap (λ (l : List EdgePayload). getD l (rank (edge-flags p) e) no-payload) (map-map payload-of (surviving-edge p) (live-slots (edge-flags p)))
+    ∙ getD-at-rank (λ e. getD (p .edges) e no-edge .payload) (edge-flags p) e no-payload live

@@ -7,6 +7,7 @@ use mathlib.Core.List.{List, [], _∷_}
 use lib.ListN.{length, getD, replicate, length-set}
 use lib.Seq.{map-set-same}
 use lib.Dec.{eqb, ltb}
+use Rattle.plain.specs.declared.EdgePayload.{EdgePayload}
 use Rattle.plain.specs.declared.Operation.{Operation}
 use Rattle.plain.specs.Plain.{Plain, EdgeSlot, no-edge, payload-set}
 use Rattle.plain.specs.Operations.{operation-words, operations}
@@ -17,7 +18,7 @@ use Rattle.plain.specs.Memory.{first-short, exact}
 use Rattle.plain.specs.Calls.{strip, fresh-state, compacting, compaction, compaction-slices, read-image, read-state}
 use Rattle.plain.specs.History.{Call, Strip, Compaction, Reading, call, history-from, history}
 use Rattle.plain.specs.Laws.Booleans.{by-test, and-left, and-right}
-use Rattle.plain.specs.Laws.Cases.{Case, case-of, add-node-full, add-node, add-edge-source-absent, add-edge-source-removed, add-edge-target-absent, add-edge-target-removed, add-edge-full, add-edge, remove-edge-absent, remove-edge-removed, remove-edge, remove-node-absent, remove-node-removed, remove-node, redirect-edge-absent, redirect-edge-removed, redirect-node-absent, redirect-node-removed, redirect-same, redirect, move-onto-itself, move-old-absent, move-nothing, move-new-absent, move-new-removed, move, set-payload-absent, set-payload, unknown}
+use Rattle.plain.specs.Laws.Cases.{Case, case-of, add-node-full, add-node, add-edge-inverted, add-edge-source-absent, add-edge-source-removed, add-edge-target-absent, add-edge-target-removed, add-edge-full, add-edge, remove-edge-absent, remove-edge-removed, remove-edge, remove-node-absent, remove-node-removed, remove-node, redirect-edge-absent, redirect-edge-removed, redirect-node-absent, redirect-node-removed, redirect-same, redirect, move-onto-itself, move-old-absent, move-nothing, move-new-absent, move-new-removed, move, set-payload-inverted, set-payload-absent, set-payload, unknown}
 use Rattle.plain.specs.Laws.Compacting.{node-flags-of, edge-flags-of, node-bound-of, edge-bound-of, compacted-nodes-live, compacted-edges-live, compacted-node-bound, compacted-edge-bound}
 use Rattle.plain.specs.Laws.AllLive.{AllLive, lists-read-back}
 use Rattle.plain.specs.Laws.Histories.{Within, AllLegal, history-well-formed}
@@ -26,7 +27,7 @@ use Rattle.plain.specs.Laws.Histories.{Within, AllLegal, history-well-fo
 pub record Honest (s : State) : Type 0 where
   pub all-live : s .compact ≡ true → AllLive (s .lists)
 
-payload-set-live : (e v : ℕ) (p : Plain) → AllLive p → AllLive (payload-set e v p)
+payload-set-live : (e : ℕ) (v : EdgePayload) (p : Plain) → AllLive p → AllLive (payload-set e v p)
 unfolding payload-set
 payload-set-live e v p h =
     let slot : EdgeSlot = record { payload = v; live = getD (p .edges) e no-edge .live } in
@@ -41,12 +42,13 @@ case-live : {caps : Capacities} {p : Plain} {operation : Operation} {o : Outcome
     → AllLive (o .lists)
 case-live (add-node-full k) c h = h
 case-live (add-node k) c h = absurd (false≢true c)
-case-live (add-edge-source-absent k) c h = h
-case-live (add-edge-source-removed k) c h = h
-case-live (add-edge-target-absent k l) c h = h
-case-live (add-edge-target-removed k l) c h = h
-case-live (add-edge-full k l m) c h = h
-case-live (add-edge k l m) c h = absurd (false≢true c)
+case-live (add-edge-inverted o) c h = h
+case-live (add-edge-source-absent o k) c h = h
+case-live (add-edge-source-removed o k) c h = h
+case-live (add-edge-target-absent o k l) c h = h
+case-live (add-edge-target-removed o k l) c h = h
+case-live (add-edge-full o k l m) c h = h
+case-live (add-edge o k l m) c h = absurd (false≢true c)
 case-live (remove-edge-absent k) c h = h
 case-live (remove-edge-removed k) c h = h
 case-live (remove-edge k) c h = absurd (false≢true c)
@@ -65,8 +67,9 @@ case-live (move-nothing k l m) c h = h
 case-live (move-new-absent k l m n) c h = h
 case-live (move-new-removed k l m n) c h = h
 case-live (move k l m n) c h = absurd (false≢true c)
-case-live (set-payload-absent k) c h = h
-case-live {p = p} (set-payload {e} {v} k) c h = payload-set-live e v p h
+case-live (set-payload-inverted o) c h = h
+case-live (set-payload-absent o k) c h = h
+case-live {p = p} (set-payload {e} {v} o k) c h = payload-set-live e v p h
 case-live unknown c h = h
 
 stepped-honest : (caps : Capacities) (s : State) (operation : Operation) → Honest s → Honest (stepped caps s operation)

@@ -10,14 +10,9 @@ use lib.ListN.{length, take, drop, length-append, length-drop, take-append-drop}
 use lib.Seq.{take-append-seam, drop-append-seam, length-take-le}
 use lib.Dec.{eqb}
 use borrow.Author.Tests.{eq-eqb, ne-eqb}
-use Rattle.plain.specs.Lists.{joined, count, from}
+use Rattle.plain.specs.Lists.{sum, joined, count, from}
 use Rattle.plain.specs.Image.{cut, list-lengths}
 use Rattle.plain.specs.Laws.Below.{Below, none, more}
-
--- the numbers of a list, added up
-unfoldable pub sum : List ℕ → ℕ
-sum [] = 0
-sum (n ∷ ns) = n + sum ns
 
 -- the length of each list
 abbrev pub lengths : List (List ℕ) → List ℕ

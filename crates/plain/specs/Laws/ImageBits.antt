@@ -4,17 +4,36 @@ use mathlib.Core.Path.{_≡_, refl, ap, _∙_}
 use mathlib.Core.List.{List, [], _∷_, _++_, map}
 use native.Mathlib.Omega.{arith}
 use lib.ListN.{length, length-append}
+use Rattle.plain.specs.declared.EdgePayload.{EdgePayload}
 use Rattle.plain.specs.Lists.{joined}
-use Rattle.plain.specs.Plain.{EdgePayload}
 use Rattle.plain.specs.Compaction.{EdgeRecord, Survivors, source-of, target-of}
 use Rattle.plain.specs.Bits.{bits-of, field-at, row}
-use Rattle.plain.specs.Image.{count-width, node-payload-width, edge-payload-width, payload-bits, payload-at, edge-bits, image-bits, records-at, record-width, nodes-start, edges-start}
+use Rattle.plain.specs.Image.{count-width, node-payload-width, weight-width, edge-payload-width, payload-bits, payload-at, edge-bits, image-bits, records-at, record-width, nodes-start, edges-start}
 use Rattle.plain.specs.Laws.Below.{Below, none, more, below-append}
 use Rattle.plain.specs.Laws.Bits.{length-bits-of, below-bits-of, field-at-lt, length-row, below-row}
 use Rattle.plain.specs.Laws.Packing.{Stands, stands-front, stands-rest, stands-append, stands-at, stands-field, field-stands}
 
-abbrev pub payload-of : EdgeRecord → EdgePayload
-payload-of r = r .payload
+-- the weights of an edge
+abbrev pub record-low : EdgeRecord → ℕ
+record-low r = r .payload .low
+
+abbrev pub record-high : EdgeRecord → ℕ
+record-high r = r .payload .high
+
+-- ---- an edge's payload
+
+pub length-payload-bits : (payload : EdgePayload) → length (payload-bits payload) ≡ edge-payload-width
+length-payload-bits payload = simp (length-append, length-bits-of)
+
+pub below-payload-bits : (payload : EdgePayload) → Below 2 (payload-bits payload)
+below-payload-bits payload = below-append (below-bits-of weight-width (payload .low)) (below-bits-of weight-width (payload .high))
+
+-- the bits of a payload stand where it was read
+payload-stands : (bytes : List ℕ) (p : ℕ) → p + edge-payload-width ≤ 8 * length bytes → Stands bytes p (payload-bits (payload-at bytes p))
+payload-stands bytes p h =
+    let low : ℕ = field-at bytes p weight-width in
+    stands-append (bits-of weight-width low) (bits-of weight-width (field-at bytes (p + weight-width) weight-width)) (length-bits-of weight-width low) (field-stands bytes p weight-width (omega arith))
+    (field-stands bytes (p + weight-width) weight-width (omega arith))
 
 -- ---- the edges' records
 
@@ -29,7 +48,7 @@ pub below-edge-bits : (w : ℕ) (es : List EdgeRecord) → Below 2 (edge-bits w 
 unfolding edge-bits
 below-edge-bits w [] = none
 below-edge-bits w (e ∷ es) =
-    below-append (below-bits-of w (e .source)) (below-append (below-bits-of w (e .target)) (below-append (below-bits-of edge-payload-width (e .payload)) (below-edge-bits w es)))
+    below-append (below-bits-of w (e .source)) (below-append (below-bits-of w (e .target)) (below-append (below-payload-bits (e .payload)) (below-edge-bits w es)))
 
 -- as many records as asked for
 pub length-records-at : (bytes : List ℕ) (p w m : ℕ) → length (records-at bytes p w m) ≡ m
@@ -37,29 +56,33 @@ unfolding records-at
 length-records-at bytes p w zero = refl
 length-records-at bytes p w (suc m) = ap suc (length-records-at bytes (p + record-width w) w m)
 
--- each payload fits its word
-pub below-payloads-at : (bytes : List ℕ) (p w m : ℕ) → Below (2 ^ edge-payload-width) (map payload-of (records-at bytes p w m))
+-- each high fits its word
+pub below-highs-at : (bytes : List ℕ) (p w m : ℕ) → Below (2 ^ weight-width) (map record-high (records-at bytes p w m))
 unfolding records-at
-below-payloads-at bytes p w zero = none
-below-payloads-at bytes p w (suc m) = more (field-at-lt bytes (p + (w + w)) edge-payload-width) (below-payloads-at bytes (p + record-width w) w m)
+below-highs-at bytes p w zero = none
+below-highs-at bytes p w (suc m) = more (field-at-lt bytes (p + (w + w) + weight-width) weight-width) (below-highs-at bytes (p + record-width w) w m)
 
 -- records whose bits stand there are read there
 pub stands-records : {bytes : List ℕ} {p : ℕ} (w : ℕ) (es : List EdgeRecord) → Below (2 ^ w) (map source-of es) → Below (2 ^ w) (map target-of es)
-    → Below (2 ^ edge-payload-width) (map payload-of es) → Stands bytes p (edge-bits w es) → records-at bytes p w (length es) ≡ es
+    → Below (2 ^ weight-width) (map record-low es) → Below (2 ^ weight-width) (map record-high es) → Stands bytes p (edge-bits w es) → records-at bytes p w (length es) ≡ es
 unfolding edge-bits records-at
-stands-records w [] a b c s = refl
-stands-records {bytes} {p} w (e ∷ es) (more h a) (more k b) (more l c) s =
+stands-records w [] a b c d s = refl
+stands-records {bytes} {p} w (e ∷ es) (more h a) (more k b) (more l c) (more m d) s =
     let x : List ℕ = bits-of w (e .source) in
     let y : List ℕ = bits-of w (e .target) in
+    let lows : List ℕ = bits-of weight-width (e .payload .low) in
+    let highs : List ℕ = bits-of weight-width (e .payload .high) in
     let z : List ℕ = payload-bits (e .payload) in
     let r : List ℕ = edge-bits w es in
     let s₁ : Stands bytes (p + w) (y ++ (z ++ r)) = stands-rest x (y ++ (z ++ r)) (length-bits-of w (e .source)) s in
     let s₂ : Stands bytes (p + (w + w)) (z ++ r) = stands-at (omega arith) (stands-rest y (z ++ r) (length-bits-of w (e .target)) s₁) in
-    let s₃ : Stands bytes (p + record-width w) r = stands-at (omega arith) (stands-rest z r (length-bits-of edge-payload-width (e .payload)) s₂) in
+    let s₃ : Stands bytes (p + record-width w) r = stands-at (omega arith) (stands-rest z r (length-payload-bits (e .payload)) s₂) in
+    let weights : Stands bytes (p + (w + w)) (lows ++ highs) = stands-front z r s₂ in
     let source = stands-field w (e .source) h (stands-front x (y ++ (z ++ r)) s) in
     let target = stands-field w (e .target) k (stands-front y (z ++ r) s₁) in
-    let payload = stands-field edge-payload-width (e .payload) l (stands-front z r s₂) in
-    rw (source, target, payload, stands-records w es a b c s₃)
+    let low = stands-field weight-width (e .payload .low) l (stands-front lows highs weights) in
+    let high = stands-field weight-width (e .payload .high) m (stands-rest lows highs (length-bits-of weight-width (e .payload .low)) weights) in
+    rw (source, target, low, high, stands-records w es a b c d s₃)
 
 -- the bits of records stand where they were read
 pub records-stand : (bytes : List ℕ) (p w m : ℕ) → p + record-width w * m ≤ 8 * length bytes → Stands bytes p (edge-bits w (records-at bytes p w m))
@@ -68,14 +91,15 @@ records-stand bytes p w zero h = record { there = refl }
 records-stand bytes p w (suc m) h =
     let source : ℕ = field-at bytes p w in
     let target : ℕ = field-at bytes (p + w) w in
-    let payload = payload-at bytes (p + (w + w)) in
+    let payload : EdgePayload = payload-at bytes (p + (w + w)) in
+    let z : List ℕ = payload-bits payload in
     let rest : List ℕ = edge-bits w (records-at bytes (p + record-width w) w m) in
     let s₃ : Stands bytes (p + (w + w) + edge-payload-width) rest = stands-at (omega arith) (records-stand bytes (p + record-width w) w m (omega arith)) in
-    let s₂ : Stands bytes (p + (w + w)) (payload-bits payload ++ rest) =
-    stands-append (payload-bits payload) rest (length-bits-of edge-payload-width payload) (field-stands bytes (p + (w + w)) edge-payload-width (omega arith)) s₃ in
-    let s₁ : Stands bytes (p + w) (bits-of w target ++ (payload-bits payload ++ rest)) =
-    stands-append (bits-of w target) (payload-bits payload ++ rest) (length-bits-of w target) (field-stands bytes (p + w) w (omega arith)) (stands-at (omega arith) s₂) in
-    stands-append (bits-of w source) (bits-of w target ++ (payload-bits payload ++ rest)) (length-bits-of w source) (field-stands bytes p w (omega arith)) s₁
+    let s₂ : Stands bytes (p + (w + w)) (z ++ rest) =
+    stands-append z rest (length-payload-bits payload) (payload-stands bytes (p + (w + w)) (omega arith)) s₃ in
+    let s₁ : Stands bytes (p + w) (bits-of w target ++ (z ++ rest)) =
+    stands-append (bits-of w target) (z ++ rest) (length-bits-of w target) (field-stands bytes (p + w) w (omega arith)) (stands-at (omega arith) s₂) in
+    stands-append (bits-of w source) (bits-of w target ++ (z ++ rest)) (length-bits-of w source) (field-stands bytes p w (omega arith)) s₁
 
 -- ---- the whole
 

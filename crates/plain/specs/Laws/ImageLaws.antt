@@ -2,23 +2,28 @@
 use Prim.Native.Nat.{ℕ, _+_, _-_, _*_, _^_, _<_}
 use mathlib.Core.Path.{_≡_, sym, ap, ap₂, _∙_}
 use mathlib.Core.Bool.{true, _&&_, and-eq-true-iff}
+use mathlib.Core.Logic.{⊎-elim}
 use mathlib.Core.List.{List, _++_, map}
 use native.Mathlib.Omega.{arith}
 use native.Mathlib.Nat.{zero-add}
-use lib.ListN.{length, getD, length-append, length-map}
+use lib.ListN.{length, getD, length-append, length-map, List·getD-map, List·getD-eq-default}
 use lib.Dec.{ltb, lit<}
 use lib.Pow.{pow-pos}
-use Rattle.plain.specs.Lists.{joined, all, distinct}
-use Rattle.plain.specs.Compaction.{Survivors, source-of, target-of}
+use Rattle.plain.specs.Lists.{sum, joined, all, distinct}
+use Rattle.plain.specs.Plain.{no-payload}
+use Rattle.plain.specs.Compaction.{EdgeRecord, Survivors, source-of, target-of, payload-of}
 use Rattle.plain.specs.Bits.{bits-of, bits, field-at, fields-at, bytes-for, padding, least-width}
-use Rattle.plain.specs.Image.{image-bits, image, nodes-in, edges-in, edges-start, outs-start, ins-start, image-size, records-at, cut, list-lengths, parsed, at-their-nodes, lists-right, broken-image, count-width, node-payload-width, edge-payload-width, nodes-start}
-use Rattle.plain.specs.WellFormed.{Fitted, Sound}
+use Rattle.plain.specs.Image.{count-width, node-payload-width, weight-width, image-bits, image, nodes-in, edges-in, nodes-start, edges-start, outs-start, ins-start, image-size, records-at, cut, list-lengths, parsed, at-their-nodes, lists-right, broken-image}
+use Rattle.plain.specs.WellFormed.{Weighed, Fitted, Sound}
+use Rattle.plain.specs.Laws.Booleans.{below-or-not}
+use Rattle.plain.specs.Laws.Operating.{no-payload-weighed}
+use Rattle.plain.specs.Laws.Compacting.{no-ends}
 use Rattle.plain.specs.Laws.Below.{Below, below-mono, below-at, below-within, below-of, below-all}
 use Rattle.plain.specs.Laws.Bits.{length-bits-of, length-fields-at, below-fields-at}
 use Rattle.plain.specs.Laws.Packing.{Stands, stands-front, stands-rest, stands-append, stands-field, field-stands, stands-row, fields-stand, stands-whole, length-pack, below-pack, pack-stands, packed}
 use Rattle.plain.specs.Laws.Width.{width-holds}
-use Rattle.plain.specs.Laws.Cutting.{sum, length-joined, cut-joined, joined-cut, lengths-cut, sum-list-lengths}
-use Rattle.plain.specs.Laws.ImageBits.{payload-of, Parts, parts, whole, length-image-bits, below-image-bits, length-records-at, below-payloads-at, stands-records, records-stand}
+use Rattle.plain.specs.Laws.Cutting.{length-joined, cut-joined, joined-cut, lengths-cut, sum-list-lengths}
+use Rattle.plain.specs.Laws.ImageBits.{record-low, record-high, Parts, parts, whole, length-image-bits, below-image-bits, length-records-at, below-highs-at, stands-records, records-stand}
 use Rattle.plain.specs.Laws.Refusals.{Counted, Sized, Padded, Ended, Readable, accepted, readable, sources-in, targets-in, size-in, length-edges-in, below-edges}
 
 -- ---- one direction
@@ -108,10 +113,15 @@ module _ (s : Survivors) (h : Sound s) where
       → Below (2 ^ edge-width s) (joined lists)
   below-entries f e = below-mono (rw e (width-holds (length (s .edges)) (omega arith))) (fitted-below f)
 
+  weights : (e : ℕ) → Weighed (payload-of (getD (s .edges) e no-ends))
+  weights e = rw (List·getD-map payload-of (s .edges) e no-ends) at (h .edge-payloads e)
+
   edges-read : records-at (image s) (edges-start (length (s .nodes))) (node-width s) (length (s .edges)) ≡ s .edges
   edges-read =
       stands-records (node-width s) (s .edges) (below-ends (h .outs)) (below-ends (h .ins))
-      (below-of (map payload-of (s .edges)) (λ e l. h .edge-payloads e)) (stand .edges)
+      (below-of (map record-low (s .edges)) (λ e l. let weighed = weights e in omega (arith, List·getD-map record-low (s .edges) e no-ends, weighed .in-order, weighed .fits)))
+      (below-of (map record-high (s .edges)) (λ e l. let weighed = weights e in omega (arith, List·getD-map record-high (s .edges) e no-ends, weighed .fits)))
+      (stand .edges)
 
   outs-read : fields-at (image s) (outs-start (length (s .nodes)) (length (s .edges))) (edge-width s) (length (s .edges)) ≡ joined (s .outs)
   outs-read = rw outs-joined at (stands-row (edge-width s) (below-entries (h .outs) (length-map (s .edges) source-of)) (stand .outs))
@@ -144,6 +154,7 @@ module _ (s : Survivors) (h : Sound s) where
         padded = padded;
         sources-below = rw (read-back, nodes-counted, edges-counted) (λ e k. h .outs .ends-below e (rw length-map k));
         targets-below = rw (read-back, nodes-counted, edges-counted) (λ e k. h .ins .ends-below e (rw length-map k));
+        in-order = rw (read-back, edges-counted) (λ e k. omega (arith, List·getD-map record-low (s .edges) e no-ends, List·getD-map record-high (s .edges) e no-ends, weights e .in-order));
       } in
       record { ended = ended; outs-right = rw read-back (h .outs .right); ins-right = rw read-back (h .ins .right) }
 
@@ -194,6 +205,23 @@ module _ (bytes : List ℕ) (q : broken-image bytes ≡ 0) where
   below-targets : Below (nodes-in bytes) (targets-in bytes)
   below-targets = below-edges bytes target-of (rules .ended .targets-below)
 
+  weights-read : (e : ℕ) → Weighed (getD (map payload-of (parsed bytes .edges)) e no-payload)
+  unfolding parsed
+  weights-read e =
+      let n : ℕ = nodes-in bytes in
+      let m : ℕ = edges-in bytes in
+      let es : List EdgeRecord = records-at bytes (edges-start n) (least-width n) m in
+      let low = List·getD-map record-low es e no-ends in
+      let high = List·getD-map record-high es e no-ends in
+      rw (List·getD-map payload-of es e no-ends)
+      (⊎-elim
+      (λ (l : e < m). record {
+        in-order = let ordered = rules .ended .in-order e l in omega (arith, low, high, ordered);
+        fits = let below = below-at (pow-pos weight-width) (below-highs-at bytes (edges-start n) (least-width n) m) e in omega (arith, high, below);
+      })
+      (λ l. rw (List·getD-eq-default es no-ends {n = e} (rw length-records-at l)) no-payload-weighed)
+      (below-or-not e m))
+
   -- what is accepted is sound
   pub parsed-sound : Sound (parsed bytes)
   unfolding parsed
@@ -205,7 +233,7 @@ module _ (bytes : List ℕ) (q : broken-image bytes ≡ 0) where
         nodes-within = rw (nodes-length bytes) (counted .nodes-within);
         edges-within = rw (edges-length bytes) (counted .edges-within);
         node-payloads = below-at (pow-pos node-payload-width) (below-fields-at bytes nodes-start node-payload-width n);
-        edge-payloads = below-at (pow-pos edge-payload-width) (below-payloads-at bytes (edges-start n) (least-width n) m);
+        edge-payloads = weights-read;
         outs = rw (nodes-length bytes) (lists-fitted bytes (outs-start n m) (length-edges-in bytes source-of) below-sources (rules .outs-right));
         ins = rw (nodes-length bytes) (lists-fitted bytes (ins-start n m) (length-edges-in bytes target-of) below-targets (rules .ins-right));
       }

@@ -116,6 +116,19 @@ all-member test (y ∷ ys) h x k =
     by-test (eqb x y) (λ q. ap test (eqb-true x y q) ∙ and-left (test y) (all test ys) h)
     (λ q. all-member test ys (and-right (test y) (all test ys) h) x (or-other k q))
 
+-- all pass a test where what stands at each place does
+pub all-places : {A : Type 0} (test : A → Bool) (xs : List A) (d : A) → ((i : ℕ) → i < length xs → test (getD xs i d) ≡ true) → all test xs ≡ true
+unfolding all
+all-places test [] d each = refl
+all-places test (x ∷ xs) d each = both-true (each 0 (omega arith)) (all-places test xs d (λ i h. each (suc i) (omega arith)))
+
+-- and the other way round
+pub all-at : {A : Type 0} (test : A → Bool) (xs : List A) (d : A) → all test xs ≡ true → (i : ℕ) → i < length xs → test (getD xs i d) ≡ true
+unfolding all
+all-at test [] d h i l = absurd (omega arith)
+all-at test (x ∷ xs) d h zero l = and-left (test x) (all test xs) h
+all-at test (x ∷ xs) d h (suc i) l = all-at test xs d (and-right (test x) (all test xs) h) i (omega arith)
+
 -- ---- filters and counts
 
 -- the members of a filter are the members that pass

@@ -10,10 +10,11 @@ use lib.Dec.{eqb, lit<}
 use borrow.Author.Tests.{eq-eqb, ne-eqb, eqb-true, not-true}
 use Rattle.plain.specs.declared.TraversalDirection.{TraversalDirection}
 use Rattle.plain.specs.declared.TraversalDirection.the-variants.{Outgoing, Incoming}
+use Rattle.plain.specs.declared.EdgePayload.{EdgePayload}
 use Rattle.plain.specs.Lists.{member, without, distinct}
-use Rattle.plain.specs.Plain.{Plain, NodeSlot, EdgeSlot, Incidence, incidence, with-incidence, no-node, no-edge, killed-node, killed-edge, node-bound, edge-bound, node-flags, edge-flags, list-of, end-of, attached, detached, redirected, moved, empty, node-added, edge-added, edge-removed, edges-removed, node-removed, payload-set}
+use Rattle.plain.specs.Plain.{Plain, NodeSlot, EdgeSlot, Incidence, incidence, with-incidence, no-node, no-payload, no-edge, killed-node, killed-edge, node-bound, edge-bound, node-flags, edge-flags, list-of, end-of, attached, detached, redirected, moved, empty, node-added, edge-added, edge-removed, edges-removed, node-removed, payload-set}
 use Rattle.plain.specs.Step.{Capacities}
-use Rattle.plain.specs.WellFormed.{Incident, WellFormed}
+use Rattle.plain.specs.WellFormed.{Weighed, Incident, WellFormed}
 use Rattle.plain.specs.Laws.Booleans.{by-test, true-false, and-left, and-right, and-false, and-true, or-true, or-other, refuted}
 use Rattle.plain.specs.Laws.Deleting.{getD-set, getD-snoc, map-set, without-all}
 use Rattle.plain.specs.Laws.ListLaws.{map-snoc, member-append, without-absent}
@@ -78,6 +79,10 @@ empty-direction = record {
   once = λ x. refl;
 }
 
+-- what stands past the end of a list of edge slots
+pub no-payload-weighed : Weighed no-payload
+no-payload-weighed = record { in-order = omega arith; fits = lit< tt }
+
 -- a fresh store's lists
 pub empty-well-formed : (caps : Capacities) → WellFormed caps empty
 empty-well-formed caps = record {
@@ -87,7 +92,7 @@ empty-well-formed caps = record {
   incoming = empty-direction;
   ends-live = λ d e l. absurd (false≢true l);
   node-payloads = λ x. lit< tt;
-  edge-payloads = λ e. lit< tt;
+  edge-payloads = λ e. no-payload-weighed;
 }
 
 pub node-added-well-formed : {caps : Capacities} {p : Plain} (v : ℕ) → v < 2 ^ 32 → node-bound p < caps .nodes → WellFormed caps p → WellFormed caps (node-added v p)
@@ -127,10 +132,10 @@ module _ (p : Plain) (i : Incidence) (x : ℕ) (live : getD (node-flags p) x fal
       (by-test (eqb e (length (edge-flags p))) (λ q. rw q live)
       (λ q. rw q (k e (rw (getD-snoc (edge-flags p) e true false, q) at l))))
 
-pub edge-added-well-formed : {caps : Capacities} {p : Plain} (s t v : ℕ) → getD (node-flags p) s false ≡ true → getD (node-flags p) t false ≡ true
-    → v < 2 ^ 32 → edge-bound p < caps .edges → WellFormed caps p → WellFormed caps (edge-added s t v p)
+pub edge-added-well-formed : {caps : Capacities} {p : Plain} (s t : ℕ) (v : EdgePayload) → getD (node-flags p) s false ≡ true → getD (node-flags p) t false ≡ true
+    → Weighed v → edge-bound p < caps .edges → WellFormed caps p → WellFormed caps (edge-added s t v p)
 unfolding edge-added
-edge-added-well-formed {caps} {p} s t v live-s live-t fits room h =
+edge-added-well-formed {caps} {p} s t v live-s live-t weighed room h =
     let slot : EdgeSlot = record { payload = v; live = true } in
     let flags = map-snoc (λ (s : EdgeSlot). s .live) (p .edges) slot in
     record {
@@ -141,7 +146,7 @@ edge-added-well-formed {caps} {p} s t v live-s live-t fits room h =
       ends-live = each-way _ (λ e l. added-live p (p .outgoing) s live-s (h .outgoing) (h .ends-live Outgoing) e (rw flags at l))
           (λ e l. added-live p (p .incoming) t live-t (h .incoming) (h .ends-live Incoming) e (rw flags at l));
       node-payloads = h .node-payloads;
-      edge-payloads = λ e. rw (getD-snoc (p .edges) e slot no-edge) (by-test (eqb e (length (p .edges))) (λ q. rw q fits) (λ q. rw q (h .edge-payloads e)));
+      edge-payloads = λ e. rw (getD-snoc (p .edges) e slot no-edge) (by-test (eqb e (length (p .edges))) (λ q. rw q weighed) (λ q. rw q (h .edge-payloads e)));
     }
 
 -- a flag that is set after another was cleared was set before
@@ -294,9 +299,10 @@ module _ {caps : Capacities} {p : Plain} (x : ℕ) (live : getD (node-flags p) x
 
 -- ---- the rest
 
-pub payload-set-well-formed : {caps : Capacities} {p : Plain} (e v : ℕ) → e < edge-bound p → v < 2 ^ 32 → WellFormed caps p → WellFormed caps (payload-set e v p)
+pub payload-set-well-formed : {caps : Capacities} {p : Plain} (e : ℕ) (v : EdgePayload) → e < edge-bound p → Weighed v → WellFormed caps p
+    → WellFormed caps (payload-set e v p)
 unfolding payload-set
-payload-set-well-formed {caps} {p} e v low fits h =
+payload-set-well-formed {caps} {p} e v low weighed h =
     let slot : EdgeSlot = record { payload = v; live = getD (p .edges) e no-edge .live } in
     let flags : map (λ (s : EdgeSlot). s .live) (set (p .edges) e slot) ≡ edge-flags p = map-set-same (λ (s : EdgeSlot). s .live) (p .edges) e slot no-edge refl in
     record {
@@ -306,7 +312,7 @@ payload-set-well-formed {caps} {p} e v low fits h =
       incoming = rw flags (h .incoming);
       ends-live = each-way _ (λ k l. h .ends-live Outgoing k (rw flags at l)) (λ k l. h .ends-live Incoming k (rw flags at l));
       node-payloads = h .node-payloads;
-      edge-payloads = λ k. rw (getD-set (p .edges) e k slot no-edge low) (by-test (eqb k e) (λ q. rw q fits) (λ q. rw q (h .edge-payloads k)));
+      edge-payloads = λ k. rw (getD-set (p .edges) e k slot no-edge low) (by-test (eqb k e) (λ q. rw q weighed) (λ q. rw q (h .edge-payloads k)));
     }
 
 pub redirected-well-formed : {caps : Capacities} {p : Plain} (d : TraversalDirection) (e x : ℕ) → getD (edge-flags p) e false ≡ true

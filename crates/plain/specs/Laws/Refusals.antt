@@ -5,17 +5,19 @@ use mathlib.Core.Bool.{Bool, true, false, cond, not, _&&_, _||_, true≢false, a
 use mathlib.Core.Logic.{_⊎_, ⊎-elim}
 use mathlib.Core.List.{List, [], _∷_, map}
 use native.Mathlib.Omega.{arith}
-use lib.ListN.{length, getD, length-map}
-use lib.Dec.{eqb, ltb}
-use borrow.Author.Tests.{ltb-true, ltb-false, lt-ltb, le-ltb, eqb-true, eq-eqb, ne-eqb, not-false}
+use lib.ListN.{length, getD, length-map, List·getD-map}
+use lib.Dec.{eqb, ltb, leb}
+use borrow.Author.Tests.{ltb-true, ltb-false, lt-ltb, le-ltb, le-leb, leb-true, eqb-true, eq-eqb, ne-eqb, not-false}
 use Rattle.plain.specs.Numbers.{LIMIT}
 use Rattle.plain.specs.Lists.{member, distinct, from, all, count, joined}
 use Rattle.plain.specs.Compaction.{EdgeRecord, source-of, target-of}
 use Rattle.plain.specs.Bits.{bits-of, value-of, bits, field-at, fields-at, bytes-for, least-from, least-width}
-use Rattle.plain.specs.Image.{nodes-in, edges-in, image-size, records-at, cut, parsed, at-their-nodes, lists-right, broken-image}
-use Rattle.plain.specs.Laws.Booleans.{refuted}
-use Rattle.plain.specs.Laws.Below.{Below, none, more, below-of, below-within}
-use Rattle.plain.specs.Laws.ImageBits.{length-records-at}
+use Rattle.plain.specs.Image.{nodes-in, edges-in, image-size, records-at, cut, parsed, record-right, at-their-nodes, lists-right, broken-image}
+use Rattle.plain.specs.Laws.Booleans.{refuted, and-left, and-right, both-true}
+use Rattle.plain.specs.Laws.ListLaws.{all-places, all-at}
+use Rattle.plain.specs.Laws.Compacting.{no-ends}
+use Rattle.plain.specs.Laws.Below.{Below, below-of}
+use Rattle.plain.specs.Laws.ImageBits.{record-low, record-high, length-records-at}
 
 -- ---- what the rules say
 
@@ -25,6 +27,13 @@ sources-in bytes = map source-of (parsed bytes .edges)
 
 abbrev pub targets-in : List ℕ → List ℕ
 targets-in bytes = map target-of (parsed bytes .edges)
+
+-- and their weights
+abbrev pub lows-in : List ℕ → List ℕ
+lows-in bytes = map record-low (parsed bytes .edges)
+
+abbrev pub highs-in : List ℕ → List ℕ
+highs-in bytes = map record-high (parsed bytes .edges)
 
 abbrev pub size-in : List ℕ → ℕ
 size-in bytes = image-size (nodes-in bytes) (edges-in bytes)
@@ -53,6 +62,7 @@ pub record Ended (bytes : List ℕ) : Type 0 where
   pub padded : Padded bytes
   pub sources-below : (e : ℕ) → e < edges-in bytes → getD (sources-in bytes) e 0 < nodes-in bytes
   pub targets-below : (e : ℕ) → e < edges-in bytes → getD (targets-in bytes) e 0 < nodes-in bytes
+  pub in-order : (e : ℕ) → e < edges-in bytes → getD (lows-in bytes) e 0 ≤ getD (highs-in bytes) e 0
 
 -- All six hold.
 pub record Readable (bytes : List ℕ) : Type 0 where
@@ -62,24 +72,26 @@ pub record Readable (bytes : List ℕ) : Type 0 where
 
 -- ---- each rule's test
 
--- the test of one edge's ends
-abbrev ends-within : ℕ → EdgeRecord → Bool
-ends-within n e = ltb (e .source) n && ltb (e .target) n
+-- Rule 5 of one edge holds.
+record Right (n : ℕ) (e : EdgeRecord) : Type 0 where
+  source-below : e .source < n
+  target-below : e .target < n
+  weights-in-order : e .payload .low ≤ e .payload .high
 
--- all ends are below n exactly where the sources are and the targets are
-all-ends : {n : ℕ} (es : List EdgeRecord) → Below n (map source-of es) → Below n (map target-of es) → all (ends-within n) es ≡ true
-unfolding all
-all-ends [] a b = refl
-all-ends {n} (e ∷ es) (more h a) (more k b) = rw (lt-ltb (e .source) n h, lt-ltb (e .target) n k) (all-ends es a b)
+right-test : {n : ℕ} {e : EdgeRecord} → Right n e → record-right n e ≡ true
+right-test {n} {e} h =
+    both-true (lt-ltb (e .source) n (h .source-below)) (both-true (lt-ltb (e .target) n (h .target-below)) (le-leb (e .payload .low) (e .payload .high) (h .weights-in-order)))
 
-ends-all : {n : ℕ} (es : List EdgeRecord) → all (ends-within n) es ≡ true → Below n (map source-of es) × Below n (map target-of es)
-unfolding all
-ends-all [] q = (none, none)
-ends-all {n} (e ∷ es) q =
-    let both = and-eq-true-iff (ends-within n e) (all (ends-within n) es) .0 q in
-    let ends = and-eq-true-iff (ltb (e .source) n) (ltb (e .target) n) .0 (both .0) in
-    let rest = ends-all es (both .1) in
-    (more (ltb-true (e .source) n (ends .0)) (rest .0), more (ltb-true (e .target) n (ends .1)) (rest .1))
+test-right : (n : ℕ) (e : EdgeRecord) → record-right n e ≡ true → Right n e
+test-right n e q =
+    let target : Bool = ltb (e .target) n in
+    let weights : Bool = leb (e .payload .low) (e .payload .high) in
+    let rest = and-right (ltb (e .source) n) (target && weights) q in
+    record {
+      source-below = ltb-true (e .source) n (and-left (ltb (e .source) n) (target && weights) q);
+      target-below = ltb-true (e .target) n (and-left target weights rest);
+      weights-in-order = leb-true (e .payload .low) (e .payload .high) (and-right target weights rest);
+    }
 
 -- a number of each edge, as many as there are edges
 pub length-edges-in : (bytes : List ℕ) (f : EdgeRecord → ℕ) → length (map f (parsed bytes .edges)) ≡ edges-in bytes
@@ -90,10 +102,6 @@ length-edges-in bytes f = simp (length-map, length-records-at)
 pub below-edges : (bytes : List ℕ) (f : EdgeRecord → ℕ) {n : ℕ} → ((e : ℕ) → e < edges-in bytes → getD (map f (parsed bytes .edges)) e 0 < n)
     → Below n (map f (parsed bytes .edges))
 below-edges bytes f h = below-of (map f (parsed bytes .edges)) (λ e k. h e (omega (arith, length-edges-in bytes f)))
-
-edges-below : (bytes : List ℕ) (f : EdgeRecord → ℕ) {n : ℕ} → Below n (map f (parsed bytes .edges)) → (e : ℕ) → e < edges-in bytes
-    → getD (map f (parsed bytes .edges)) e 0 < n
-edges-below bytes f s e h = below-within s e (omega (arith, length-edges-in bytes f))
 
 -- Six tests that all fail.
 record Six (a b c d e f : Bool) : Type 0 where
@@ -131,9 +139,32 @@ module _ (bytes : List ℕ) where
   test₄ : Padded bytes → not (eqb (padding-in bytes) 0) ≡ false
   test₄ c = ap not (eq-eqb (padding-in bytes) 0 (c .padding-clear))
 
-  test₅ : Ended bytes → not (all (ends-within (nodes-in bytes)) (parsed bytes .edges)) ≡ false
+  -- an edge of the image, below the edge count
+  edge-in : ℕ → EdgeRecord
+  edge-in e = getD (parsed bytes .edges) e no-ends
+
+  -- a number of it
+  of-edge : (f : EdgeRecord → ℕ) (e : ℕ) → getD (map f (parsed bytes .edges)) e (f no-ends) ≡ f (edge-in e)
+  unfolding edge-in
+  of-edge f e = List·getD-map f (parsed bytes .edges) e no-ends
+
+  -- rule 5 of each edge
+  right-at : all (record-right (nodes-in bytes)) (parsed bytes .edges) ≡ true → (e : ℕ) → e < edges-in bytes → Right (nodes-in bytes) (edge-in e)
+  unfolding edge-in
+  right-at q e h =
+      test-right (nodes-in bytes) (getD (parsed bytes .edges) e no-ends) (all-at (record-right (nodes-in bytes)) (parsed bytes .edges) no-ends q e
+      (omega (arith, length-edges-in bytes source-of, length-map (parsed bytes .edges) source-of)))
+
+  test₅ : Ended bytes → not (all (record-right (nodes-in bytes)) (parsed bytes .edges)) ≡ false
+  unfolding edge-in
   test₅ c =
-      ap not (all-ends (parsed bytes .edges) (below-edges bytes source-of (c .sources-below)) (below-edges bytes target-of (c .targets-below)))
+      ap not (all-places (record-right (nodes-in bytes)) (parsed bytes .edges) no-ends
+      (λ e k. let low : e < edges-in bytes = omega (arith, length-edges-in bytes source-of, length-map (parsed bytes .edges) source-of) in
+      right-test {n = nodes-in bytes} {e = getD (parsed bytes .edges) e no-ends} (record {
+        source-below = omega (arith, of-edge source-of e, c .sources-below e low);
+        target-below = omega (arith, of-edge target-of e, c .targets-below e low);
+        weights-in-order = omega (arith, of-edge record-low e, of-edge record-high e, c .in-order e low);
+      })))
 
   test₆ : Readable bytes → not (lists-right (sources-in bytes) (parsed bytes .outs) && lists-right (targets-in bytes) (parsed bytes .ins)) ≡ false
   test₆ c = rw (c .outs-right, c .ins-right)
@@ -163,15 +194,17 @@ module _ (bytes : List ℕ) where
   unfolding broken-image
   refused-4 c h = rw (test₁ (c .counted .four), test₂ (c .counted), test₃ c, ne-eqb (padding-in bytes) 0 h)
 
-  -- an end not below n: 5
+  -- an end not below n, or a low above its high: 5
   pub refused-5 : Padded bytes → (e : ℕ) → e < edges-in bytes
-      → (nodes-in bytes ≤ getD (sources-in bytes) e 0) ⊎ (nodes-in bytes ≤ getD (targets-in bytes) e 0) → broken-image bytes ≡ 5
+      → (nodes-in bytes ≤ getD (sources-in bytes) e 0) ⊎ ((nodes-in bytes ≤ getD (targets-in bytes) e 0) ⊎ (getD (highs-in bytes) e 0 < getD (lows-in bytes) e 0))
+      → broken-image bytes ≡ 5
   unfolding broken-image
   refused-5 c e h o =
-      let es : List EdgeRecord = parsed bytes .edges in
-      let astray : all (ends-within (nodes-in bytes)) es ≡ false =
-      refuted _ (λ q. ⊎-elim (λ l. omega (arith, edges-below bytes source-of (ends-all es q .0) e h))
-      (λ l. omega (arith, edges-below bytes target-of (ends-all es q .1) e h)) o) in
+      let astray : all (record-right (nodes-in bytes)) (parsed bytes .edges) ≡ false =
+      refuted _ (λ q. let right = right-at q e h in
+      ⊎-elim (λ l. omega (arith, of-edge source-of e, right .source-below))
+      (⊎-elim (λ l. omega (arith, of-edge target-of e, right .target-below))
+      (λ l. omega (arith, of-edge record-low e, of-edge record-high e, right .weights-in-order))) o) in
       rw (test₁ (c .sized .counted .four), test₂ (c .sized .counted), test₃ (c .sized), test₄ c, astray)
 
   -- a list that is not right: 6
@@ -196,10 +229,10 @@ module _ (bytes : List ℕ) where
   unfolding broken-image
   readable q =
       let t = six (ltb (length bytes) 4) (ltb LIMIT (nodes-in bytes) || ltb LIMIT (edges-in bytes)) (not (eqb (length bytes) (bytes-for (size-in bytes))))
-      (not (eqb (padding-in bytes) 0)) (not (all (ends-within (nodes-in bytes)) (parsed bytes .edges)))
+      (not (eqb (padding-in bytes) 0)) (not (all (record-right (nodes-in bytes)) (parsed bytes .edges)))
       (not (lists-right (sources-in bytes) (parsed bytes .outs) && lists-right (targets-in bytes) (parsed bytes .ins))) q in
       let counts = neither (ltb LIMIT (nodes-in bytes)) (ltb LIMIT (edges-in bytes)) (t .second) in
-      let ends = ends-all (parsed bytes .edges) (not-false _ (t .fifth)) in
+      let right = right-at (not-false _ (t .fifth)) in
       let lists = and-eq-true-iff (lists-right (sources-in bytes) (parsed bytes .outs)) (lists-right (targets-in bytes) (parsed bytes .ins)) .0 (not-false _ (t .sixth)) in
       let counted : Counted bytes = record {
         four = ltb-false (length bytes) 4 (t .first);
@@ -210,14 +243,15 @@ module _ (bytes : List ℕ) where
       let padded : Padded bytes = record { sized = sized; padding-clear = eqb-true (padding-in bytes) 0 (not-false _ (t .fourth)) } in
       let ended : Ended bytes = record {
         padded = padded;
-        sources-below = edges-below bytes source-of (ends .0);
-        targets-below = edges-below bytes target-of (ends .1);
+        sources-below = λ e h. omega (arith, of-edge source-of e, right e h .source-below);
+        targets-below = λ e h. omega (arith, of-edge target-of e, right e h .target-below);
+        in-order = λ e h. omega (arith, of-edge record-low e, of-edge record-high e, right e h .weights-in-order);
       } in
       record { ended = ended; outs-right = lists .0; ins-right = lists .1 }
 
 -- ---- examples
 
--- Each rule refuses an image, and the sixth for each of its three reasons.
+-- Each rule refuses an image, and the fifth and the sixth for each of their reasons.
 pub record Refusals : Type 0 where
   -- three bytes
   pub under-four : broken-image (0 ∷ 0 ∷ 0 ∷ []) ≡ 1
@@ -226,20 +260,22 @@ pub record Refusals : Type 0 where
   -- one edge, and no byte of it
   pub other-length : broken-image (0 ∷ 0 ∷ 0 ∷ 1 ∷ []) ≡ 3
   -- a node with two edges to itself, and the last bit set
-  pub padding-set : broken-image (0 ∷ 1 ∷ 0 ∷ 2 ∷ 0 ∷ 0 ∷ 0 ∷ 0 ∷ 0 ∷ 0 ∷ 0 ∷ 0 ∷ 0 ∷ 0 ∷ 0 ∷ 0 ∷ 0x51 ∷ []) ≡ 4
+  pub padding-set : broken-image (0 ∷ 1 ∷ 0 ∷ 2 ∷ 0 ∷ 0 ∷ 0 ∷ 0 ∷ 0 ∷ 0 ∷ 0 ∷ 0 ∷ 0 ∷ 0 ∷ 0 ∷ 0 ∷ 0 ∷ 0 ∷ 0 ∷ 0 ∷ 0 ∷ 0 ∷ 0 ∷ 0 ∷ 0x51 ∷ []) ≡ 4
   -- an edge, and no node
-  pub end-not-below : broken-image (0 ∷ 0 ∷ 0 ∷ 1 ∷ 0 ∷ 0 ∷ 0 ∷ 0 ∷ []) ≡ 5
+  pub end-not-below : broken-image (0 ∷ 0 ∷ 0 ∷ 1 ∷ 0 ∷ 0 ∷ 0 ∷ 0 ∷ 0 ∷ 0 ∷ 0 ∷ 0 ∷ []) ≡ 5
+  -- a node with an edge to itself whose low is 1 and whose high is 0
+  pub low-above-high : broken-image (0 ∷ 1 ∷ 0 ∷ 1 ∷ 0 ∷ 0 ∷ 0 ∷ 0 ∷ 0 ∷ 0 ∷ 0 ∷ 1 ∷ 0 ∷ 0 ∷ 0 ∷ 0 ∷ []) ≡ 5
   -- a node with three edges to itself, and 0, 1, 3 for its out-list
   pub entry-not-below : broken-image
-      (0 ∷ 1 ∷ 0 ∷ 3 ∷ 0 ∷ 0 ∷ 0 ∷ 0 ∷ 0 ∷ 0 ∷ 0 ∷ 0 ∷ 0 ∷ 0 ∷ 0 ∷ 0 ∷ 0 ∷ 0 ∷ 0 ∷ 0 ∷ 0x1c ∷ 0x60 ∷ []) ≡ 6
+      (0 ∷ 1 ∷ 0 ∷ 3 ∷ 0 ∷ 0 ∷ 0 ∷ 0 ∷ 0 ∷ 0 ∷ 0 ∷ 0 ∷ 0 ∷ 0 ∷ 0 ∷ 0 ∷ 0 ∷ 0 ∷ 0 ∷ 0 ∷ 0 ∷ 0 ∷ 0 ∷ 0 ∷ 0 ∷ 0 ∷ 0 ∷ 0 ∷ 0 ∷ 0 ∷ 0 ∷ 0 ∷ 0x1c ∷ 0x60 ∷ []) ≡ 6
   -- a node with two edges to itself, and 0, 0 for its out-list
-  pub entry-repeated : broken-image (0 ∷ 1 ∷ 0 ∷ 2 ∷ 0 ∷ 0 ∷ 0 ∷ 0 ∷ 0 ∷ 0 ∷ 0 ∷ 0 ∷ 0 ∷ 0 ∷ 0 ∷ 0 ∷ 0x10 ∷ []) ≡ 6
+  pub entry-repeated : broken-image (0 ∷ 1 ∷ 0 ∷ 2 ∷ 0 ∷ 0 ∷ 0 ∷ 0 ∷ 0 ∷ 0 ∷ 0 ∷ 0 ∷ 0 ∷ 0 ∷ 0 ∷ 0 ∷ 0 ∷ 0 ∷ 0 ∷ 0 ∷ 0 ∷ 0 ∷ 0 ∷ 0 ∷ 0x10 ∷ []) ≡ 6
   -- two nodes with an edge to itself each, and the edges at the other's out-list
   pub entry-astray : broken-image
-      (0 ∷ 2 ∷ 0 ∷ 2 ∷ 0 ∷ 0 ∷ 0 ∷ 0 ∷ 0 ∷ 0 ∷ 0 ∷ 0 ∷ 0 ∷ 0 ∷ 0 ∷ 0 ∷ 0x30 ∷ 0 ∷ 0 ∷ 0 ∷ 0x09 ∷ []) ≡ 6
+      (0 ∷ 2 ∷ 0 ∷ 2 ∷ 0 ∷ 0 ∷ 0 ∷ 0 ∷ 0 ∷ 0 ∷ 0 ∷ 0 ∷ 0 ∷ 0 ∷ 0 ∷ 0 ∷ 0 ∷ 0 ∷ 0 ∷ 0 ∷ 0x30 ∷ 0 ∷ 0 ∷ 0 ∷ 0 ∷ 0 ∷ 0 ∷ 0 ∷ 0x09 ∷ []) ≡ 6
   -- and with the edges at their own it is an image
   pub all-right : broken-image
-      (0 ∷ 2 ∷ 0 ∷ 2 ∷ 0 ∷ 0 ∷ 0 ∷ 0 ∷ 0 ∷ 0 ∷ 0 ∷ 0 ∷ 0 ∷ 0 ∷ 0 ∷ 0 ∷ 0x30 ∷ 0 ∷ 0 ∷ 0 ∷ 0x05 ∷ []) ≡ 0
+      (0 ∷ 2 ∷ 0 ∷ 2 ∷ 0 ∷ 0 ∷ 0 ∷ 0 ∷ 0 ∷ 0 ∷ 0 ∷ 0 ∷ 0 ∷ 0 ∷ 0 ∷ 0 ∷ 0 ∷ 0 ∷ 0 ∷ 0 ∷ 0x30 ∷ 0 ∷ 0 ∷ 0 ∷ 0 ∷ 0 ∷ 0 ∷ 0 ∷ 0x05 ∷ []) ≡ 0
 
 pub refusals : Refusals
 unfolding member distinct from all count joined bits-of value-of bits field-at fields-at least-from least-width records-at cut parsed at-their-nodes lists-right broken-image
@@ -249,6 +285,7 @@ refusals = record {
   other-length = refl;
   padding-set = refl;
   end-not-below = refl;
+  low-above-high = refl;
   entry-not-below = refl;
   entry-repeated = refl;
   entry-astray = refl;

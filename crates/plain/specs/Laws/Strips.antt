@@ -16,31 +16,34 @@ length-operations [] = refl
 length-operations (a ∷ []) = refl
 length-operations (a ∷ b ∷ []) = refl
 length-operations (a ∷ b ∷ c ∷ []) = refl
-length-operations (a ∷ b ∷ c ∷ d ∷ rest) = let h = length-operations rest in omega arith
+length-operations (a ∷ b ∷ c ∷ d ∷ []) = refl
+length-operations (a ∷ b ∷ c ∷ d ∷ e ∷ rest) = let h = length-operations rest in omega arith
 
 -- past the words of the first operation
-later : (a b c d : ℕ) (rest : List ℕ) (i j : ℕ) → i ≡ operation-words + j → getD (a ∷ b ∷ c ∷ d ∷ rest) i 0 ≡ getD rest j 0
-later a b c d rest i j e =
-    let four : i ≡ suc (suc (suc (suc j))) = omega arith in
-    ap (λ (n : ℕ). getD (a ∷ b ∷ c ∷ d ∷ rest) n 0) four
+later : (a b c d e : ℕ) (rest : List ℕ) (i j : ℕ) → i ≡ operation-words + j → getD (a ∷ b ∷ c ∷ d ∷ e ∷ rest) i 0 ≡ getD rest j 0
+later a b c d e rest i j q =
+    let five : i ≡ suc (suc (suc (suc (suc j)))) = omega arith in
+    ap (λ (n : ℕ). getD (a ∷ b ∷ c ∷ d ∷ e ∷ rest) n 0) five
 
 -- operation i is decoded from its words
 pub operation-at : (words : List ℕ) (i : ℕ) → i < length (operations words)
     → getD (operations words) i Unknown ≡ decoded (getD words (operation-words * i) 0) (getD words (operation-words * i + 1) 0) (getD words (operation-words * i + 2) 0)
-    (getD words (operation-words * i + 3) 0)
+    (getD words (operation-words * i + 3) 0) (getD words (operation-words * i + 4) 0)
 unfolding operations
 operation-at [] i h = absurd (omega arith)
 operation-at (a ∷ []) i h = absurd (omega arith)
 operation-at (a ∷ b ∷ []) i h = absurd (omega arith)
 operation-at (a ∷ b ∷ c ∷ []) i h = absurd (omega arith)
-operation-at (a ∷ b ∷ c ∷ d ∷ rest) zero h = refl
-operation-at (a ∷ b ∷ c ∷ d ∷ rest) (suc i) h =
+operation-at (a ∷ b ∷ c ∷ d ∷ []) i h = absurd (omega arith)
+operation-at (a ∷ b ∷ c ∷ d ∷ e ∷ rest) zero h = refl
+operation-at (a ∷ b ∷ c ∷ d ∷ e ∷ rest) (suc i) h =
     operation-at rest i (omega arith)
     ∙ sym (rw (
-      later a b c d rest (operation-words * suc i) (operation-words * i) (omega arith),
-      later a b c d rest (operation-words * suc i + 1) (operation-words * i + 1) (omega arith),
-      later a b c d rest (operation-words * suc i + 2) (operation-words * i + 2) (omega arith),
-      later a b c d rest (operation-words * suc i + 3) (operation-words * i + 3) (omega arith),
+      later a b c d e rest (operation-words * suc i) (operation-words * i) (omega arith),
+      later a b c d e rest (operation-words * suc i + 1) (operation-words * i + 1) (omega arith),
+      later a b c d e rest (operation-words * suc i + 2) (operation-words * i + 2) (omega arith),
+      later a b c d e rest (operation-words * suc i + 3) (operation-words * i + 3) (omega arith),
+      later a b c d e rest (operation-words * suc i + 4) (operation-words * i + 4) (omega arith),
     ))
 
 -- one operation more

@@ -21,4 +21,7 @@ put-operation-spec =
     (λ c. search needs)
     (λ c. simp length-set (omega arith))
     (λ c. search needs)
+    (λ c. search needs)
+    (λ c. simp length-set (omega arith))
+    (λ c. search needs)
     (λ c. search needs))

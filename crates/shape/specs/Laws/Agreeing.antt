@@ -15,7 +15,7 @@ use Rattle.plain.specs.declared.TraversalDirection.{TraversalDirection}
 use Rattle.plain.specs.declared.Slots.{Slots}
 use Rattle.plain.specs.declared.Counts.{Counts}
 use Rattle.plain.specs.Lists.{member, from}
-use Rattle.plain.specs.Plain.{no-node, no-edge}
+use Rattle.plain.specs.Plain.{low-of, high-of, no-node, no-edge}
 use Rattle.plain.specs.Reads.{live-count}
 use Rattle.plain.specs.Laws.Booleans.{by-test, below-or-not}
 use Rattle.plain.specs.Laws.ListLaws.{length-from, getD-from, getD-map}
@@ -23,10 +23,10 @@ use Rattle.liveness.specs.Flags.{live-flags, packed}
 use Rattle.liveness.specs.FlagLaws.{words-same}
 use Rattle.shape.specs.Columns.{cell, adjacency-at, last-at, first-at, tail-at, count-at, mark-at, offset-at}
 use Rattle.shape.specs.Chains.{In, Seg, Line, Run, Ring}
-use Rattle.shape.specs.Shape.{Words, node-capacity, edge-capacity, axis-words, node-live, edge-live, base-of, run-list, run-of, ring-of, Adjacency, Axis, Shape, adjacency-in, axis-in, axis-of, shape-of, no-adjacency, node-flags-of, edge-flags-of}
+use Rattle.shape.specs.Shape.{Words, node-capacity, edge-capacity, axis-words, node-live, edge-live, edge-payload-at, base-of, run-list, run-of, ring-of, Adjacency, Axis, Shape, adjacency-in, axis-in, axis-of, shape-of, no-adjacency, node-flags-of, edge-flags-of}
 use Rattle.shape.specs.Checked.{SlotsChecked, Indexed, Index, AxisChecked, Checked}
 use Rattle.shape.specs.Kept.{SameLengths, Mark, NewMark, AxisKept, Kept, same-nodes, same-edges}
-use Rattle.shape.specs.Fields.{Column, ends, adjacency, next, links, last, first, tail, count, marks, offsets, begins, AxisField, Place, node-payload, edge-payload, node-bits, edge-bits, axis-word, word-at, Field, SameFields}
+use Rattle.shape.specs.Fields.{Column, ends, adjacency, next, links, last, first, tail, count, marks, offsets, begins, AxisField, Place, node-payload, edge-low, edge-high, node-bits, edge-bits, axis-word, word-at, Field, SameFields}
 use Rattle.shape.specs.Laws.Chains.{in-none, in-snoc, line-last, run-line, run-empty}
 use Rattle.shape.specs.Laws.Frames.{run-list-unmarked, run-of-unmarked}
 use Rattle.shape.specs.Laws.Reading.{node-bound-is, edge-bound-is, node-at, edge-at, node-flags-are, edge-flags-are, axis-is, axis-end, axis-adjacency}
@@ -330,11 +330,15 @@ module _ {w v : Words} (a : Checked w) (b : Checked v) (same : shape-of v ≡ sh
         → SameFields w v
     shape-fields w-narrow v-narrow marked-same = record { counts = counts-same; lengths = long; words = each }
       where
+        payload-same : (e : ℕ) → e < w .counts .edges .bound → edge-payload-at v e ≡ edge-payload-at w e
+        payload-same e h =
+            sym (edge-at v e (rw edges-same h)) ∙ ap (λ (s : Shape). getD (s .edges) e no-edge .payload) same ∙ edge-at w e h
+
         each : (p : Place) → Field w p → word-at v p ≡ word-at w p
         each (node-payload x) h =
             sym (node-at v x (rw nodes-same h)) ∙ ap (λ (s : Shape). getD (s .nodes) x no-node .payload) same ∙ node-at w x h
-        each (edge-payload e) h =
-            sym (edge-at v e (rw edges-same h)) ∙ ap (λ (s : Shape). getD (s .edges) e no-edge .payload) same ∙ edge-at w e h
+        each (edge-low e) h = ap low-of (payload-same e h)
+        each (edge-high e) h = ap high-of (payload-same e h)
         each (node-bits i) h =
             bits-same (a .nodes) (b .nodes) nodes-same node-flags-same i h (v-narrow .nodes i (rw nodes-same h)) (w-narrow .nodes i h)
         each (edge-bits i) h =

@@ -10,6 +10,7 @@ use lib.Dec.{eqb}
 use borrow.Author.Tests.{eq-eqb, ne-eqb}
 use Rattle.plain.specs.declared.TraversalDirection.{TraversalDirection}
 use Rattle.plain.specs.declared.TraversalDirection.the-variants.{Outgoing, Incoming}
+use Rattle.plain.specs.declared.EdgePayload.{EdgePayload}
 use Rattle.plain.specs.declared.Operation.{Operation}
 use Rattle.plain.specs.declared.Operation.the-variants.{AddNode, AddEdge, RemoveEdge, RemoveNode, Redirect, Move, SetPayload, Unknown}
 use Rattle.plain.specs.Lists.{without, all}
@@ -18,7 +19,7 @@ use Rattle.plain.specs.Step.{Capacities, Outcome, step}
 use Rattle.plain.specs.Laws.Booleans.{by-test, and-false, and-true}
 use Rattle.plain.specs.Laws.Deleting.{map-set}
 use Rattle.plain.specs.Laws.Rank.{live-below}
-use Rattle.plain.specs.Laws.Cases.{Case, case-of, add-node-full, add-node, add-edge-source-absent, add-edge-source-removed, add-edge-target-absent, add-edge-target-removed, add-edge-full, add-edge, remove-edge-absent, remove-edge-removed, remove-edge, remove-node-absent, remove-node-removed, remove-node, redirect-edge-absent, redirect-edge-removed, redirect-node-absent, redirect-node-removed, redirect-same, redirect, move-onto-itself, move-old-absent, move-nothing, move-new-absent, move-new-removed, move, set-payload-absent, set-payload, unknown}
+use Rattle.plain.specs.Laws.Cases.{Case, case-of, add-node-full, add-node, add-edge-inverted, add-edge-source-absent, add-edge-source-removed, add-edge-target-absent, add-edge-target-removed, add-edge-full, add-edge, remove-edge-absent, remove-edge-removed, remove-edge, remove-node-absent, remove-node-removed, remove-node, redirect-edge-absent, redirect-edge-removed, redirect-node-absent, redirect-node-removed, redirect-same, redirect, move-onto-itself, move-old-absent, move-nothing, move-new-absent, move-new-removed, move, set-payload-inverted, set-payload-absent, set-payload, unknown}
 use Rattle.shape.specs.Shape.{Axis, Shape, no-adjacency, axis-in, adjacency-of, node-flags-of, edge-flags-of, has-run, is-compact, plain-of}
 use Rattle.shape.specs.Steps.{live-entries, taken, swept, with-run, redirected-axis, moved-axis, with-axis, retired, walk-in, acted, acts, shape-step}
 use Rattle.shape.specs.Laws.Refining.{Proper, live-node-below}
@@ -79,7 +80,7 @@ module _ {caps : Capacities} {s : Shape} (h : Proper caps s) (b : Based s) where
   node-added-compact v =
       delta-node (acted (AddNode v) s) (λ q. let n = length-append (s .nodes) (record { payload = v; live = true } ∷ []) in let w = b .nodes-within in omega arith)
 
-  edge-added-compact : (x y v : ℕ) → is-compact (acted (AddEdge x y v) s) ≡ false
+  edge-added-compact : (x y : ℕ) (v : EdgePayload) → is-compact (acted (AddEdge x y v) s) ≡ false
   unfolding acted
   edge-added-compact x y v =
       delta-edge (acted (AddEdge x y v) s) (λ q. let n = length-append (s .edges) (record { payload = v; live = true } ∷ []) in let w = b .edges-within in omega arith)
@@ -126,7 +127,7 @@ module _ {caps : Capacities} {s : Shape} (h : Proper caps s) (b : Based s) where
       run-compact d (moved-axis flags old new (axis-in d s)) new (rw (length-set (set (axis-in d s .nodes) old a) new c) low)
       (ap has-run (getD-set-same (set (axis-in d s .nodes) old a) new c no-adjacency low))
 
-  payload-set-compact : (e v : ℕ) → is-compact (acted (SetPayload e v) s) ≡ is-compact s
+  payload-set-compact : (e : ℕ) (v : EdgePayload) → is-compact (acted (SetPayload e v) s) ≡ is-compact s
   unfolding acted is-compact
   payload-set-compact e v =
       let slot : EdgeSlot = record { payload = v; live = getD (s .edges) e no-edge .live } in
@@ -143,12 +144,13 @@ module _ {caps : Capacities} {s : Shape} (h : Proper caps s) (b : Based s) where
   unfolding plain-of
   case-compact (add-node-full k) = kept
   case-compact (add-node {v} k) = lost (node-added-compact v)
-  case-compact (add-edge-source-absent k) = kept
-  case-compact (add-edge-source-removed k) = kept
-  case-compact (add-edge-target-absent k l) = kept
-  case-compact (add-edge-target-removed k l) = kept
-  case-compact (add-edge-full k l m) = kept
-  case-compact (add-edge {s = x} {t = y} {v} k l m) = lost (edge-added-compact x y v)
+  case-compact (add-edge-inverted o) = kept
+  case-compact (add-edge-source-absent o k) = kept
+  case-compact (add-edge-source-removed o k) = kept
+  case-compact (add-edge-target-absent o k l) = kept
+  case-compact (add-edge-target-removed o k l) = kept
+  case-compact (add-edge-full o k l m) = kept
+  case-compact (add-edge {s = x} {t = y} {v} o k l m) = lost (edge-added-compact x y v)
   case-compact (remove-edge-absent k) = kept
   case-compact (remove-edge-removed k) = kept
   case-compact (remove-edge {e} k) = lost (edge-removed-compact e k)
@@ -168,8 +170,9 @@ module _ {caps : Capacities} {s : Shape} (h : Proper caps s) (b : Based s) where
   case-compact (move-new-removed k l m n) = kept
   case-compact (move {d} {old} {new} k l m n) =
       rw (ne-eqb (length (list-of d (plain-of s) old)) 0 (length-some (list-of d (plain-of s) old) m)) (lost (moved-compact d old new n))
-  case-compact (set-payload-absent k) = kept
-  case-compact (set-payload {e} {v} k) = payload-set-compact e v ∙ kept
+  case-compact (set-payload-inverted o) = kept
+  case-compact (set-payload-absent o k) = kept
+  case-compact (set-payload {e} {v} o k) = payload-set-compact e v ∙ kept
   case-compact unknown = kept
 
   -- whether the shape is compact after an operation is what the flag says

@@ -25,10 +25,10 @@ use Rattle.liveness.specs.Flags.{live-bit, live-flags, packed}
 use Rattle.liveness.specs.FlagLaws.{flags-same}
 use Rattle.shape.specs.Columns.{cell, end-at, first-at, tail-at, count-at, mark-at}
 use Rattle.shape.specs.Chains.{In, Line, Run}
-use Rattle.shape.specs.Shape.{Words, node-capacity, edge-capacity, axis-words, node-live, edge-live, node-slot-at, edge-slot-at, base-of, run-list, run-of, ring-of, adjacency-in, axis-of, shape-of, plain-of}
+use Rattle.shape.specs.Shape.{Words, node-capacity, edge-capacity, axis-words, node-live, edge-live, node-slot-at, edge-payload-at, edge-slot-at, base-of, run-list, run-of, ring-of, adjacency-in, axis-of, shape-of, plain-of}
 use Rattle.shape.specs.Checked.{SlotsChecked, Index, AxisChecked, Checked}
-use Rattle.shape.specs.Kept.{same-capacities, same-nodes, same-edges, same-live-nodes, same-live-edges, same-axis}
-use Rattle.shape.specs.Fields.{Column, ends, adjacency, next, links, last, first, tail, count, marks, offsets, begins, AxisField, node-payload, edge-payload, node-bits, edge-bits, axis-word, SameFields}
+use Rattle.shape.specs.Kept.{same-capacities, same-nodes, same-edges, same-highs, same-live-nodes, same-live-edges, same-axis}
+use Rattle.shape.specs.Fields.{Column, ends, adjacency, next, links, last, first, tail, count, marks, offsets, begins, AxisField, node-payload, edge-low, edge-high, node-bits, edge-bits, axis-word, SameFields}
 use Rattle.shape.specs.Laws.Chains.{in-front, seg-agree, run-is, run-empty, run-line, ring-below}
 use Rattle.shape.specs.Laws.Frames.{SameRing, base-of-agree, offset-within, run-list-unmarked, run-of-unmarked, ring-agrees, rings-agree}
 use Rattle.shape.specs.Laws.Reading.{made-same}
@@ -237,8 +237,9 @@ module _ {w v : Words} (k : Checked w) (same : SameFields w v) where
       let inc = axis-same Incoming in
       let ns = made-same {A = NodeSlot} (node-slot-at w) (λ x. record { payload = getD (v .nodes) x 0; live = getD (node-live w) x false }) (w .counts .nodes .bound)
       (λ x h. let p = same .words (node-payload x) h in λ i. record { payload = p i; live = getD (node-live w) x false }) in
-      let es = made-same {A = EdgeSlot} (edge-slot-at w) (λ e. record { payload = getD (v .edges) e 0; live = getD (edge-live w) e false }) (w .counts .edges .bound)
-      (λ e h. let p = same .words (edge-payload e) h in λ i. record { payload = p i; live = getD (edge-live w) e false }) in
+      let es = made-same {A = EdgeSlot} (edge-slot-at w) (λ e. record { payload = edge-payload-at v e; live = getD (edge-live w) e false }) (w .counts .edges .bound)
+      (λ e h. let p = same .words (edge-low e) h in let q = same .words (edge-high e) h in
+      λ i. record { payload = record { low = p i; high = q i }; live = getD (edge-live w) e false }) in
       λ i. record {
         nodes = ns i;
         edges = es i;
@@ -262,6 +263,7 @@ module _ {w v : Words} (k : Checked w) (same : SameFields w v) where
             (slots-checked (k .nodes) (same-live-nodes (same .lengths)) (λ i h. same .words (node-bits i) h));
         edges = rw (same .counts, edges-long)
             (slots-checked (k .edges) (same-live-edges (same .lengths)) (λ i h. same .words (edge-bits i) h));
+        highs-long = rw (edges-long, same-highs (same .lengths)) (k .highs-long);
         axis = directions;
         walks = rw fields-shape (subst (λ (c : Capacities). WellFormed c (plain-of (shape-of w))) (same-capacities (sym (same .lengths))) (k .walks));
       }

@@ -1,36 +1,40 @@
 -- `broken` is 0 exactly where the words are a checked store, both ways.
 use Prim.Native.Nat.{ℕ, suc, _+_, _*_, _≤_, _<_, _^_}
-use mathlib.Core.Path.{_≡_, refl, sym, ap, _∙_}
+use mathlib.Core.Path.{_≡_, refl, sym, ap, _∙_, subst}
 use mathlib.Core.Bool.{Bool, true, false, cond, _&&_, not}
+use mathlib.Core.Logic.{⊎-elim}
 use mathlib.Core.List.{List, []}
 use native.Mathlib.Omega.{arith}
-use lib.ListN.{length, getD, length-map}
+use lib.ListN.{length, getD, length-map, List·getD-eq-default}
 use lib.Dec.{eqb, leb, ltb, lit<}
 use borrow.Author.Tests.{eq-eqb, eqb-true, leb-true, le-leb, ltb-true, lt-ltb}
 use Rattle.plain.specs.declared.TraversalDirection.{TraversalDirection}
 use Rattle.plain.specs.declared.TraversalDirection.the-variants.{Outgoing, Incoming}
+use Rattle.plain.specs.declared.EdgePayload.{EdgePayload}
 use Rattle.plain.specs.declared.Slots.{Slots}
 use Rattle.plain.specs.Numbers.{LIMIT}
 use Rattle.plain.specs.Lists.{member, keep, all, from}
 use Rattle.plain.specs.Plain.{NodeSlot, EdgeSlot, no-node, no-edge, incidence}
 use Rattle.plain.specs.Reads.{live-count}
 use Rattle.plain.specs.Memory.{live-words}
-use Rattle.plain.specs.Laws.Booleans.{and-left, and-right, both-true, true-false}
+use Rattle.plain.specs.WellFormed.{Weighed}
+use Rattle.plain.specs.Laws.Booleans.{below-or-not, and-left, and-right, both-true, true-false}
+use Rattle.plain.specs.Laws.Operating.{no-payload-weighed}
 use Rattle.plain.specs.Laws.ListLaws.{member-keep, getD-map-each}
 use Rattle.liveness.specs.Flags.{live-flags, packed}
 use Rattle.shape.specs.Columns.{Sized, end-at}
 use Rattle.shape.specs.Chains.{In}
-use Rattle.shape.specs.Shape.{Words, Axis, node-capacity, edge-capacity, node-live, edge-live, node-slot-at, edge-slot-at, axis-words, raw, live-in, adjacency-of, node-flags-of, edge-flags-of, shape-of, plain-of}
+use Rattle.shape.specs.Shape.{Words, Axis, node-capacity, edge-capacity, node-live, edge-live, node-slot-at, edge-payload-at, axis-words, raw, live-in, adjacency-of, node-flags-of, edge-flags-of, shape-of, plain-of}
 use Rattle.shape.specs.Checked.{Bounded, LiveRight, SlotsChecked, AxisChecked, Checked}
-use Rattle.shape.specs.Rules.{both-axes, slots-right, rule-1, live-agrees, rule-2, ends-right, rule-3, index-right, rule-4, ring-right, rule-5, runs-right, rule-6, walks-right, rule-7, broken}
+use Rattle.shape.specs.Rules.{both-axes, slots-right, rule-1, live-agrees, rule-2, ends-right, weights-right, rule-3, index-right, rule-4, ring-right, rule-5, runs-right, rule-6, walks-right, rule-7, broken}
 use Rattle.shape.specs.Laws.Refining.{lists-length, list-is-walk}
 use Rattle.shape.specs.Laws.Checking.{all-below, below-all, ring-sound, ring-own, ring-complete, index-sound, index-complete, runs-sound, dead-runs-sound, runs-complete, Framed, walks-live, walks-sound, walks-complete}
-use Rattle.shape.specs.Laws.Reading.{plain-ends, plain-end, node-bound-is, edge-bound-is, axis-is, axis-ends, axis-nodes}
+use Rattle.shape.specs.Laws.Reading.{edge-at, plain-ends, plain-end, node-bound-is, edge-bound-is, axis-is, axis-ends, axis-nodes}
 
 -- the payload words are words of 32 bits, as a lent slice's are
 pub record Payloads (w : Words) : Type 0 where
   pub nodes : (x : ℕ) → getD (w .nodes) x 0 < 2 ^ 32
-  pub edges : (e : ℕ) → getD (w .edges) e 0 < 2 ^ 32
+  pub highs : (e : ℕ) → getD (w .highs) e 0 < 2 ^ 32
 
 -- every rule before the last holds: reads stay inside the words, and walks end
 pub record Structured (w : Words) : Type 0 where
@@ -111,6 +115,7 @@ module _ (w : Words) where
 pub record SizesRight (w : Words) : Type 0 where
   pub nodes : SlotsRight (node-capacity w) (length (w .live-nodes)) (w .counts .nodes)
   pub edges : SlotsRight (edge-capacity w) (length (w .live-edges)) (w .counts .edges)
+  pub highs-long : edge-capacity w ≤ length (w .highs)
   pub sized : (d : TraversalDirection) → Sized (axis-words d w) (edge-capacity w) (node-capacity w)
 
 module _ (w : Words) where
@@ -122,16 +127,19 @@ module _ (w : Words) where
       let long : List ℕ → Bool = λ ws. leb (4 * ce + 6 * cn + 1) (length ws) in
       let a = slots-right cn (length (w .live-nodes)) (w .counts .nodes) in
       let b = slots-right ce (length (w .live-edges)) (w .counts .edges) in
-      let rest = and-right a (b && both-axes long w) h in
-      let n = slots-sound cn (length (w .live-nodes)) (w .counts .nodes) (and-left a (b && both-axes long w) h) in
-      let e = slots-sound ce (length (w .live-edges)) (w .counts .edges) (and-left b (both-axes long w) rest) in
+      let c = leb ce (length (w .highs)) in
+      let rest = and-right a (b && (c && both-axes long w)) h in
+      let last = and-right b (c && both-axes long w) rest in
+      let n = slots-sound cn (length (w .live-nodes)) (w .counts .nodes) (and-left a (b && (c && both-axes long w)) h) in
+      let e = slots-sound ce (length (w .live-edges)) (w .counts .edges) (and-left b (c && both-axes long w) rest) in
       record {
         nodes = n;
         edges = e;
+        highs-long = leb-true ce (length (w .highs)) (and-left c (both-axes long w) last);
         sized = λ d. record {
           edges-within = e .within;
           nodes-within = n .within;
-          room = leb-true (4 * ce + 6 * cn + 1) (length (axis-words d w)) (axis-passes long w (and-right b (both-axes long w) rest) d);
+          room = leb-true (4 * ce + 6 * cn + 1) (length (axis-words d w)) (axis-passes long w (and-right c (both-axes long w) last) d);
         };
       }
 
@@ -154,7 +162,16 @@ module _ (w : Words) (p : Structured w) where
   unfolding rule-3
   ends-low d e l =
       ltb-true (end-at (axis-words d w) e) (w .counts .nodes .bound)
-      (all-below (λ e. ltb (end-at (axis-words d w) e) (w .counts .nodes .bound)) (w .counts .edges .bound) (axis-passes (ends-right (w .counts)) w (p .r3) d) e l)
+      (all-below (λ e. ltb (end-at (axis-words d w) e) (w .counts .nodes .bound)) (w .counts .edges .bound)
+      (axis-passes (ends-right (w .counts)) w
+      (and-left (both-axes (ends-right (w .counts)) w) (weights-right (w .counts .edges .bound) (w .lows) (w .highs)) (p .r3)) d) e l)
+
+  in-order : (e : ℕ) → e < w .counts .edges .bound → getD (w .lows) e 0 ≤ getD (w .highs) e 0
+  unfolding rule-3 weights-right
+  in-order e l =
+      leb-true (getD (w .lows) e 0) (getD (w .highs) e 0)
+      (all-below (λ e. leb (getD (w .lows) e 0) (getD (w .highs) e 0)) (w .counts .edges .bound)
+      (and-right (both-axes (ends-right (w .counts)) w) (weights-right (w .counts .edges .bound) (w .lows) (w .highs)) (p .r3)) e l)
 
   rings-right : (d : TraversalDirection) (x : ℕ) → x < w .counts .nodes .bound
       → ring-right (edge-capacity w) (w .counts .edges .base) (w .counts .edges .bound) (axis-words d w) x ≡ true
@@ -199,6 +216,14 @@ module _ (w : Words) (p : Structured w) where
             (ap (member e) (sym (list-is-walk (shape-of w) d x)) ∙ m);
       }
 
+  -- the payload of every edge slot, removed or not
+  weighed : ((e : ℕ) → getD (w .highs) e 0 < 2 ^ 32) → (e : ℕ) → Weighed (getD (shape-of w .edges) e no-edge .payload)
+  weighed fit e =
+      ⊎-elim (λ l. rw (edge-at w e l) (record { in-order = in-order e l; fits = fit e }))
+      (λ l. let past : getD (shape-of w .edges) e no-edge ≡ no-edge = List·getD-eq-default (shape-of w .edges) no-edge (rw (edge-bound-is w) l) in
+      rw past no-payload-weighed)
+      (below-or-not e (w .counts .edges .bound))
+
 module _ (w : Words) (p : Passes w) where
   walks-of : (d : TraversalDirection) → walks-right (plain-of (shape-of w)) d ≡ true
   unfolding rule-7
@@ -214,6 +239,7 @@ module _ (w : Words) (p : Passes w) where
       record {
         nodes = record { bounded = sizes .nodes .bounded; live-long = sizes .nodes .long; live = nodes-live-sound w (t .r2) };
         edges = record { bounded = sizes .edges .bounded; live-long = sizes .edges .long; live = edges-live-sound w (t .r2) };
+        highs-long = sizes .highs-long;
         axis = axis-sound w t;
         walks = record {
           nodes-within = rw (node-bound-is w) (sizes .nodes .bounded .bound-within);
@@ -222,7 +248,7 @@ module _ (w : Words) (p : Passes w) where
           incoming = walks-sound (plain-of (shape-of w)) Incoming (walks-of Incoming) (framed w t Incoming);
           ends-live = λ d. walks-live (plain-of (shape-of w)) d (walks-of d);
           node-payloads = getD-map-each (λ (n : NodeSlot). n .payload < 2 ^ 32) (node-slot-at w) (from 0 (w .counts .nodes .bound)) no-node (lit< tt) (pay .nodes);
-          edge-payloads = getD-map-each (λ (e : EdgeSlot). e .payload < 2 ^ 32) (edge-slot-at w) (from 0 (w .counts .edges .bound)) no-edge (lit< tt) (pay .edges);
+          edge-payloads = weighed w t (pay .highs);
         };
       }
 
@@ -239,9 +265,14 @@ module _ (capacity : ℕ) (words : List ℕ) (s : Slots) (c : SlotsChecked capac
   live-complete : live-agrees words s ≡ true
   live-complete = both-true (c .live .unused-clear) (eq-eqb (s .live) (live-count (live-flags words (s .bound))) (c .live .live-right))
 
+-- the payload of an edge slot of a checked store, removed or not
+pub checked-weighed : (w : Words) → Checked w → (e : ℕ) → e < w .counts .edges .bound → Weighed (edge-payload-at w e)
+unfolding plain-of
+checked-weighed w c e l = subst (λ (p : EdgePayload). Weighed p) (edge-at w e l) (c .walks .edge-payloads e)
+
 -- a checked store passes every rule
 pub checked-passes : (w : Words) → Checked w → Passes w
-unfolding rule-1 rule-2 rule-3 rule-4 rule-5 rule-6 rule-7
+unfolding rule-1 rule-2 rule-3 weights-right rule-4 rule-5 rule-6 rule-7
 checked-passes w c =
     let ce = edge-capacity w in
     let cn = node-capacity w in
@@ -253,10 +284,14 @@ checked-passes w c =
       structured = record {
         r1 = both-true (slots-complete cn (w .live-nodes) (w .counts .nodes) (c .nodes) (c .axis Outgoing .sized .nodes-within))
             (both-true (slots-complete ce (w .live-edges) (w .counts .edges) (c .edges) (c .axis Outgoing .sized .edges-within))
-            (axes-pass (λ ws. leb (4 * ce + 6 * cn + 1) (length ws)) w (λ d. le-leb (4 * ce + 6 * cn + 1) (length (axis-words d w)) (c .axis d .sized .room))));
+            (both-true (le-leb ce (length (w .highs)) (c .highs-long))
+            (axes-pass (λ ws. leb (4 * ce + 6 * cn + 1) (length ws)) w (λ d. le-leb (4 * ce + 6 * cn + 1) (length (axis-words d w)) (c .axis d .sized .room)))));
         r2 = both-true (live-complete cn (w .live-nodes) (w .counts .nodes) (c .nodes)) (live-complete ce (w .live-edges) (w .counts .edges) (c .edges));
-        r3 = axes-pass (ends-right (w .counts)) w
-            (λ d. below-all (λ e. ltb (end-at (axis-words d w) e) nb) eb (λ e l. lt-ltb (end-at (axis-words d w) e) nb (c .axis d .ends-below e l)));
+        r3 = both-true
+            (axes-pass (ends-right (w .counts)) w
+            (λ d. below-all (λ e. ltb (end-at (axis-words d w) e) nb) eb (λ e l. lt-ltb (end-at (axis-words d w) e) nb (c .axis d .ends-below e l))))
+            (below-all (λ e. leb (getD (w .lows) e 0) (getD (w .highs) e 0)) eb
+            (λ e l. le-leb (getD (w .lows) e 0) (getD (w .highs) e 0) (checked-weighed w c e l .in-order)));
         r4 = axes-pass (index-right ce cn (w .counts .nodes .base) be) w (λ d. index-complete ce cn (w .counts .nodes .base) be (axis-words d w) (c .axis d .index));
         r5 = axes-pass (λ ws. all (ring-right ce be eb ws) (from 0 nb)) w
             (λ d. below-all (ring-right ce be eb (axis-words d w)) nb

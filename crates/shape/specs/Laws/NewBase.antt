@@ -13,13 +13,13 @@ use lib.ListN.{length, getD, take}
 use lib.Dec.{eqb, ltb}
 use Rattle.plain.specs.declared.Counts.{Counts}
 use Rattle.plain.specs.Numbers.{NONE}
-use Rattle.plain.specs.Lists.{from, all, count, joined, member, distinct}
+use Rattle.plain.specs.Lists.{from, all, count, sum, joined, member, distinct}
 use Rattle.plain.specs.Image.{lists-right, at-their-nodes}
 use Rattle.plain.specs.WellFormed.{Fitted}
 use Rattle.plain.specs.Laws.Booleans.{by-test, true-false, and-left}
 use Rattle.plain.specs.Laws.ListLaws.{getD-map, map-same, map-getD, length-from, getD-from, member-below}
 use Rattle.plain.specs.Laws.Below.{Below, below-of, below-all, below-within}
-use Rattle.plain.specs.Laws.Cutting.{sum, length-joined, sum-list-lengths}
+use Rattle.plain.specs.Laws.Cutting.{length-joined, sum-list-lengths}
 use Rattle.shape.specs.Columns.{Sized, cell, offset-at, last-at, mark-at}
 use Rattle.shape.specs.Shape.{between, base-of, run-of, run-list, ring-of, Adjacency, Axis, axis-of}
 use Rattle.shape.specs.Chains.{ring}

@@ -11,7 +11,7 @@ use Rattle.plain.specs.Laws.Booleans.{below-or-not}
 use Rattle.shape.specs.Columns.{cell, offset-at}
 use Rattle.shape.specs.Shape.{Words, node-capacity, edge-capacity, axis-words}
 use Rattle.shape.specs.Kept.{SameLengths, Kept, Renewed, same-nodes, same-edges}
-use Rattle.shape.specs.Fields.{Column, ends, adjacency, next, links, last, first, tail, count, marks, offsets, begins, InColumn, node-payload, edge-payload, node-bits, edge-bits, axis-word, word-at, NoField, StripLeaves, OffsetOfNone, RenewalLeaves}
+use Rattle.shape.specs.Fields.{Column, ends, adjacency, next, links, last, first, tail, count, marks, offsets, begins, InColumn, node-payload, edge-low, edge-high, node-bits, edge-bits, axis-word, word-at, NoField, StripLeaves, OffsetOfNone, RenewalLeaves}
 
 -- ---- every word of an axis has a place
 
@@ -53,7 +53,8 @@ module _ (w v : Words) (same : SameLengths w v) where
 
   pub kept-leaves : Kept w v → StripLeaves w v
   kept-leaves k (node-payload x) out held = k .nodes .payloads x (omega (arith, out .1))
-  kept-leaves k (edge-payload e) out held = k .edges .payloads e (omega (arith, out .1))
+  kept-leaves k (edge-low e) out held = k .edges .payloads e (omega (arith, out .1))
+  kept-leaves k (edge-high e) out held = k .highs e (omega (arith, out .1))
   kept-leaves k (node-bits i) out held = k .nodes .live i (omega (arith, out .1))
   kept-leaves k (edge-bits i) out held = k .edges .live i (omega (arith, out .1))
   kept-leaves k (axis-word d ends e) out held = cell-left d ends e (k .axis d .ends (at ends e) (omega (arith, out .1)) (omega (arith, out .0, same-nodes same, same-edges same)))
@@ -84,7 +85,8 @@ module _ (w v : Words) (same : SameLengths w v) where
 
     pub renewed-leaves : RenewalLeaves w v
     renewed-leaves (node-payload x) out = inl (k .nodes .payloads x (omega (arith, out .1)))
-    renewed-leaves (edge-payload e) out = inl (k .edges .payloads e (omega (arith, out .1)))
+    renewed-leaves (edge-low e) out = inl (k .edges .payloads e (omega (arith, out .1)))
+    renewed-leaves (edge-high e) out = inl (k .highs e (omega (arith, out .1)))
     renewed-leaves (node-bits i) out = inl (k .nodes .live i (omega (arith, out .1)))
     renewed-leaves (edge-bits i) out = inl (k .edges .live i (omega (arith, out .1)))
     renewed-leaves (axis-word d ends e) out = in-column d ends e (k .axis d .ends (at ends e) (omega (arith, out .1)) (omega (arith, out .0, same-nodes same, same-edges same)))

@@ -16,7 +16,7 @@ use Rattle.liveness.specs.Flags.{live-flags}
 use Rattle.liveness.specs.FlagLaws.{length-flags}
 use Rattle.shape.specs.Columns.{end-at}
 use Rattle.shape.specs.Laws.Refining.{ends-of}
-use Rattle.shape.specs.Shape.{Axis, node-capacity, edge-capacity, plain-of, adjacency-of, Words, node-live, edge-live, node-slot-at, edge-slot-at, axis-words, adjacency-in, axis-of, shape-of, axis-in, no-adjacency, node-flags-of, edge-flags-of}
+use Rattle.shape.specs.Shape.{Axis, node-capacity, edge-capacity, plain-of, adjacency-of, Words, node-live, edge-live, node-slot-at, edge-payload-at, edge-slot-at, axis-words, adjacency-in, axis-of, shape-of, axis-in, no-adjacency, node-flags-of, edge-flags-of}
 
 -- a list made of the slots below n: its length, and an entry
 module _ {A : Type 0} (f : ℕ → A) (n : ℕ) where
@@ -51,7 +51,7 @@ module _ (w : Words) where
   unfolding shape-of
   node-at x l = ap (λ (s : NodeSlot). s .payload) (made-at (node-slot-at w) (w .counts .nodes .bound) x no-node l)
 
-  pub edge-at : (e : ℕ) → e < w .counts .edges .bound → getD (shape-of w .edges) e no-edge .payload ≡ getD (w .edges) e 0
+  pub edge-at : (e : ℕ) → e < w .counts .edges .bound → getD (shape-of w .edges) e no-edge .payload ≡ edge-payload-at w e
   unfolding shape-of
   edge-at e l = ap (λ (s : EdgeSlot). s .payload) (made-at (edge-slot-at w) (w .counts .edges .bound) e no-edge l)
 

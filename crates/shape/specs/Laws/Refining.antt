@@ -12,6 +12,7 @@ use lib.Dec.{eqb}
 use borrow.Author.Tests.{eq-eqb, ne-eqb, eqb-true}
 use Rattle.plain.specs.declared.TraversalDirection.{TraversalDirection}
 use Rattle.plain.specs.declared.TraversalDirection.the-variants.{Outgoing, Incoming}
+use Rattle.plain.specs.declared.EdgePayload.{EdgePayload}
 use Rattle.plain.specs.declared.Operation.the-variants.{AddNode, AddEdge, RemoveEdge, RemoveNode, Redirect, Move, SetPayload}
 use Rattle.plain.specs.Lists.{member, without, keep, from, append-at, delete-at, set-all}
 use Rattle.plain.specs.Plain.{Plain, NodeSlot, EdgeSlot, Incidence, incidence, with-incidence, no-node, no-edge, killed-node, list-of, end-of, widened, attached, node-added, edge-added, edge-removed, edges-removed, node-removed, redirected, moved, payload-set}
@@ -200,7 +201,7 @@ module _ {caps : Capacities} {s : Shape} (h : Proper caps s) where
       (length-map (s .edges) (λ (e : EdgeSlot). e .live))
       (appended-lists (edge-flags-of s) (node-flags-of s) (axis-in d s) x (live-node-below d x l) l (flags-below d))
 
-  pub add-edge-refines : (source target v : ℕ) → getD (node-flags-of s) source false ≡ true → getD (node-flags-of s) target false ≡ true
+  pub add-edge-refines : (source target : ℕ) (v : EdgePayload) → getD (node-flags-of s) source false ≡ true → getD (node-flags-of s) target false ≡ true
       → plain-of (acted (AddEdge source target v) s) ≡ edge-added source target v (plain-of s)
   unfolding acted plain-of edge-added
   add-edge-refines source target v ls lt =
@@ -509,7 +510,7 @@ module _ {caps : Capacities} {s : Shape} (h : Proper caps s) where
       (moved-lists (edge-flags-of s) (node-flags-of s) (length (s .nodes)) (axis-in d s) (direction d) old new low (live-node-low new ln) (walked-live d old held) ln
       (ne-eqb new old (λ q. other (sym q))) ∙ ap (moved old new) (direction-is d))
 
-  pub set-payload-refines : (e v : ℕ) → plain-of (acted (SetPayload e v) s) ≡ payload-set e v (plain-of s)
+  pub set-payload-refines : (e : ℕ) (v : EdgePayload) → plain-of (acted (SetPayload e v) s) ≡ payload-set e v (plain-of s)
   unfolding acted plain-of payload-set
   set-payload-refines e v =
       let slot : EdgeSlot = record { payload = v; live = getD (s .edges) e no-edge .live } in

@@ -8,7 +8,7 @@ use borrow.Author.Tests.{eq-eqb, ne-eqb}
 use Rattle.plain.specs.declared.Operation.{Operation}
 use Rattle.plain.specs.Plain.{list-of, end-of}
 use Rattle.plain.specs.Step.{Capacities, Outcome, step}
-use Rattle.plain.specs.Laws.Cases.{Case, case-of, add-node-full, add-node, add-edge-source-absent, add-edge-source-removed, add-edge-target-absent, add-edge-target-removed, add-edge-full, add-edge, remove-edge-absent, remove-edge-removed, remove-edge, remove-node-absent, remove-node-removed, remove-node, redirect-edge-absent, redirect-edge-removed, redirect-node-absent, redirect-node-removed, redirect-same, redirect, move-onto-itself, move-old-absent, move-nothing, move-new-absent, move-new-removed, move, set-payload-absent, set-payload, unknown}
+use Rattle.plain.specs.Laws.Cases.{Case, case-of, add-node-full, add-node, add-edge-inverted, add-edge-source-absent, add-edge-source-removed, add-edge-target-absent, add-edge-target-removed, add-edge-full, add-edge, remove-edge-absent, remove-edge-removed, remove-edge, remove-node-absent, remove-node-removed, remove-node, redirect-edge-absent, redirect-edge-removed, redirect-node-absent, redirect-node-removed, redirect-same, redirect, move-onto-itself, move-old-absent, move-nothing, move-new-absent, move-new-removed, move, set-payload-inverted, set-payload-absent, set-payload, unknown}
 use Rattle.shape.specs.Shape.{Shape, plain-of}
 use Rattle.shape.specs.Steps.{acted, acts, shape-step}
 use Rattle.shape.specs.Laws.Refining.{Proper, add-node-refines, add-edge-refines, remove-edge-refines, remove-node-refines, redirect-refines, move-refines, set-payload-refines}
@@ -23,12 +23,13 @@ case-refines : {caps : Capacities} {s : Shape} {operation : Operation} {o : Outc
 unfolding plain-of
 case-refines h (add-node-full k) = refl
 case-refines h (add-node {v} k) = add-node-refines h v
-case-refines h (add-edge-source-absent k) = refl
-case-refines h (add-edge-source-removed k) = refl
-case-refines h (add-edge-target-absent k l) = refl
-case-refines h (add-edge-target-removed k l) = refl
-case-refines h (add-edge-full k l m) = refl
-case-refines h (add-edge {s} {t} {v} k l m) = add-edge-refines h s t v k l
+case-refines h (add-edge-inverted o) = refl
+case-refines h (add-edge-source-absent o k) = refl
+case-refines h (add-edge-source-removed o k) = refl
+case-refines h (add-edge-target-absent o k l) = refl
+case-refines h (add-edge-target-removed o k l) = refl
+case-refines h (add-edge-full o k l m) = refl
+case-refines h (add-edge {s} {t} {v} o k l m) = add-edge-refines h s t v k l
 case-refines h (remove-edge-absent k) = refl
 case-refines h (remove-edge-removed k) = refl
 case-refines h (remove-edge {e} k) = remove-edge-refines h e k
@@ -48,8 +49,9 @@ case-refines h (move-new-absent k l m n) = refl
 case-refines h (move-new-removed k l m n) = refl
 case-refines {s = s} h (move {d} {old} {new} k l m n) =
     rw (ne-eqb (length (list-of d (plain-of s) old)) 0 (length-some (list-of d (plain-of s) old) m)) (move-refines h d old new k l m n)
-case-refines h (set-payload-absent k) = refl
-case-refines h (set-payload {e} {v} k) = set-payload-refines h e v
+case-refines h (set-payload-inverted o) = refl
+case-refines h (set-payload-absent o k) = refl
+case-refines h (set-payload {e} {v} o k) = set-payload-refines h e v
 case-refines h unknown = refl
 
 -- THE REFINEMENT: the plain lists of the shape after an operation are those that document 01 gives

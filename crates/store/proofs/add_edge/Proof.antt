@@ -7,12 +7,12 @@ use Rattle.store.proofs.add_edge.Tie as tie
 
 -- the entry, and the places after each call
 abbrev entry : tie.After-struct-known2 → tie.Start
-entry c = c .before .before .before .before .before .before .before .before .before .before
+entry c = c .before .before .before .before .before .before .before .before .before .before .before
 
-abbrev pushing : tie.After-slice-known5 → tie.After-push-live
+abbrev pushing : tie.After-slice-known6 → tie.After-push-live
 pushing c = c .before .before
 
-abbrev appending : tie.After-slice-known6 → tie.After-append
+abbrev appending : tie.After-slice-known7 → tie.After-append
 appending c = c .before .before
 
 one-more-requires : tie.Need-one-more-requires
@@ -35,7 +35,7 @@ returns c =
     let live = pushing (first .before .before) in
     let start = entry (live .before .before .before) in
     rw (live .before .before .one-more .ensures)
-    (edge-acted (start .pre) (start .args .payload) (start .fits .payload .fits) (live .push-live .ensures) (first .append .ensures) (second .append2 .ensures)
+    (edge-acted (start .pre) (start .fits .high .fits) (live .push-live .ensures) (first .append .ensures) (second .append2 .ensures)
     (live .push-live .kept .0) (first .append .kept .0) (second .append2 .kept .0))
 
 pub add-edge-spec : {M : Type 1} → statement M
@@ -48,9 +48,12 @@ add-edge-spec =
     one-more-requires
     (λ c. search needs)
     (λ c. search needs)
+    (λ c. search needs)
+    (λ c. search needs)
     (λ c κs. search needs)
     append-requires
     append-requires-2
+    (λ c. search needs)
     (λ c. search needs)
     (λ c. search needs)
     (λ c. search needs)

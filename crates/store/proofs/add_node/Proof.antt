@@ -7,7 +7,7 @@ use Rattle.store.proofs.add_node.Tie as tie
 
 -- the entry, and the places after each call
 abbrev entry : tie.After-struct-known → tie.Start
-entry c = c .before .before .before .before .before .before .before .before .before
+entry c = c .before .before .before .before .before .before .before .before .before .before
 
 abbrev pushing : tie.After-slice-known5 → tie.After-push-live
 pushing c = c .before .before

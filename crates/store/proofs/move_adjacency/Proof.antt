@@ -6,7 +6,7 @@ use Rattle.store.proofs.move_adjacency.Statement.{statement}
 use Rattle.store.proofs.move_adjacency.Tie as tie
 
 abbrev entry : tie.After-tombstoned → tie.Start
-entry c = c .before .before .before .before .before .before .before
+entry c = c .before .before .before .before .before .before .before .before
 
 move-adjacency-requires : tie.Need-move-adjacency-requires
 move-adjacency-requires c κs =

@@ -6,7 +6,7 @@ use Rattle.store.proofs.redirect.Statement.{statement}
 use Rattle.store.proofs.redirect.Tie as tie
 
 abbrev entry : tie.After-tombstoned → tie.Start
-entry c = c .before .before .before .before .before .before .before
+entry c = c .before .before .before .before .before .before .before .before
 
 redirect-requires : tie.Need-redirect-requires
 redirect-requires c κs =

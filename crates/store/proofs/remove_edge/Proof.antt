@@ -9,7 +9,7 @@ abbrev clearing : tie.After-slice-known2 → tie.After-clear
 clearing c = c .before .before
 
 abbrev entry : tie.After-clear → tie.Start
-entry c = c .before .before .before .before .before .before .before .before .before .before .before
+entry c = c .before .before .before .before .before .before .before .before .before .before .before .before
 
 fewer-requires : tie.Need-fewer-requires
 fewer-requires c κs =

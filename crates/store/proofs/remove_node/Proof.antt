@@ -9,7 +9,7 @@ use Rattle.store.proofs.remove_node.Tie as tie
 
 -- the places: the entry, where the slot was made dead, where it had been live, and after each of its walks
 abbrev entry : tie.After-clear → tie.Start
-entry c = c .before .before .before .before .before .before .before .before .before .before .before
+entry c = c .before .before .before .before .before .before .before .before .before .before .before .before
 
 abbrev cleared : tie.Then1 → tie.After-clear
 cleared c = c .before .before .before

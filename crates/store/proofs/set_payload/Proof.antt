@@ -5,7 +5,7 @@ use Rattle.store.proofs.set_payload.Statement.{statement}
 use Rattle.store.proofs.set_payload.Tie as tie
 
 returns : tie.Need-returns
-returns c = payload-acted (c .pre) (c .args .payload) (c .fits .payload .fits)
+returns c = payload-acted (c .pre) (c .fits .high .fits)
 
 pub set-payload-spec : {M : Type 1} → statement M
-set-payload-spec = tie.close (tie.spec (λ c. search needs) (λ c. search needs) (λ c. search needs) returns)
+set-payload-spec = tie.close (tie.spec (λ c. search needs) (λ c. search needs) (λ c. search needs) (λ c. search needs) (λ c. search needs) (λ c. search needs) returns)

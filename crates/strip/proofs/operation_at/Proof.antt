@@ -1,4 +1,4 @@
--- `operation_at` meets its contract: the operation is decoded from its four words.
+-- `operation_at` meets its contract: the operation is decoded from its five words.
 use mathlib.Core.Path.{sym, _∙_}
 use borrow.Author.Needs.{needs}
 use Rattle.plain.specs.Laws.Strips.{operation-at}
@@ -8,7 +8,7 @@ use Rattle.strip.proofs.operation_at.Tie as tie
 
 returns : tie.Need-returns
 returns c =
-    let s = c .before .before .before .before .before .before in
+    let s = c .before .before .before .before .before .before .before in
     let words = s .args .words .now in
     c .decode .ensures ∙ sym (operation-at words (s .args .i) (operation-there words (s .args .i) (s .pre)))
 
@@ -16,6 +16,9 @@ pub operation-at-spec : {M : Type 1} → statement M
 operation-at-spec =
     tie.close
     (tie.spec
+    (λ c. search needs)
+    (λ c. search needs)
+    (λ c. search needs)
     (λ c. search needs)
     (λ c. search needs)
     (λ c. search needs)

@@ -5,26 +5,26 @@ use native.Mathlib.Omega.{arith}
 use borrow.Author.Needs.{needs}
 use Rattle.plain.specs.Memory.{Lengths}
 use Rattle.shape.specs.Shape.{store}
-use Rattle.shape.specs.Kept.{SameLengths, same-nodes, same-edges, same-live-nodes, same-live-edges}
+use Rattle.shape.specs.Kept.{SameLengths, same-nodes, same-edges, same-highs, same-live-nodes, same-live-edges}
 use Rattle.strip.specs.Strip.{Running, running-start, running-turn, running-words, running-room, running-end}
 use Rattle.strip.proofs.run.Statement.{statement}
 use Rattle.strip.proofs.run.Tie as tie
 
 abbrev Inv-loop : tie.InvT-loop
-Inv-loop nodes₀ edges₀ live-nodes₀ live-edges₀ outgoing₀ incoming₀ words answers₀ count counts₀ i₀ nodes edges live-nodes live-edges outgoing incoming answers counts i =
-    Running (store counts₀ nodes₀ edges₀ live-nodes₀ live-edges₀ outgoing₀ incoming₀) words answers₀ count
-    (store counts nodes edges live-nodes live-edges outgoing incoming) answers i
+Inv-loop nodes₀ lows₀ highs₀ live-nodes₀ live-edges₀ outgoing₀ incoming₀ words answers₀ count counts₀ i₀ nodes lows highs live-nodes live-edges outgoing incoming answers counts i =
+    Running (store counts₀ nodes₀ lows₀ highs₀ live-nodes₀ live-edges₀ outgoing₀ incoming₀) words answers₀ count
+    (store counts nodes lows highs live-nodes live-edges outgoing incoming) answers i
 
 abbrev μ-loop : tie.MeasureT-loop
-μ-loop nodes₀ edges₀ live-nodes₀ live-edges₀ outgoing₀ incoming₀ words answers₀ count counts₀ i₀ nodes edges live-nodes live-edges outgoing incoming answers counts i =
+μ-loop nodes₀ lows₀ highs₀ live-nodes₀ live-edges₀ outgoing₀ incoming₀ words answers₀ count counts₀ i₀ nodes lows highs live-nodes live-edges outgoing incoming answers counts i =
     count - i
 
 -- places behind the slices
-abbrev at-start : tie.After-slice-known7 Inv-loop μ-loop → tie.Start Inv-loop μ-loop
-at-start c = c .before .before .before .before .before .before .before .before
+abbrev at-start : tie.After-slice-known8 Inv-loop μ-loop → tie.Start Inv-loop μ-loop
+at-start c = c .before .before .before .before .before .before .before .before .before
 
-abbrev at-operation-at : tie.After-step-arg6 Inv-loop μ-loop → tie.After-operation-at Inv-loop μ-loop
-at-operation-at c = c .before .before .before .before .before .before
+abbrev at-operation-at : tie.After-step-arg7 Inv-loop μ-loop → tie.After-operation-at Inv-loop μ-loop
+at-operation-at c = c .before .before .before .before .before .before .before
 
 loop-holds : tie.Need-loop-holds Inv-loop μ-loop
 loop-holds c = running-start (at-start c .pre)
@@ -37,10 +37,10 @@ step-requires c κs = at-operation-at c .before .before .loop .inv .ran .checked
 
 -- the places on the way: the turn's beginning, and the end of its step
 abbrev begun : tie.After-step Inv-loop μ-loop → tie.In-loop Inv-loop μ-loop
-begun c = c .before .before .before .before .before .before .before .before
+begun c = c .before .before .before .before .before .before .before .before .before
 
-abbrev stepped : tie.After-slice-known13 Inv-loop μ-loop → tie.After-step Inv-loop μ-loop
-stepped c = c .before .before .before .before .before .before .before .before .before .before .before .before
+abbrev stepped : tie.After-slice-known15 Inv-loop μ-loop → tie.After-step Inv-loop μ-loop
+stepped c = c .before .before .before .before .before .before .before .before .before .before .before .before .before .before
 
 write-answer-requires : tie.Need-write-answer-requires Inv-loop μ-loop
 write-answer-requires c κs = let turn = begun (stepped (c .before)) in running-room (turn .before .loop .inv) (turn .loop-test .taken)
@@ -66,8 +66,8 @@ loop-again c =
 lengths : (c : tie.At-loop Inv-loop μ-loop)
     → let l = c .loop in
     let a = at-start (c .before) .args in
-    SameLengths (store (a .counts) (a .nodes .now) (a .edges .now) (a .live-nodes .now) (a .live-edges .now) (a .outgoing .now) (a .incoming .now))
-    (store (l .counts) (l .nodes) (l .edges) (l .live-nodes) (l .live-edges) (l .outgoing) (l .incoming))
+    SameLengths (store (a .counts) (a .nodes .now) (a .lows .now) (a .highs .now) (a .live-nodes .now) (a .live-edges .now) (a .outgoing .now) (a .incoming .now))
+    (store (l .counts) (l .nodes) (l .lows) (l .highs) (l .live-nodes) (l .live-edges) (l .outgoing) (l .incoming))
 lengths c = c .loop .inv .ran .lengths
 
 returns : tie.Need-returns Inv-loop μ-loop
@@ -88,6 +88,7 @@ run-spec =
     loop-again
     (λ c. same-nodes (lengths (c .before)))
     (λ c. same-edges (lengths (c .before)))
+    (λ c. same-highs (lengths (c .before)))
     (λ c. same-live-nodes (lengths (c .before)))
     (λ c. same-live-edges (lengths (c .before)))
     (λ c. ap (λ (l : Lengths). l .outgoing) (lengths (c .before)))

@@ -1,15 +1,23 @@
 -- `strip` meets its contract: the check, then the tests in document 01's order, then the operations.
+use native.Mathlib.Omega.{arith}
 use borrow.Author.Needs.{needs}
 use Rattle.strip.specs.Strip.{strip-judged, strip-ragged, strip-short, strip-runnable, strip-done}
 use Rattle.strip.proofs.strip.Statement.{statement}
 use Rattle.strip.proofs.strip.Tie as tie
 
 -- the places on the way
-abbrev called : tie.After-slice-known14 → tie.After-run
-called c = c .before .before .before .before .before .before .before .before .before .before .before .before .before .before
+abbrev called : tie.After-slice-known16 → tie.After-run
+called c = c .before .before .before .before .before .before .before .before .before .before .before .before .before .before .before .before
 
-abbrev asked : tie.After-run-arg7 → tie.Else3
-asked c = c .before .before .before .before .before .before .before
+abbrev asked : tie.After-run-arg8 → tie.Else3
+asked c = c .before .before .before .before .before .before .before .before
+
+abbrev start : tie.Else2 → tie.Start
+start c = c .before .before .before .before .before .before .before .before .before .before .before .before .before .before .before .before .before .before .before
+
+-- as many answers as there are fit a word, since so many words of the strip are lent
+mul-needed : tie.Need-mul-needed
+mul-needed c = omega (arith, start c .good)
 
 returns : tie.Need-returns
 returns c = strip-judged _ _ _ (c .before .judge .ensures) (c .if1 .taken)
@@ -53,6 +61,7 @@ strip-spec =
     (λ c. search needs)
     (λ c. search needs)
     (λ c. search needs)
+    (λ c. search needs)
     returns
     (λ c. search needs)
     (λ c. search needs)
@@ -60,7 +69,9 @@ strip-spec =
     (λ c. search needs)
     (λ c. search needs)
     (λ c. search needs)
+    (λ c. search needs)
     returns-2
+    mul-needed
     (λ c. search needs)
     (λ c. search needs)
     (λ c. search needs)
@@ -70,6 +81,7 @@ strip-spec =
     (λ c. search needs)
     returns-3
     run-requires
+    (λ c. search needs)
     (λ c. search needs)
     (λ c. search needs)
     (λ c. search needs)

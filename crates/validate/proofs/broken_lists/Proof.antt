@@ -14,10 +14,10 @@ use Rattle.validate.proofs.broken_lists.Tie as tie
 
 -- the store that is lent
 abbrev lent : tie.Start → Words
-lent s = let a = s .args in store (a .counts) (a .nodes .now) (a .edges .now) (a .live-nodes .now) (a .live-edges .now) (a .outgoing .now) (a .incoming .now)
+lent s = let a = s .args in store (a .counts) (a .nodes .now) (a .lows .now) (a .highs .now) (a .live-nodes .now) (a .live-edges .now) (a .outgoing .now) (a .incoming .now)
 
 abbrev start : tie.After-runs-right → tie.Start
-start r = r .before .before .before .before .before .before .before
+start r = r .before .before .before .before .before .before .before .before
 
 -- the runs of one direction pass
 runs-out : (c : tie.Else1)
@@ -66,8 +66,8 @@ returns-5 c =
     rw (six k, walks-out h, sym (walks-rule _ Incoming (passed-six k)) ∙ accepted (c .before .walks-right2 .ensures) (c .if4 .left))
 
 -- places behind the slices
-abbrev at-start : tie.After-shared-slice-known6 → tie.Start
-at-start c = c .before .before .before .before .before .before
+abbrev at-start : tie.After-shared-slice-known7 → tie.Start
+at-start c = c .before .before .before .before .before .before .before
 
 pub broken-lists-spec : {M : Type 1} → statement M
 broken-lists-spec =

@@ -2,7 +2,7 @@
 use native.Mathlib.Omega.{arith}
 use borrow.Author.Needs.{needs}
 use Rattle.validate.specs.Passing.{refused, accepted}
-use Rattle.image.proofs.Checking.{Standing, standing, padding-set, source-astray, target-astray, outs-wrong, ins-wrong, all-right}
+use Rattle.image.proofs.Checking.{Standing, standing, padding-set, source-astray, target-astray, weight-astray, outs-wrong, ins-wrong, all-right}
 use Rattle.image.proofs.check.broken_content.Statement.{statement}
 use Rattle.image.proofs.check.broken_content.Tie as tie
 
@@ -43,34 +43,47 @@ returns-3 c =
 
 returns-4 : tie.Need-returns-4
 returns-4 c =
-    let o = c .before in
-    let t = o .before .before in
+    let k = c .before in
+    let t = k .before .before in
     let s = t .before .before in
     let p = s .before .before in
-    outs-wrong (stands (p .before) .decides) (accepted (p .padding-clear .ensures) (s .before .if1 .left)) (accepted (s .ends-below .ensures) (t .before .if2 .left))
-    (accepted (t .ends-below2 .ensures) (o .before .if3 .left)) (refused (o .lists-right .ensures) (c .if4 .taken))
+    weight-astray (stands (p .before) .decides) (accepted (p .padding-clear .ensures) (s .before .if1 .left)) (accepted (s .ends-below .ensures) (t .before .if2 .left))
+    (accepted (t .ends-below2 .ensures) (k .before .if3 .left)) (refused (k .weights-right .ensures) (c .if4 .taken))
 
 returns-5 : tie.Need-returns-5
 returns-5 c =
-    let i = c .before in
-    let o = i .before .before in
-    let t = o .before .before in
+    let o = c .before in
+    let k = o .before .before in
+    let t = k .before .before in
     let s = t .before .before in
     let p = s .before .before in
-    ins-wrong (stands (p .before) .decides) (accepted (p .padding-clear .ensures) (s .before .if1 .left)) (accepted (s .ends-below .ensures) (t .before .if2 .left))
-    (accepted (t .ends-below2 .ensures) (o .before .if3 .left)) (accepted (o .lists-right .ensures) (i .before .if4 .left))
-    (refused (i .lists-right2 .ensures) (c .if5 .taken))
+    outs-wrong (stands (p .before) .decides) (accepted (p .padding-clear .ensures) (s .before .if1 .left)) (accepted (s .ends-below .ensures) (t .before .if2 .left))
+    (accepted (t .ends-below2 .ensures) (k .before .if3 .left)) (accepted (k .weights-right .ensures) (o .before .if4 .left))
+    (refused (o .lists-right .ensures) (c .if5 .taken))
 
 returns-6 : tie.Need-returns-6
 returns-6 c =
     let i = c .before in
     let o = i .before .before in
-    let t = o .before .before in
+    let k = o .before .before in
+    let t = k .before .before in
+    let s = t .before .before in
+    let p = s .before .before in
+    ins-wrong (stands (p .before) .decides) (accepted (p .padding-clear .ensures) (s .before .if1 .left)) (accepted (s .ends-below .ensures) (t .before .if2 .left))
+    (accepted (t .ends-below2 .ensures) (k .before .if3 .left)) (accepted (k .weights-right .ensures) (o .before .if4 .left))
+    (accepted (o .lists-right .ensures) (i .before .if5 .left)) (refused (i .lists-right2 .ensures) (c .if6 .taken))
+
+returns-7 : tie.Need-returns-7
+returns-7 c =
+    let i = c .before in
+    let o = i .before .before in
+    let k = o .before .before in
+    let t = k .before .before in
     let s = t .before .before in
     let p = s .before .before in
     all-right (stands (p .before) .decides) (accepted (p .padding-clear .ensures) (s .before .if1 .left)) (accepted (s .ends-below .ensures) (t .before .if2 .left))
-    (accepted (t .ends-below2 .ensures) (o .before .if3 .left)) (accepted (o .lists-right .ensures) (i .before .if4 .left))
-    (accepted (i .lists-right2 .ensures) (c .if5 .left))
+    (accepted (t .ends-below2 .ensures) (k .before .if3 .left)) (accepted (k .weights-right .ensures) (o .before .if4 .left))
+    (accepted (o .lists-right .ensures) (i .before .if5 .left)) (accepted (i .lists-right2 .ensures) (c .if6 .left))
 
 pub broken-content-spec : {M : Type 1} → statement M
 broken-content-spec =
@@ -79,6 +92,8 @@ broken-content-spec =
     (λ c κs. search needs)
     (λ c κs. search needs)
     (λ c κs. search needs)
+    (λ c. search needs)
+    (λ c. search needs)
     (λ c. search needs)
     (λ c. search needs)
     (λ c κs. search needs)
@@ -91,8 +106,10 @@ broken-content-spec =
     returns-2
     (λ c κs. stands (c .before .before .before .before) .in-entries .ends)
     returns-3
-    (λ c κs. stands (c .before .before .before .before .before .before) .out-entries)
+    (λ c κs. stands (c .before .before .before .before .before .before) .weights)
     returns-4
-    (λ c κs. stands (c .before .before .before .before .before .before .before .before) .in-entries)
+    (λ c κs. stands (c .before .before .before .before .before .before .before .before) .out-entries)
     returns-5
-    returns-6)
+    (λ c κs. stands (c .before .before .before .before .before .before .before .before .before .before) .in-entries)
+    returns-6
+    returns-7)

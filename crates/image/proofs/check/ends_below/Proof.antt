@@ -6,7 +6,7 @@ use lib.Dec.{ltb}
 use borrow.Author.Tests.{lt-ltb, le-ltb}
 use Rattle.validate.specs.Passing.{rest, rest-first, rest-more, rest-fails, rest-none}
 use Rattle.image.specs.Checks.{end-in, ends-within}
-use Rattle.image.proofs.Checking.{ends-fewer}
+use Rattle.image.proofs.Checking.{column-fewer}
 use Rattle.image.proofs.check.ends_below.Statement.{statement}
 use Rattle.image.proofs.check.ends_below.Tie as tie
 
@@ -20,22 +20,22 @@ loop-holds : tie.Need-loop-holds Inv-loop μ-loop
 unfolding ends-within
 loop-holds c = rest-first _ _
 
-end-of-requires : tie.Need-end-of-requires Inv-loop μ-loop
-end-of-requires c κs = ends-fewer _ (c .before .before .before .pre) (c .loop-test .taken)
+field-of-requires : tie.Need-field-of-requires Inv-loop μ-loop
+field-of-requires c κs = column-fewer _ (c .before .before .before .pre) (c .loop-test .taken)
 
 returns : tie.Need-returns Inv-loop μ-loop
 returns c =
     let k = c .before .before in
-    sym (k .before .loop .inv ∙ rest-fails _ _ _ (k .loop-test .taken) (le-ltb _ _ (rw (c .before .end-of .ensures) at (c .if1 .taken))))
+    sym (k .before .loop .inv ∙ rest-fails _ _ _ (k .loop-test .taken) (le-ltb _ _ (rw (c .before .field-of .ensures) at (c .if1 .taken))))
 
 loop-again : tie.Need-loop-again Inv-loop μ-loop
 loop-again c =
     let k = c .before .before in
-    k .before .loop .inv ∙ rest-more _ _ _ (k .loop-test .taken) (lt-ltb _ _ (rw (c .before .end-of .ensures) at (c .if1 .left)))
+    k .before .loop .inv ∙ rest-more _ _ _ (k .loop-test .taken) (lt-ltb _ _ (rw (c .before .field-of .ensures) at (c .if1 .left)))
 
 returns-2 : tie.Need-returns-2 Inv-loop μ-loop
 returns-2 c = sym (c .before .loop .inv ∙ rest-none _ _ _ (c .loop-test .left))
 
 pub ends-below-spec : {M : Type 1} → statement M
 ends-below-spec =
-    tie.close (tie.spec Inv-loop μ-loop loop-holds end-of-requires returns (λ c. omega arith) (λ c. omega arith) loop-again returns-2)
+    tie.close (tie.spec Inv-loop μ-loop loop-holds field-of-requires returns (λ c. omega arith) (λ c. omega arith) loop-again returns-2)

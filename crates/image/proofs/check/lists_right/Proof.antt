@@ -4,7 +4,7 @@ use Prim.Native.Nat.{_-_}
 use mathlib.Core.Path.{sym}
 use native.Mathlib.Omega.{arith}
 use borrow.Author.Tests.{not-true, not-false}
-use Rattle.image.proofs.Checking.{ends-fewer}
+use Rattle.image.proofs.Checking.{column-fewer}
 use Rattle.image.proofs.Ordering.{Ordering, order-start, order-room, order-past, order-descends, order-marked, order-more, order-done}
 use Rattle.image.proofs.check.lists_right.Statement.{statement}
 use Rattle.image.proofs.check.lists_right.Tie as tie
@@ -26,14 +26,14 @@ returns c =
     let k = c .before .before in
     order-past (k .before .loop .inv) (k .loop-test .taken) (c .before .read-field .ensures) (c .if1 .taken)
 
-end-of-requires : tie.Need-end-of-requires Inv-loop μ-loop
-end-of-requires c κs = ends-fewer _ (c .before .before .before .before .before .pre .ends) (c .if1 .left)
+field-of-requires : tie.Need-field-of-requires Inv-loop μ-loop
+field-of-requires c κs = column-fewer _ (c .before .before .before .before .before .pre .ends) (c .if1 .left)
 
 returns-2 : tie.Need-returns-2 Inv-loop μ-loop
 returns-2 c =
     let f = c .before .before .before in
     let k = f .before in
-    order-descends (k .before .loop .inv) (k .loop-test .taken) (f .read-field .ensures) (c .before .end-of .ensures) (c .if2 .taken)
+    order-descends (k .before .loop .inv) (k .loop-test .taken) (f .read-field .ensures) (c .before .field-of .ensures) (c .if2 .taken)
 
 returns-3 : tie.Need-returns-3 Inv-loop μ-loop
 returns-3 c =
@@ -54,7 +54,7 @@ loop-again c =
     let g = s .before .before in
     let f = g .before .before .before in
     let k = f .before in
-    order-more (k .before .loop .inv) (k .loop-test .taken) (f .read-field .ensures) (g .before .end-of .ensures) (g .before .before .if1 .left) (g .if2 .left)
+    order-more (k .before .loop .inv) (k .loop-test .taken) (f .read-field .ensures) (g .before .field-of .ensures) (g .before .before .if1 .left) (g .if2 .left)
     (s .mark .ensures) (not-false _ (c .if3 .left)) (s .mark .kept .0)
 
 returns-4 : tie.Need-returns-4 Inv-loop μ-loop
@@ -69,7 +69,7 @@ lists-right-spec =
     loop-holds
     read-field-requires
     returns
-    end-of-requires
+    field-of-requires
     returns-2
     (λ c. sym (c .before .before .before .before .before .before .loop .inv .long))
     (λ c. omega arith)

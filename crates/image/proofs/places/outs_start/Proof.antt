@@ -7,7 +7,7 @@ use Rattle.image.specs.Places.{records-small}
 use Rattle.image.proofs.places.outs_start.Statement.{statement}
 use Rattle.image.proofs.places.outs_start.Tie as tie
 
-small : (c : tie.After-record-width) → c .record-width .result * c .before .before .args .edges ≤ 96 * c .before .before .args .edges
+small : (c : tie.After-record-width) → c .record-width .result * c .before .before .args .edges ≤ 128 * c .before .before .args .edges
 small c = rw (c .record-width .ensures) (records-small (c .before .before .args .nodes) (c .before .before .args .edges))
 
 mul-result : tie.Need-mul-result

@@ -13,22 +13,22 @@ use Rattle.image.proofs.read.place.Tie as tie
 
 -- the entry, and the calls, each from the next one
 abbrev entry : tie.After-read-field → tie.Start
-entry c = c .before .before .before .before .before .before .before .before
+entry c = c .before .before .before .before .before .before .before .before .before
 
 abbrev counted : tie.After-read-axes → tie.After-read-field2
 counted c = c .before .before .before
 
 abbrev directions : tie.After-read-payloads → tie.After-read-axes
-directions c = c .before .before .before .before .before .before .before
+directions c = c .before .before .before .before .before .before .before .before
 
 abbrev slots : tie.After-reset-all-live → tie.After-read-payloads
-slots c = c .before .before .before .before .before .before
+slots c = c .before .before .before .before .before .before .before .before
 
 abbrev live : tie.After-reset-all-live2 → tie.After-reset-all-live
 live c = c .before .before .before .before
 
 read-field-requires : tie.Need-read-field-requires
-read-field-requires c κs = count-room _ (c .before .before .before .before .before .before .before .pre .image) 0 (omega arith)
+read-field-requires c κs = count-room _ (c .before .before .before .before .before .before .before .before .pre .image) 0 (omega arith)
 
 read-field-requires-2 : tie.Need-read-field-requires-2
 read-field-requires-2 c κs = count-room _ (entry c .pre .image) count-width (omega arith)
@@ -42,10 +42,16 @@ read-axes-requires c κs =
 
 read-payloads-requires : tie.Need-read-payloads-requires
 read-payloads-requires c κs =
-    let edges = c .before .before .before .before .before .before .before .before .before in
+    let edges = c .before .before .before .before .before .before .before .before .before .before in
     let nodes = edges .before in
     let pre = entry nodes .pre in
-    rw (nodes .read-field .ensures, edges .read-field2 .ensures) (payloads-readable pre _ _ (pre .nodes-room) (pre .edges-room))
+    rw (nodes .read-field .ensures, edges .read-field2 .ensures) (payloads-readable pre _ _ _ (pre .nodes-room) (pre .edges-room) (omega (arith, pre .edges-room, pre .roomy .highs-room)))
+
+reset-all-live-requires : tie.Need-reset-all-live-requires
+reset-all-live-requires c κs =
+    let nodes = counted (directions (c .before .before .before .before .before .before .before)) .before in
+    let pre = entry nodes .pre in
+    omega (arith, nodes .read-field .ensures, pre .nodes-room, pre .roomy .live-nodes-room)
 
 reset-all-live-requires-2 : tie.Need-reset-all-live-requires-2
 reset-all-live-requires-2 c κs =
@@ -62,7 +68,7 @@ returns c =
     let edges = counted axes in
     let nodes = edges .before in
     record {
-      lengths = each-length (payloads .read-payloads .kept .0) (payloads .read-payloads .kept .1 .0) (nodes-live .reset-all-live .kept .0)
+      lengths = each-length (payloads .read-payloads .kept .0) (payloads .read-payloads .kept .1 .0) (payloads .read-payloads .kept .1 .1 .0) (nodes-live .reset-all-live .kept .0)
           (edges-live .reset-all-live2 .kept .0) (axes .read-axes .kept .0) (axes .read-axes .kept .1 .0);
       counts = ap₂ {C = Counts} (λ (n e : Slots). record { nodes = n; edges = e }) (c .before .all-based .ensures ∙ ap based (nodes .read-field .ensures))
           (c .all-based2 .ensures ∙ ap based (edges .read-field2 .ensures));
@@ -81,11 +87,12 @@ place-spec =
     read-axes-requires
     read-payloads-requires
     (λ c. search needs)
-    (λ c κs. search needs)
+    reset-all-live-requires
     (λ c. search needs)
     reset-all-live-requires-2
     (λ c κs. search needs)
     (λ c κs. search needs)
+    (λ c. search needs)
     (λ c. search needs)
     (λ c. search needs)
     (λ c. search needs)

@@ -6,8 +6,8 @@ use Rattle.image.proofs.read.read_image.Statement.{statement}
 use Rattle.image.proofs.read.read_image.Tie as tie
 
 -- the places on the way, each from the next one
-abbrev asked : tie.After-place-arg6 → tie.Else1
-asked c = c .before .before .before .before .before .before
+abbrev asked : tie.After-place-arg7 → tie.Else1
+asked c = c .before .before .before .before .before .before .before
 
 returns : tie.Need-returns
 returns c = read-refused _ _ (c .before .answer .result) (c .before .answer .ensures) (c .if1 .taken)
@@ -15,14 +15,14 @@ returns c = read-refused _ _ (c .before .answer .result) (c .before .answer .ens
 place-requires : tie.Need-place-requires
 place-requires c κs =
     let done = asked c in
-    let s = done .before .before .before .before .before .before .before .before .before in
+    let s = done .before .before .before .before .before .before .before .before .before .before in
     let a = s .args in
-    accepted (store (a .counts) (a .nodes .now) (a .edges .now) (a .live-nodes .now) (a .live-edges .now) (a .outgoing .now) (a .incoming .now)) _
+    accepted (store (a .counts) (a .nodes .now) (a .lows .now) (a .highs .now) (a .live-nodes .now) (a .live-edges .now) (a .outgoing .now) (a .incoming .now)) _
     (done .before .answer .result) (done .before .answer .ensures) (done .if1 .left)
 
 returns-2 : tie.Need-returns-2
 returns-2 c =
-    let call = c .before .before .before .before .before .before .before .before .before .before .before .before in
+    let call = c .before .before .before .before .before .before .before .before .before .before .before .before .before .before in
     let done = asked (call .before) in
     read-done _ _ (done .before .answer .result) (done .before .answer .ensures) (done .if1 .left) (call .place .result) (call .place .ensures)
 
@@ -33,6 +33,7 @@ read-image-spec =
     (λ c κs. search needs)
     returns
     place-requires
+    (λ c. search needs)
     (λ c. search needs)
     (λ c. search needs)
     (λ c. search needs)

@@ -7,7 +7,7 @@ use Rattle.image.proofs.write.write_columns.Statement.{statement}
 use Rattle.image.proofs.write.write_columns.Tie as tie
 
 abbrev known : tie.After-least-width2 → tie.After-slice-known
-known c = c .before .before .before .before .before .before .before .before
+known c = c .before .before .before .before .before .before .before .before .before
 
 write-slots-requires : tie.Need-write-slots-requires
 write-slots-requires c κs =

@@ -10,30 +10,30 @@ use Rattle.image.specs.Writing.{record-at, record-room, length-record-bi
 use Rattle.image.proofs.write.write_edges.Statement.{statement}
 use Rattle.image.proofs.write.write_edges.Tie as tie
 
-abbrev piece : ℕ → List ℕ → List ℕ → List ℕ → ℕ → List ℕ
-piece width sources targets payloads e = record-bits width (record-at sources targets payloads e)
+abbrev piece : ℕ → List ℕ → List ℕ → List ℕ → List ℕ → ℕ → List ℕ
+piece width sources targets lows highs e = record-bits width (record-at sources targets lows highs e)
 
 abbrev Inv-loop : tie.InvT-loop
-Inv-loop bytes₀ position width sources targets payloads at₀ e₀ bytes at e =
-    (e ≤ length payloads) × Strung bytes₀ position (record-width width) (piece width sources targets payloads) e bytes at
+Inv-loop bytes₀ position width sources targets lows highs at₀ e₀ bytes at e =
+    (e ≤ length lows) × Strung bytes₀ position (record-width width) (piece width sources targets lows highs) e bytes at
 
 abbrev μ-loop : tie.MeasureT-loop
-μ-loop bytes₀ position width sources targets payloads at₀ e₀ bytes at e = length payloads - e
+μ-loop bytes₀ position width sources targets lows highs at₀ e₀ bytes at e = length lows - e
 
 -- places behind the slices
-abbrev at-start : tie.After-shared-slice-known3 Inv-loop μ-loop → tie.Start Inv-loop μ-loop
-at-start c = c .before .before .before .before
+abbrev at-start : tie.After-shared-slice-known4 Inv-loop μ-loop → tie.Start Inv-loop μ-loop
+at-start c = c .before .before .before .before .before
 
-abbrev at-in-loop : tie.After-shared-slice-known6 Inv-loop μ-loop → tie.In-loop Inv-loop μ-loop
-at-in-loop c = c .before .before .before .before
+abbrev at-in-loop : tie.After-shared-slice-known8 Inv-loop μ-loop → tie.In-loop Inv-loop μ-loop
+at-in-loop c = c .before .before .before .before .before
 
 loop-holds : tie.Need-loop-holds Inv-loop μ-loop
 loop-holds c =
     let s = at-start c in
     let a = s .args in (
       omega arith,
-      strung-none (a .bytes .now) (a .position) (record-width (a .width)) (length (a .payloads .now))
-          (piece (a .width) (a .sources .now) (a .targets .now) (a .payloads .now)) (s .pre .room),
+      strung-none (a .bytes .now) (a .position) (record-width (a .width)) (length (a .lows .now))
+          (piece (a .width) (a .sources .now) (a .targets .now) (a .lows .now) (a .highs .now)) (s .pre .room),
     )
 
 write-record-requires : tie.Need-write-record-requires Inv-loop μ-loop
@@ -53,7 +53,7 @@ loop-again c =
     let turn = at-in-loop (written .before) in
     let a = at-start (turn .before .before) .args in (
       omega (arith, turn .loop-test .taken),
-      strung-more (λ e. length-record-bits (a .width) (record-at (a .sources .now) (a .targets .now) (a .payloads .now) e)) (turn .before .loop .inv .1)
+      strung-more (λ e. length-record-bits (a .width) (record-at (a .sources .now) (a .targets .now) (a .lows .now) (a .highs .now) e)) (turn .before .loop .inv .1)
           (written .write-record .ensures) (omega arith),
     )
 
@@ -61,8 +61,8 @@ returns : tie.Need-returns Inv-loop μ-loop
 returns c =
     let l = c .before .loop in
     let a = at-start (c .before .before) .args in
-    rw (records-strung (a .width) (record-at (a .sources .now) (a .targets .now) (a .payloads .now)) (length (a .payloads .now))) at
-    (strung-all (λ e. length-record-bits (a .width) (record-at (a .sources .now) (a .targets .now) (a .payloads .now) e)) (l .inv .1) (length (a .payloads .now))
+    rw (records-strung (a .width) (record-at (a .sources .now) (a .targets .now) (a .lows .now) (a .highs .now)) (length (a .lows .now))) at
+    (strung-all (λ e. length-record-bits (a .width) (record-at (a .sources .now) (a .targets .now) (a .lows .now) (a .highs .now) e)) (l .inv .1) (length (a .lows .now))
     (omega (arith, c .loop-test .left)))
 
 pub write-edges-spec : {M : Type 1} → statement M
@@ -72,6 +72,8 @@ write-edges-spec =
     Inv-loop
     μ-loop
     loop-holds
+    (λ c. search needs)
+    (λ c. search needs)
     (λ c. search needs)
     (λ c. search needs)
     (λ c. search needs)

@@ -12,7 +12,7 @@ returns c =
     let first = second .before .before .before .before in
     let a = first .before .before .before .args in
     wrote-record (a .width) (record { source = a .source; target = a .target; payload = a .payload }) (first .write-field .ensures)
-    (second .write-field2 .ensures) (third .write-field3 .ensures) refl refl
+    (second .write-field2 .ensures) (third .write-payload .ensures) refl refl
 
 pub write-record-spec : {M : Type 1} → statement M
 write-record-spec =

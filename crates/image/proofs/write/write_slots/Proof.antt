@@ -5,7 +5,7 @@ use Rattle.image.proofs.write.write_slots.Statement.{statement}
 use Rattle.image.proofs.write.write_slots.Tie as tie
 
 abbrev start : tie.After-write-counts → tie.Start
-start c = c .before .before .before .before .before .before .before
+start c = c .before .before .before .before .before .before .before .before
 
 -- places behind the slices
 abbrev at-write-counts : tie.After-write-row-arg → tie.After-write-counts

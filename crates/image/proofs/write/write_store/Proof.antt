@@ -11,7 +11,7 @@ use Rattle.image.proofs.write.write_store.Statement.{statement}
 use Rattle.image.proofs.write.write_store.Tie as tie
 
 abbrev known : tie.After-image-bytes → tie.After-shared-slice-known
-known c = c .before .before .before .before .before
+known c = c .before .before .before .before .before .before
 
 small : (c : tie.After-image-bytes) → Below (2 ^ node-payload-width) (known c .before .args .nodes .now)
 small c = below-of (known c .before .args .nodes .now) (λ i l. omega (arith, known c .shared-slice-known .given i))
@@ -22,15 +22,15 @@ returns c =
     bytes-short (sized .image-bytes .ensures ∙ stored-size (known sized .before .pre) (small sized)) (c .if1 .taken)
 
 -- places behind the slices
-abbrev at-else1 : tie.After-write-columns-arg7 → tie.Else1
-at-else1 c = c .before .before .before .before .before .before .before
+abbrev at-else1 : tie.After-write-columns-arg8 → tie.Else1
+at-else1 c = c .before .before .before .before .before .before .before .before
 
 write-columns-requires : tie.Need-write-columns-requires
 write-columns-requires c κs =
     let room = at-else1 c in
     let sized = room .before in
     let a = known sized .before .args in
-    let same : length (a .edges .now) + a .m - length (a .edges .now) ≡ a .m = omega arith in
+    let same : length (a .lows .now) + a .m - length (a .lows .now) ≡ a .m = omega arith in
     rw same (stored-fits (known sized .before .pre) (small sized) (omega (arith, room .if1 .left, sized .image-bytes .ensures)))
 
 returns-2 : tie.Need-returns-2
@@ -39,7 +39,7 @@ returns-2 c =
     let room = at-else1 (written .before) in
     let sized = room .before in
     let a = known sized .before .args in
-    let same : length (a .edges .now) + a .m - length (a .edges .now) ≡ a .m = omega arith in
+    let same : length (a .lows .now) + a .m - length (a .lows .now) ≡ a .m = omega arith in
     bytes-done (sized .image-bytes .ensures ∙ stored-size (known sized .before .pre) (small sized)) (room .if1 .left)
     (rw same at (written .write-columns .ensures))
 
@@ -52,6 +52,7 @@ write-store-spec =
     (λ c κs. search needs)
     returns
     (λ c. search needs)
+    (λ c. simp length-take (omega arith))
     (λ c. simp length-take (omega arith))
     (λ c. simp length-take (omega arith))
     (λ c. simp length-take (omega arith))

@@ -7,18 +7,18 @@ use Rattle.lotstrip_text.proofs.book.book.Tie as tie
 
 -- the places on the way
 abbrev closed : tie.After-print-image-arg → tie.After-close
-closed c = c .before .before .before .before .before .before .before .before .before .before .before .before .before
+closed c = c .before .before .before .before .before .before .before .before .before .before .before .before .before .before .before
 
 abbrev ran : tie.After-close → tie.After-run-strip
-ran c = c .before .before .before .before .before .before .before .before .before .before .before .before .before .before .before
+ran c = c .before .before .before .before .before .before .before .before .before .before .before .before .before .before .before .before .before
 
 print-image-requires : tie.Need-print-image-requires
 print-image-requires c κs =
     let close = closed c in
-    closed-printable (ran close .run-strip .ensures .held) (close .close .ensures) (omega (arith, ran close .before .before .before .before .before .before .before .before .before .before .before .pre .1 .1))
+    closed-printable (ran close .run-strip .ensures .held) (close .close .ensures) (omega (arith, ran close .before .before .before .before .before .before .before .before .before .before .before .before .pre .1 .1))
 
 same-length : tie.Need-same-length
-same-length c = c .before .before .before .before .before .before .before .before .before .before .before .before .before .before .before .before .before .before .before .before .before .before .before .before .before .before .before .before .before .before .before .run-strip .kept .1 .1 .1 .1 .1 .1 .1 .0
+same-length c = c .before .before .before .before .before .before .before .before .before .before .before .before .before .before .before .before .before .before .before .before .before .before .before .before .before .before .before .before .before .before .before .before .before .before .before .run-strip .kept .1 .1 .1 .1 .1 .1 .1 .1 .0
 
 returns : tie.Need-returns
 returns c =
@@ -35,14 +35,17 @@ book-spec =
     (λ c. search needs)
     (λ c. search needs)
     (λ c. search needs)
-    (λ c κs. search needs)
-    (λ c. search needs)
-    (λ c. search needs)
-    (λ c. search needs)
-    (λ c. search needs)
-    (λ c. search needs)
     (λ c. search needs)
     (λ c κs. search needs)
+    (λ c. search needs)
+    (λ c. search needs)
+    (λ c. search needs)
+    (λ c. search needs)
+    (λ c. search needs)
+    (λ c. search needs)
+    (λ c. search needs)
+    (λ c κs. search needs)
+    (λ c. search needs)
     (λ c. search needs)
     (λ c. search needs)
     (λ c. search needs)

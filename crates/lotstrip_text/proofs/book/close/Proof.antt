@@ -6,10 +6,10 @@ use Rattle.lotstrip_text.proofs.book.close.Tie as tie
 
 -- the places on the way
 abbrev compacted : tie.After-result → tie.After-compact
-compacted c = c .before .before .before .before .before .before .before .before .before .before .before .before .before .before .before .before
+compacted c = c .before .before .before .before .before .before .before .before .before .before .before .before .before .before .before .before .before .before
 
 abbrev start : tie.After-compact → tie.Start
-start c = c .before .before .before .before .before .before .before .before .before .before .before .before .before .before .before .before
+start c = c .before .before .before .before .before .before .before .before .before .before .before .before .before .before .before .before .before .before
 
 returns : tie.Need-returns
 returns c = let call = compacted c in closes (start call .pre) (call .compact .ensures) (search needs) (search needs) (search needs)
@@ -22,6 +22,7 @@ close-spec =
     (λ c. search needs)
     (λ c. search needs)
     (λ c κs. search needs)
+    (λ c. search needs)
     (λ c. search needs)
     (λ c. search needs)
     (λ c. search needs)

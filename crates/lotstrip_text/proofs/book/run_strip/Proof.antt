@@ -6,13 +6,13 @@ use Rattle.lotstrip_text.proofs.book.run_strip.Tie as tie
 
 -- the places on the way
 abbrev ran : tie.After-result → tie.After-strip
-ran c = c .before .before .before .before .before .before .before .before .before .before .before .before .before .before .before
+ran c = c .before .before .before .before .before .before .before .before .before .before .before .before .before .before .before .before .before
 
 abbrev made : tie.After-strip → tie.After-fresh
-made c = c .before .before .before .before .before .before .before .before
+made c = c .before .before .before .before .before .before .before .before .before
 
 abbrev start : tie.After-fresh → tie.Start
-start c = c .before .before .before .before .before .before .before .before .before .before .before .before .before .before .before
+start c = c .before .before .before .before .before .before .before .before .before .before .before .before .before .before .before .before .before
 
 returns : tie.Need-returns
 returns c =
@@ -25,6 +25,7 @@ run-strip-spec =
     (tie.spec
     (λ c κs. search needs)
     (λ c κs. search needs)
+    (λ c. search needs)
     (λ c. search needs)
     (λ c. search needs)
     (λ c. search needs)

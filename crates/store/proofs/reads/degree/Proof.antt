@@ -7,7 +7,7 @@ use Rattle.store.proofs.reads.degree.Statement.{statement}
 use Rattle.store.proofs.reads.degree.Tie as tie
 
 abbrev entry : tie.After-is-live → tie.Start
-entry c = c .before .before .before .before .before .before .before .before .before
+entry c = c .before .before .before .before .before .before .before .before .before .before
 
 degree-requires : tie.Need-degree-requires
 degree-requires c κs = let start = entry (c .before .before) in checked-walkable (start .pre .0) Outgoing (start .args .node) (start .pre .1)

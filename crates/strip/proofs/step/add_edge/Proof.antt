@@ -1,48 +1,63 @@
--- `step::add_edge` meets its contract: the faults of source and target, then the room, then the store's addition.
+-- `step::add_edge` meets its contract: the fault of the payload, those of source and target, then the room, then the store's addition.
+use Prim.Native.Nat.{_≤_}
 use mathlib.Core.Path.{sym, _∙_}
 use borrow.Author.Needs.{needs}
-use Rattle.strip.specs.Faults.{no-node-fault}
-use Rattle.strip.proofs.Additions.{source-fault, target-fault, edge-full, edge-added}
+use Rattle.strip.specs.Faults.{no-node-fault, no-payload-fault}
+use Rattle.strip.proofs.Additions.{edge-inverted, source-fault, target-fault, edge-full, edge-added}
 use Rattle.strip.proofs.step.add_edge.Statement.{statement}
 use Rattle.strip.proofs.step.add_edge.Tie as tie
 
 -- the entry, and the places on the way
-abbrev entry : tie.After-slots → tie.Start
+abbrev entry : tie.After-payload-fault → tie.Start
 entry c = c .before .before .before .before .before .before .before .before
 
-abbrev start : tie.Else1 → tie.Start
-start c = entry (c .before .before)
+abbrev ordered : tie.After-fault → tie.Else1
+ordered c = c .before .before .before
 
-abbrev roomy : tie.After-add-edge-arg4 → tie.Else3
-roomy c = c .before .before .before .before
+abbrev start : tie.After-fault → tie.Start
+start c = entry (ordered c .before)
 
-abbrev called : tie.After-slice-known8 → tie.After-add-edge
-called c = c .before .before .before .before .before .before .before .before
+abbrev roomy : tie.After-add-edge-arg5 → tie.Else4
+roomy c = c .before .before .before .before .before
+
+abbrev called : tie.After-slice-known10 → tie.After-add-edge
+called c = c .before .before .before .before .before .before .before .before .before .before
+
+-- no low above its high
+order : (c : tie.After-fault) → start c .args .payload .low ≤ start c .args .payload .high
+order c = no-payload-fault _ (sym (ordered c .before .payload-fault .ensures) ∙ ordered c .if1 .left)
 
 returns : tie.Need-returns
 returns c =
     let wrong = c .before in
-    let s = entry (wrong .before .before) in
-    let e = wrong .before .fault .ensures in
-    rw (c .refused .ensures, e) (source-fault (s .pre) (s .args .source) (s .args .target) (s .args .payload) (λ q. wrong .if1 .taken (e ∙ q)))
+    let s = entry (wrong .before) in
+    let e = wrong .before .payload-fault .ensures in
+    rw (c .refused .ensures, e) (edge-inverted (s .pre) (s .args .source) (s .args .target) (s .args .payload) (λ q. wrong .if1 .taken (e ∙ q)))
 
 returns-2 : tie.Need-returns-2
 returns-2 c =
     let wrong = c .before in
-    let first = wrong .before .before in
-    let s = start first in
-    let e = wrong .before .fault2 .ensures in
-    rw (c .refused2 .ensures, e) (target-fault (s .pre) (s .args .source) (s .args .target) (s .args .payload) (no-node-fault _ _ _ (sym (first .before .fault .ensures) ∙ first .if1 .left))
-    (λ q. wrong .if2 .taken (e ∙ q)))
+    let s = start (wrong .before) in
+    let e = wrong .before .fault .ensures in
+    rw (c .refused2 .ensures, e) (source-fault (s .pre) (s .args .source) (s .args .target) (order (wrong .before)) (λ q. wrong .if2 .taken (e ∙ q)))
 
 returns-3 : tie.Need-returns-3
 returns-3 c =
+    let wrong = c .before in
+    let first = wrong .before .before in
+    let s = start (first .before) in
+    let e = wrong .before .fault2 .ensures in
+    rw (c .refused3 .ensures, e) (target-fault (s .pre) (s .args .source) (s .args .target) (order (first .before)) (no-node-fault _ _ _ (sym (first .before .fault .ensures) ∙ first .if2 .left))
+    (λ q. wrong .if3 .taken (e ∙ q)))
+
+returns-4 : tie.Need-returns-4
+returns-4 c =
     let full = c .before in
     let second = full .before in
     let first = second .before .before in
-    let s = start first in
-    rw (c .refused3 .ensures) (edge-full (s .pre) (s .args .source) (s .args .target) (s .args .payload) (no-node-fault _ _ _ (sym (first .before .fault .ensures) ∙ first .if1 .left))
-    (no-node-fault _ _ _ (sym (second .before .fault2 .ensures) ∙ second .if2 .left)) (full .if3 .taken))
+    let s = start (first .before) in
+    rw (c .refused4 .ensures) (edge-full (s .pre) (s .args .source) (s .args .target) (order (first .before)) (no-node-fault _ _ _ (sym (first .before .fault .ensures) ∙ first .if2 .left))
+    (no-node-fault _ _ _ (sym (second .before .fault2 .ensures) ∙ second .if3 .left)) (full .if4 .taken))
 
 add-edge-requires : tie.Need-add-edge-requires
 add-edge-requires c κs =
@@ -50,21 +65,22 @@ add-edge-requires c κs =
     let second = third .before in
     let first = second .before .before in
     record {
-      checked = start first .pre;
-      source-live = no-node-fault _ _ _ (sym (first .before .fault .ensures) ∙ first .if1 .left);
-      target-live = no-node-fault _ _ _ (sym (second .before .fault2 .ensures) ∙ second .if2 .left);
-      room = third .if3 .left;
+      checked = start (first .before) .pre;
+      in-order = order (first .before);
+      source-live = no-node-fault _ _ _ (sym (first .before .fault .ensures) ∙ first .if2 .left);
+      target-live = no-node-fault _ _ _ (sym (second .before .fault2 .ensures) ∙ second .if3 .left);
+      room = third .if4 .left;
     }
 
-returns-4 : tie.Need-returns-4
-returns-4 c =
+returns-5 : tie.Need-returns-5
+returns-5 c =
     let call = called c in
     let third = roomy (call .before) in
     let second = third .before in
     let first = second .before .before in
-    let s = start first in
-    edge-added (s .pre) (s .args .source) (s .args .target) (s .args .payload) (no-node-fault _ _ _ (sym (first .before .fault .ensures) ∙ first .if1 .left))
-    (no-node-fault _ _ _ (sym (second .before .fault2 .ensures) ∙ second .if2 .left)) (third .if3 .left) (call .add-edge .ensures)
+    let s = start (first .before) in
+    edge-added (s .pre) (s .args .source) (s .args .target) (order (first .before)) (no-node-fault _ _ _ (sym (first .before .fault .ensures) ∙ first .if2 .left))
+    (no-node-fault _ _ _ (sym (second .before .fault2 .ensures) ∙ second .if3 .left)) (third .if4 .left) (call .add-edge .ensures)
 
 pub add-edge-spec : {M : Type 1} → statement M
 add-edge-spec =
@@ -76,12 +92,16 @@ add-edge-spec =
     (λ c κs. search needs)
     (λ c κs. search needs)
     returns-2
-    (λ c. search needs)
+    (λ c κs. search needs)
     (λ c κs. search needs)
     returns-3
+    (λ c. search needs)
+    (λ c κs. search needs)
+    returns-4
     add-edge-requires
     (λ c. search needs)
     (λ c. search needs)
     (λ c. search needs)
     (λ c. search needs)
-    returns-4)
+    (λ c. search needs)
+    returns-5)

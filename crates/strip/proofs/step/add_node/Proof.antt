@@ -6,7 +6,7 @@ use Rattle.strip.proofs.step.add_node.Tie as tie
 
 -- the entry, and the place after the call
 abbrev entry : tie.After-slots → tie.Start
-entry c = c .before .before .before .before .before .before .before
+entry c = c .before .before .before .before .before .before .before .before
 
 abbrev called : tie.After-slice-known8 → tie.After-add-node
 called c = c .before .before .before .before .before .before .before .before

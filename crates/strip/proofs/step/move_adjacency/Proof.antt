@@ -10,7 +10,7 @@ use Rattle.strip.proofs.step.move_adjacency.Tie as tie
 
 -- the entry, and the places on the way
 abbrev entry : tie.After-slots → tie.Start
-entry c = c .before .before .before .before .before .before .before
+entry c = c .before .before .before .before .before .before .before .before
 
 abbrev compared : tie.Else2 → tie.Else1
 compared c = c .before .before

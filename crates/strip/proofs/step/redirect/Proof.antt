@@ -8,7 +8,7 @@ use Rattle.strip.proofs.step.redirect.Tie as tie
 
 -- the entry, and the places on the way
 abbrev entry : tie.After-slots → tie.Start
-entry c = c .before .before .before .before .before .before .before .before
+entry c = c .before .before .before .before .before .before .before .before .before
 
 abbrev start : tie.Else1 → tie.Start
 start c = entry (c .before .before)

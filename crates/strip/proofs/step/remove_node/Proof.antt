@@ -8,7 +8,7 @@ abbrev called : tie.After-after → tie.After-remove-node
 called c = c .before .before .before .before .before
 
 abbrev entry : tie.After-remove-node → tie.Start
-entry c = c .before .before .before .before .before .before .before .before .before
+entry c = c .before .before .before .before .before .before .before .before .before .before
 
 returns : tie.Need-returns
 returns c =

@@ -1,25 +1,56 @@
--- `step::set_payload` meets its contract: refused at or above the bound, else the store's.
+-- `step::set_payload` meets its contract: refused for a low above its high and at or above the bound, else the store's.
+use Prim.Native.Nat.{_≤_}
+use mathlib.Core.Path.{sym, _∙_}
 use borrow.Author.Needs.{needs}
-use Rattle.strip.proofs.Additions.{payload-absent, payload-set}
+use Rattle.strip.specs.Faults.{no-payload-fault}
+use Rattle.strip.proofs.Additions.{payload-inverted, payload-absent, payload-set}
 use Rattle.strip.proofs.step.set_payload.Statement.{statement}
 use Rattle.strip.proofs.step.set_payload.Tie as tie
 
-abbrev entry : tie.After-struct-known → tie.Start
+abbrev entry : tie.After-payload-fault → tie.Start
 entry c = c .before .before .before .before .before .before .before .before
 
-abbrev below : tie.After-slice-known2 → tie.Else1
-below c = c .before .before .before .before
+abbrev ordered : tie.After-struct-known → tie.Else1
+ordered c = c .before .before
+
+abbrev start : tie.After-struct-known → tie.Start
+start c = entry (ordered c .before)
+
+abbrev called : tie.After-slice-known4 → tie.After-set-payload
+called c = c .before .before .before .before
+
+abbrev below : tie.After-set-payload-arg2 → tie.Else2
+below c = c .before .before
+
+-- no low above its high
+order : (c : tie.After-struct-known) → start c .args .payload .low ≤ start c .args .payload .high
+order c = no-payload-fault _ (sym (ordered c .before .payload-fault .ensures) ∙ ordered c .if1 .left)
 
 returns : tie.Need-returns
 returns c =
-    let past = c .before in
-    let s = entry (past .before) in
-    rw (c .refused .ensures) (payload-absent (s .pre) (s .args .edge) (s .args .payload) (past .if1 .taken))
+    let wrong = c .before in
+    let s = entry (wrong .before) in
+    let e = wrong .before .payload-fault .ensures in
+    rw (c .refused .ensures, e) (payload-inverted (s .pre) (s .args .edge) (s .args .payload) (λ q. wrong .if1 .taken (e ∙ q)))
 
 returns-2 : tie.Need-returns-2
 returns-2 c =
-    let s = entry (below c .before) in
-    payload-set (s .pre) (s .args .edge) (s .args .payload) (below c .if1 .left) (c .before .before .set-payload .ensures)
+    let past = c .before in
+    let s = start (past .before) in
+    rw (c .refused2 .ensures) (payload-absent (s .pre) (s .args .edge) (order (past .before)) (past .if2 .taken))
+
+set-payload-requires : tie.Need-set-payload-requires
+set-payload-requires c κs =
+    let low = below c in
+    record { checked = start (low .before) .pre; in-order = order (low .before); below = low .if2 .left }
+
+returns-3 : tie.Need-returns-3
+returns-3 c =
+    let call = called c in
+    let low = below (call .before) in
+    let s = start (low .before) in
+    payload-set (s .pre) (s .args .edge) (order (low .before)) (low .if2 .left) (call .set-payload .ensures)
 
 pub set-payload-spec : {M : Type 1} → statement M
-set-payload-spec = tie.close (tie.spec (λ c κs. search needs) returns (λ c κs. search needs) (λ c. search needs) returns-2)
+set-payload-spec =
+    tie.close (tie.spec (λ c κs. search needs) (λ c κs. search needs) returns (λ c κs. search needs) returns-2 set-payload-requires (λ c. search needs) (λ c. search needs) returns-3)

@@ -33,23 +33,29 @@ returns : tie.Need-returns
 unfolding sizes-test
 returns c =
     let words = c .before in
-    passed (nodes-right (words .before .before .before)) (passed (edges-right (words .before))
-    (rw (sym (words .axis-length .ensures)) (passed (le-leb _ _ (c .if3 .taken)) refl)))
+    let highs = words .before in
+    passed (nodes-right (highs .before .before .before)) (passed (edges-right (highs .before)) (passed (le-leb _ _ (highs .if3 .taken))
+    (rw (sym (words .axis-length .ensures)) (passed (le-leb _ _ (c .if4 .taken)) refl))))
 
 returns-2 : tie.Need-returns-2
 unfolding sizes-test
 returns-2 c =
     let words = c .before in
-    passed (nodes-right (words .before .before .before)) (passed (edges-right (words .before))
-    (rw (sym (words .axis-length .ensures)) (rw (lt-leb _ _ (c .if3 .left)))))
+    let highs = words .before in
+    passed (nodes-right (highs .before .before .before)) (passed (edges-right (highs .before)) (passed (le-leb _ _ (highs .if3 .taken))
+    (rw (sym (words .axis-length .ensures)) (rw (lt-leb _ _ (c .if4 .left))))))
 
 returns-3 : tie.Need-returns-3
 unfolding sizes-test
-returns-3 c = passed (nodes-right (c .before .before)) (rw (sym (c .before .slots-right2 .ensures) ∙ c .if2 .left))
+returns-3 c = passed (nodes-right (c .before .before .before)) (passed (edges-right (c .before)) (rw (lt-leb _ _ (c .if3 .left))))
 
 returns-4 : tie.Need-returns-4
 unfolding sizes-test
-returns-4 c = rw (sym (c .before .slots-right .ensures) ∙ c .if1 .left)
+returns-4 c = passed (nodes-right (c .before .before)) (rw (sym (c .before .slots-right2 .ensures) ∙ c .if2 .left))
+
+returns-5 : tie.Need-returns-5
+unfolding sizes-test
+returns-5 c = rw (sym (c .before .slots-right .ensures) ∙ c .if1 .left)
 
 pub sizes-right-spec : {M : Type 1} → statement M
 sizes-right-spec =
@@ -57,8 +63,9 @@ sizes-right-spec =
     (tie.spec
     (λ c κs. search needs)
     (λ c κs. search needs)
-    (λ c κs. let w = within c in record { nodes-few = record { few = omega (arith, w .0) }; edges-few = record { few = omega (arith, w .1) } })
+    (λ c κs. let w = within (c .before) in record { nodes-few = record { few = omega (arith, w .0) }; edges-few = record { few = omega (arith, w .1) } })
     returns
     returns-2
     returns-3
-    returns-4)
+    returns-4
+    returns-5)

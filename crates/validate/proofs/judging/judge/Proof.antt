@@ -18,16 +18,16 @@ use Rattle.validate.proofs.judging.judge.Tie as tie
 
 -- the store that is lent
 abbrev lent : tie.Start → Words
-lent s = let a = s .args in store (a .counts) (a .nodes .now) (a .edges .now) (a .live-nodes .now) (a .live-edges .now) (a .outgoing .now) (a .incoming .now)
+lent s = let a = s .args in store (a .counts) (a .nodes .now) (a .lows .now) (a .highs .now) (a .live-nodes .now) (a .live-edges .now) (a .outgoing .now) (a .incoming .now)
 
 abbrev start : tie.After-sizes-right → tie.Start
-start r = r .before .before .before .before .before .before .before
+start r = r .before .before .before .before .before .before .before .before
 
 -- the first broken rule is the verdict
 judged : (r : tie.After-sizes-right) {rule : ℕ} → rule ≡ broken (lent (start r)) → Judged (lent (start r)) rule
 judged r first =
     let known = r .before .before .before .before .before in
-    judges first (λ x. omega (arith, known .before .shared-slice-known .given x)) (λ e. omega (arith, known .shared-slice-known2 .given e))
+    judges first (λ x. omega (arith, known .before .before .shared-slice-known .given x)) (λ e. omega (arith, known .shared-slice-known3 .given e))
 
 one : (c : tie.Else1) → rule-1 (lent (start (c .before))) ≡ true
 one c = sym (sizes-rule (lent (start (c .before)))) ∙ accepted (c .before .sizes-right .ensures) (c .if1 .left)

@@ -8,7 +8,7 @@ use Rattle.view.proofs.compactness.is_compact_checked.Statement.{statem
 use Rattle.view.proofs.compactness.is_compact_checked.Tie as tie
 
 abbrev start : tie.After-struct-known → tie.Start
-start c = c .before .before .before .before .before .before .before .before .before
+start c = c .before .before .before .before .before .before .before .before .before .before
 
 returns : tie.Need-returns
 returns c = sym (rw (ne-eqb _ _ (c .if1 .taken)) at (compact-parts (start (c .before) .pre)))

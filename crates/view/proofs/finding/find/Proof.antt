@@ -9,7 +9,7 @@ use Rattle.view.proofs.finding.find.Statement.{statement}
 use Rattle.view.proofs.finding.find.Tie as tie
 
 abbrev entry : tie.After-judge → tie.Start
-entry c = c .before .before .before .before .before .before .before
+entry c = c .before .before .before .before .before .before .before .before
 
 returns-2 : tie.Need-returns-2
 returns-2 c =

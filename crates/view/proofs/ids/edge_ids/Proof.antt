@@ -1,9 +1,16 @@
 -- `ids::edge_ids` meets its contract: a law for each way out.
+use native.Mathlib.Omega.{arith}
 use borrow.Author.Needs.{needs}
 use Rattle.view.specs.Calls.{reply-refuses}
 use Rattle.view.specs.Ids.{edge-ids-short, edge-ids-done, edge-ids-fit}
 use Rattle.view.proofs.ids.edge_ids.Statement.{statement}
 use Rattle.view.proofs.ids.edge_ids.Tie as tie
+
+-- there is room for the live slots, so their number fits a word
+cast-t20 : tie.Need-cast-t20
+cast-t20 c =
+    let room = c .before .before .before .before in
+    omega (arith, room .if2 .left, room .before .before .before .before .before .before .before .before .before .before .before .good)
 
 returns-2 : tie.Need-returns-2
 returns-2 c = edge-ids-short (c .before .before .judge .ensures) (c .before .if1 .left) (c .if2 .taken)
@@ -29,6 +36,6 @@ edge-ids-spec =
     returns-2
     (λ c. search needs)
     write-live-requires
-    (λ c. search needs)
+    cast-t20
     (λ c. search needs)
     returns-3)

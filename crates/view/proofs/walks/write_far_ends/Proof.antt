@@ -5,7 +5,7 @@ use Rattle.view.proofs.walks.write_far_ends.Statement.{statement}
 use Rattle.view.proofs.walks.write_far_ends.Tie as tie
 
 abbrev entry : tie.After-is-live → tie.Start
-entry c = c .before .before .before .before .before .before .before .before .before .before
+entry c = c .before .before .before .before .before .before .before .before .before .before .before
 
 write-neighbors-requires : tie.Need-write-neighbors-requires
 write-neighbors-requires c κs =

@@ -5,7 +5,7 @@ use Rattle.view.proofs.walks.write_list.Statement.{statement}
 use Rattle.view.proofs.walks.write_list.Tie as tie
 
 abbrev entry : tie.After-is-live → tie.Start
-entry c = c .before .before .before .before .before .before .before .before .before .before
+entry c = c .before .before .before .before .before .before .before .before .before .before .before
 
 write-walk-requires : tie.Need-write-walk-requires
 write-walk-requires c κs =

@@ -1,0 +1,95 @@
+-- Totals over a walk: of what two columns have at each listed entry, the sum of the one and the sum of the other.
+use Prim.Native.Nat.{ℕ, _+_, _*_, _^_, _≤_, _<_}
+use native.Mathlib.Omega.{arith}
+use mathlib.Core.Path.{_≡_}
+use mathlib.Core.Bool.{Bool}
+use mathlib.Core.List.{List, map}
+use lib.ListN.{length}
+use Rattle.plain.specs.Numbers.{LIMIT}
+use Rattle.plain.specs.Lists.{keep, sum}
+use Rattle.adjacency.specs.declared.cursor.AdjacencyCursor.{AdjacencyCursor}
+use Rattle.adjacency.specs.declared.cursor.Found.the-variants.{Edge, Done}
+use Rattle.adjacency.specs.declared.cursor.Step.{Step}
+use Rattle.adjacency.specs.declared.cursor.Sums.{Sums}
+use Rattle.adjacency.specs.Cursor.{word, remaining, listed-left, Ready, Seekable, Sought}
+use Rattle.adjacency.specs.Reading.{sought-edge, sought-none}
+
+-- the sums of the words of two columns at some edges
+abbrev pub sums-of : List ℕ → List ℕ → List ℕ → Sums
+sums-of lows highs edges = record { low = sum (map (word lows) edges); high = sum (map (word highs) edges) }
+
+-- What it takes to sum over the listed entries of a walk: both columns hold a word for each, and they are so few that no sum of 32-bit words wraps.
+pub record Summable (linked : Bool) (entries next : List ℕ) (tombstoned : Bool) (live : List ℕ) (slots : ℕ) (c : AdjacencyCursor) (lows highs : List ℕ)
+    : Type 0 where
+  pub seekable : Seekable linked entries next live slots c
+  pub few : length (listed-left linked entries next tombstoned live slots c) ≤ LIMIT
+  pub lows-long : length next ≤ length lows
+  pub highs-long : length next ≤ length highs
+
+-- the entries that pass and that a cursor has still to read
+abbrev left : (ℕ → Bool) → Bool → List ℕ → List ℕ → AdjacencyCursor → List ℕ
+left test linked entries next c = keep test (remaining linked entries next c)
+
+-- What holds at each turn of a summing of f and g from c₀ that has come to c, past so many entries: a sum and that of what is left are the whole sum, and it is
+-- one of so many words of 32 bits.
+pub record Summing (f g : ℕ → ℕ) (test : ℕ → Bool) (linked : Bool) (entries next : List ℕ) (c₀ : AdjacencyCursor) (low high : ℕ) (c : AdjacencyCursor)
+    : Type 0 where
+  pub past : ℕ
+  pub ready : Ready linked entries next c
+  pub counted : past + length (left test linked entries next c) ≡ length (left test linked entries next c₀)
+  pub few : length (left test linked entries next c₀) ≤ LIMIT
+  pub low-left : low + sum (map f (left test linked entries next c)) ≡ sum (map f (left test linked entries next c₀))
+  pub high-left : high + sum (map g (left test linked entries next c)) ≡ sum (map g (left test linked entries next c₀))
+  pub low-within : low ≤ 4_294_967_295 * past
+  pub high-within : high ≤ 4_294_967_295 * past
+
+-- where it starts
+pub summing-start : {f g : ℕ → ℕ} {test : ℕ → Bool} {linked : Bool} {entries next : List ℕ} {c : AdjacencyCursor} → Ready linked entries next c
+    → length (keep test (remaining linked entries next c)) ≤ LIMIT → Summing f g test linked entries next c 0 0 c
+summing-start r few = record {
+  past = 0;
+  ready = r;
+  counted = omega arith;
+  few = few;
+  low-left = omega arith;
+  high-left = omega arith;
+  low-within = omega arith;
+  high-within = omega arith;
+}
+
+module _ {f g : ℕ → ℕ} {test : ℕ → Bool} {linked : Bool} {entries next : List ℕ} {c₀ c : AdjacencyCursor} {low high : ℕ}
+    (i : Summing f g test linked entries next c₀ low high c) {s : Step} (found : Sought test linked entries next c s) where
+  -- there is an entry more
+  more : {e : ℕ} → s .found ≡ Edge e → i .past + (1 + length (left test linked entries next (s .cursor))) ≡ length (left test linked entries next c₀)
+  more {e} q = omega (arith, rw (sought-edge found q) at (i .counted))
+
+  -- no sum wraps
+  pub low-room : {e : ℕ} → s .found ≡ Edge e → f e < 2 ^ 32 → low + f e < 2 ^ 64
+  low-room q fits = omega (arith, more q, i .few, i .low-within)
+
+  pub high-room : {e : ℕ} → s .found ≡ Edge e → g e < 2 ^ 32 → high + g e < 2 ^ 64
+  high-room q fits = omega (arith, more q, i .few, i .high-within)
+
+  -- past one entry more
+  pub summing-on : {e : ℕ} → s .found ≡ Edge e → f e < 2 ^ 32 → g e < 2 ^ 32 → Summing f g test linked entries next c₀ (low + f e) (high + g e) (s .cursor)
+  unfolding sum
+  summing-on {e} q low-fits high-fits = record {
+    past = i .past + 1;
+    ready = found .ready;
+    counted = omega (arith, more q);
+    few = i .few;
+    low-left = omega (arith, rw (sought-edge found q) at (i .low-left));
+    high-left = omega (arith, rw (sought-edge found q) at (i .high-left));
+    low-within = omega (arith, i .low-within);
+    high-within = omega (arith, i .high-within);
+  }
+
+  -- fewer are left
+  pub summing-less : {e : ℕ} → s .found ≡ Edge e
+      → length (keep test (remaining linked entries next (s .cursor))) < length (keep test (remaining linked entries next c))
+  summing-less {e} q = rw (sought-edge found q) (omega arith)
+
+  -- at the end both are the whole sums
+  pub summing-end : s .found ≡ Done → (low ≡ sum (map f (left test linked entries next c₀))) × (high ≡ sum (map g (left test linked entries next c₀)))
+  unfolding sum
+  summing-end q = (omega (arith, rw (sought-none found q) at (i .low-left)), omega (arith, rw (sought-none found q) at (i .high-left)))
