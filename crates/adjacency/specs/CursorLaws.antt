@@ -10,7 +10,7 @@ use lib.ListN.{length}
 use lib.Dec.{eqb, ltb}
 use borrow.Author.Tests.{eqb-true, eqb-false, ne-eqb, ltb-true, ltb-false}
 use Rattle.plain.specs.Numbers.{NONE}
-use Rattle.plain.specs.Lists.{member}
+use Rattle.plain.specs.Lists.{member, keep}
 use Rattle.plain.specs.Laws.Booleans.{by-test, or-true}
 use Rattle.plain.specs.Laws.ListLaws.{member-first, member-later, member-append}
 use Rattle.shape.specs.Chains.{until, In}
@@ -144,6 +144,19 @@ module _ {linked : Bool} {entries next : List ℕ} {c : AdjacencyCursor} (ready 
   -- less is left
   pub turn-less : {e : ℕ} → s .found ≡ Edge e → length (remaining linked entries next (s .cursor)) < length (remaining linked entries next c)
   turn-less {e} q = rw (found-is q) (omega arith)
+
+  -- an entry stands before what is left, of the entries that pass
+  pub step-edge : (test : ℕ → Bool) {e : ℕ} → s .found ≡ Edge e → keep test (remaining linked entries next c) ≡ keep test (e ∷ remaining linked entries next (s .cursor))
+  step-edge test q = ap (keep test) (found-is q)
+
+  -- nothing was left
+  pub step-none : (test : ℕ → Bool) → s .found ≡ Done → keep test (remaining linked entries next c) ≡ []
+  unfolding keep
+  step-none test q = ap (keep test) (found-is q)
+
+  -- an entry is an edge of the columns
+  pub step-below : {e : ℕ} → s .found ≡ Edge e → e < length next
+  step-below {e} q = ready .below e (rw (found-is q) (member-first e (remaining linked entries next (s .cursor))))
 
 -- ---- the search for the next entry that passes
 

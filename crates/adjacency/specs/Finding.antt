@@ -1,18 +1,18 @@
 -- Finding in a walk: the first listed entry that is wanted, or NONE.
-use Prim.Native.Nat.{ℕ, _<_}
-use native.Mathlib.Omega.{arith}
+use Prim.Native.Nat.{ℕ}
 use mathlib.Core.Path.{_≡_, refl, _∙_}
 use mathlib.Core.Bool.{Bool, true, false}
 use mathlib.Core.List.{List}
-use lib.ListN.{length, getD}
+use lib.ListN.{getD}
 use lib.Dec.{eqb}
 use Rattle.plain.specs.Numbers.{NONE}
 use Rattle.plain.specs.Lists.{keep}
+use Rattle.plain.specs.Laws.Booleans.{by-test}
 use Rattle.adjacency.specs.declared.cursor.AdjacencyCursor.{AdjacencyCursor}
 use Rattle.adjacency.specs.declared.cursor.Found.the-variants.{Edge, Done}
 use Rattle.adjacency.specs.declared.cursor.Step.{Step}
-use Rattle.adjacency.specs.Cursor.{remaining, Ready, Sought}
-use Rattle.adjacency.specs.Reading.{sought-edge, sought-none}
+use Rattle.adjacency.specs.Cursor.{remaining, step-of, Ready}
+use Rattle.adjacency.specs.CursorLaws.{turn, step-edge, step-none}
 
 -- the first entry of a list that is wanted, NONE where none is
 unfoldable pub first-of : (ℕ → Bool) → List ℕ → ℕ
@@ -33,23 +33,24 @@ pub search-start : {wanted test : ℕ → Bool} {linked : Bool} {entries next : 
 search-start r = record { ready = r; same = refl }
 
 module _ {wanted test : ℕ → Bool} {linked : Bool} {entries next : List ℕ} {c₀ c : AdjacencyCursor} (i : Searching wanted test linked entries next c₀ c)
-    {s : Step} (found : Sought test linked entries next c s) where
-  -- an entry that is wanted
-  pub search-found : {e : ℕ} → s .found ≡ Edge e → wanted e ≡ true → first-of wanted (keep test (remaining linked entries next c₀)) ≡ e
+    {s : Step} (r : s ≡ step-of linked entries next c) where
+  -- an entry that passes and is wanted
+  pub search-found : {e : ℕ} → s .found ≡ Edge e → wanted e ≡ true → test e ≡ true → first-of wanted (keep test (remaining linked entries next c₀)) ≡ e
   unfolding first-of keep
-  search-found {e} q t = i .same ∙ rw (sought-edge found q, t)
+  search-found {e} q t p = i .same ∙ rw (step-edge (i .ready) r test q, p, t)
 
   -- the end
   pub search-none : s .found ≡ Done → first-of wanted (keep test (remaining linked entries next c₀)) ≡ NONE
   unfolding first-of keep
-  search-none q = i .same ∙ rw (sought-none found q)
+  search-none q = i .same ∙ rw (step-none (i .ready) r test q)
 
-  -- past an entry that is not wanted
+  -- past an entry that does not pass
+  pub search-skip : {e : ℕ} → s .found ≡ Edge e → test e ≡ false → Searching wanted test linked entries next c₀ (s .cursor)
+  unfolding keep
+  search-skip {e} q p = record { ready = turn (i .ready) r .ready; same = i .same ∙ rw (step-edge (i .ready) r test q, p) }
+
+  -- past an entry that is not wanted, whether it passes or not
   pub search-on : {e : ℕ} → s .found ≡ Edge e → wanted e ≡ false → Searching wanted test linked entries next c₀ (s .cursor)
   unfolding first-of keep
-  search-on {e} q t = record { ready = found .ready; same = i .same ∙ rw (sought-edge found q, t) }
-
-  -- fewer are left
-  pub search-less : {e : ℕ} → s .found ≡ Edge e
-      → length (keep test (remaining linked entries next (s .cursor))) < length (keep test (remaining linked entries next c))
-  search-less {e} q = rw (sought-edge found q) (omega arith)
+  search-on {e} q t =
+      by-test (test e) (λ p. record { ready = turn (i .ready) r .ready; same = i .same ∙ rw (step-edge (i .ready) r test q, p, t) }) (search-skip q)

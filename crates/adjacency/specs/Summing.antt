@@ -1,9 +1,9 @@
 -- Totals over a walk: of what two columns have at each listed entry, the sum of the one and the sum of the other.
 use Prim.Native.Nat.{ℕ, _+_, _*_, _^_, _≤_, _<_}
 use native.Mathlib.Omega.{arith}
-use mathlib.Core.Path.{_≡_}
-use mathlib.Core.Bool.{Bool}
-use mathlib.Core.List.{List, map}
+use mathlib.Core.Path.{_≡_, _∙_}
+use mathlib.Core.Bool.{Bool, true, false}
+use mathlib.Core.List.{List, _∷_, map}
 use lib.ListN.{length}
 use Rattle.plain.specs.Numbers.{LIMIT}
 use Rattle.plain.specs.Lists.{keep, sum}
@@ -11,8 +11,8 @@ use Rattle.adjacency.specs.declared.cursor.AdjacencyCursor.{AdjacencyCur
 use Rattle.adjacency.specs.declared.cursor.Found.the-variants.{Edge, Done}
 use Rattle.adjacency.specs.declared.cursor.Step.{Step}
 use Rattle.adjacency.specs.declared.cursor.Sums.{Sums}
-use Rattle.adjacency.specs.Cursor.{word, remaining, listed-left, Ready, Seekable, Sought}
-use Rattle.adjacency.specs.Reading.{sought-edge, sought-none}
+use Rattle.adjacency.specs.Cursor.{word, remaining, step-of, listed-left, Ready, Seekable}
+use Rattle.adjacency.specs.CursorLaws.{turn, step-edge, step-none}
 
 -- the sums of the words of two columns at some edges
 abbrev pub sums-of : List ℕ → List ℕ → List ℕ → Sums
@@ -58,38 +58,58 @@ summing-start r few = record {
 }
 
 module _ {f g : ℕ → ℕ} {test : ℕ → Bool} {linked : Bool} {entries next : List ℕ} {c₀ c : AdjacencyCursor} {low high : ℕ}
-    (i : Summing f g test linked entries next c₀ low high c) {s : Step} (found : Sought test linked entries next c s) where
-  -- there is an entry more
-  more : {e : ℕ} → s .found ≡ Edge e → i .past + (1 + length (left test linked entries next (s .cursor))) ≡ length (left test linked entries next c₀)
-  more {e} q = omega (arith, rw (sought-edge found q) at (i .counted))
-
-  -- no sum wraps
-  pub low-room : {e : ℕ} → s .found ≡ Edge e → f e < 2 ^ 32 → low + f e < 2 ^ 64
-  low-room q fits = omega (arith, more q, i .few, i .low-within)
-
-  pub high-room : {e : ℕ} → s .found ≡ Edge e → g e < 2 ^ 32 → high + g e < 2 ^ 64
-  high-room q fits = omega (arith, more q, i .few, i .high-within)
-
-  -- past one entry more
-  pub summing-on : {e : ℕ} → s .found ≡ Edge e → f e < 2 ^ 32 → g e < 2 ^ 32 → Summing f g test linked entries next c₀ (low + f e) (high + g e) (s .cursor)
-  unfolding sum
-  summing-on {e} q low-fits high-fits = record {
-    past = i .past + 1;
-    ready = found .ready;
-    counted = omega (arith, more q);
-    few = i .few;
-    low-left = omega (arith, rw (sought-edge found q) at (i .low-left));
-    high-left = omega (arith, rw (sought-edge found q) at (i .high-left));
-    low-within = omega (arith, i .low-within);
-    high-within = omega (arith, i .high-within);
-  }
-
-  -- fewer are left
-  pub summing-less : {e : ℕ} → s .found ≡ Edge e
-      → length (keep test (remaining linked entries next (s .cursor))) < length (keep test (remaining linked entries next c))
-  summing-less {e} q = rw (sought-edge found q) (omega arith)
-
+    (i : Summing f g test linked entries next c₀ low high c) {s : Step} (r : s ≡ step-of linked entries next c) where
   -- at the end both are the whole sums
   pub summing-end : s .found ≡ Done → (low ≡ sum (map f (left test linked entries next c₀))) × (high ≡ sum (map g (left test linked entries next c₀)))
   unfolding sum
-  summing-end q = (omega (arith, rw (sought-none found q) at (i .low-left)), omega (arith, rw (sought-none found q) at (i .high-left)))
+  summing-end q =
+      (omega (arith, rw (step-none (i .ready) r test q) at (i .low-left)), omega (arith, rw (step-none (i .ready) r test q) at (i .high-left)))
+
+  module _ {e : ℕ} (q : s .found ≡ Edge e) where
+    -- past an entry that does not pass
+    over : test e ≡ false → left test linked entries next c ≡ left test linked entries next (s .cursor)
+    unfolding keep
+    over t = step-edge (i .ready) r test q ∙ rw t
+
+    pub summing-skip : test e ≡ false → Summing f g test linked entries next c₀ low high (s .cursor)
+    summing-skip t = record {
+      past = i .past;
+      ready = turn (i .ready) r .ready;
+      counted = rw (over t) at (i .counted);
+      few = i .few;
+      low-left = rw (over t) at (i .low-left);
+      high-left = rw (over t) at (i .high-left);
+      low-within = i .low-within;
+      high-within = i .high-within;
+    }
+
+    module _ (t : test e ≡ true) where
+      -- an entry that passes stands before those that are left
+      first : left test linked entries next c ≡ e ∷ left test linked entries next (s .cursor)
+      unfolding keep
+      first = step-edge (i .ready) r test q ∙ rw t
+
+      -- there is an entry more
+      more : i .past + (1 + length (left test linked entries next (s .cursor))) ≡ length (left test linked entries next c₀)
+      more = omega (arith, rw first at (i .counted))
+
+      -- no sum wraps
+      pub low-room : f e < 2 ^ 32 → low + f e < 2 ^ 64
+      low-room fits = omega (arith, more, i .few, i .low-within)
+
+      pub high-room : g e < 2 ^ 32 → high + g e < 2 ^ 64
+      high-room fits = omega (arith, more, i .few, i .high-within)
+
+      -- past one entry more
+      pub summing-on : f e < 2 ^ 32 → g e < 2 ^ 32 → Summing f g test linked entries next c₀ (low + f e) (high + g e) (s .cursor)
+      unfolding sum
+      summing-on low-fits high-fits = record {
+        past = i .past + 1;
+        ready = turn (i .ready) r .ready;
+        counted = omega (arith, more);
+        few = i .few;
+        low-left = omega (arith, rw first at (i .low-left));
+        high-left = omega (arith, rw first at (i .high-left));
+        low-within = omega (arith, i .low-within);
+        high-within = omega (arith, i .high-within);
+      }

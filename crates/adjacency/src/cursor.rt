@@ -193,7 +193,7 @@ impl AdjacencyCursor {
         }
     }
 
-    // How many listed entries are left.
+    // How many listed entries are left. It steps for itself, as all that read a whole walk do: a search for each entry is a call more.
     pub fn count(
         self,
         linked: bool,
@@ -209,18 +209,23 @@ impl AdjacencyCursor {
         let mut cursor = self;
         let mut n: usize = 0;
         loop {
-            let step = cursor.seek(linked, entries, next, tombstoned, live, slots);
+            let step = cursor.step(linked, entries, next);
             let found = step.found;
-            if let Found::Done = found {
-                return n;
+            match found {
+                Found::Edge(edge) => {
+                    if is_listed(tombstoned, live, slots, edge) {
+                        n += 1;
+                    }
+                }
+                Found::Done => {
+                    return n;
+                }
             }
-            n += 1;
             cursor = step.cursor;
         }
     }
 
-    // Writes the listed entries that are left to the start of `out`, and answers how many they are. It steps for itself: most walks are short, and a search for
-    // each entry is a call more.
+    // Writes the listed entries that are left to the start of `out`, and answers how many they are.
     pub fn write(
         self,
         linked: bool,
@@ -273,17 +278,19 @@ impl AdjacencyCursor {
         let mut cursor = self;
         let mut n: usize = 0;
         loop {
-            let step = cursor.seek(linked, entries, next, tombstoned, live, slots);
+            let step = cursor.step(linked, entries, next);
             let found = step.found;
             match found {
                 Found::Edge(edge) => {
-                    out[n] = ends[edge as usize];
+                    if is_listed(tombstoned, live, slots, edge) {
+                        out[n] = ends[edge as usize];
+                        n += 1;
+                    }
                 }
                 Found::Done => {
                     return;
                 }
             }
-            n += 1;
             cursor = step.cursor;
         }
     }
@@ -306,12 +313,14 @@ impl AdjacencyCursor {
     {
         let mut cursor = self;
         loop {
-            let step = cursor.seek(linked, entries, next, tombstoned, live, slots);
+            let step = cursor.step(linked, entries, next);
             let found = step.found;
             match found {
                 Found::Edge(edge) => {
                     if ends[edge as usize] == end {
-                        return edge;
+                        if is_listed(tombstoned, live, slots, edge) {
+                            return edge;
+                        }
                     }
                 }
                 Found::Done => {
@@ -341,13 +350,15 @@ impl AdjacencyCursor {
         let mut low: u64 = 0;
         let mut high: u64 = 0;
         loop {
-            let step = cursor.seek(linked, entries, next, tombstoned, live, slots);
+            let step = cursor.step(linked, entries, next);
             let found = step.found;
             match found {
                 Found::Edge(edge) => {
-                    let at = edge as usize;
-                    low += lows[at] as u64;
-                    high += highs[at] as u64;
+                    if is_listed(tombstoned, live, slots, edge) {
+                        let at = edge as usize;
+                        low += lows[at] as u64;
+                        high += highs[at] as u64;
+                    }
                 }
                 Found::Done => {
                     return Sums {

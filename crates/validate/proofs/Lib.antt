@@ -4,7 +4,6 @@ pub mod Ringing
 pub mod Climbing
 pub mod Marking
 pub mod Following
-pub mod Stepping
 pub mod Running
 pub mod Walking
 pub mod Flattening

@@ -1,11 +1,15 @@
--- `adjacency::cursor::AdjacencyCursor::count` meets its contract. The loop's invariant is `Walked`, the measure how many listed entries are left.
+-- `adjacency::cursor::AdjacencyCursor::count` meets its contract. The loop's invariant is `Walked`, the measure how many entries remain, listed or not.
+use Prim.Native.Nat.{_+_, _≤_}
 use mathlib.Core.Path.{sym, ap, _∙_}
+use mathlib.Core.Logic.{⊎-elim}
 use native.Mathlib.Omega.{arith}
 use borrow.Author.Needs.{needs}
 use lib.ListN.{length}
+use Rattle.plain.specs.Numbers.{NONE, LIMIT}
 use Rattle.liveness.specs.Flags.{live-flags}
-use Rattle.adjacency.specs.Cursor.{listed, listed-left}
-use Rattle.adjacency.specs.Reading.{Walked, walked-start, walked-on, walked-less, walked-end, walked-few}
+use Rattle.adjacency.specs.Cursor.{remaining, listed}
+use Rattle.adjacency.specs.CursorLaws.{seek-start, seek-listed, seek-done, turn-less}
+use Rattle.adjacency.specs.Reading.{Walked, walked-start, walked-on, walked-skip, walked-end, walked-few}
 use Rattle.adjacency.proofs.cursor.AdjacencyCursor.count.Statement.{statement}
 use Rattle.adjacency.proofs.cursor.AdjacencyCursor.count.Tie as tie
 
@@ -14,32 +18,54 @@ Inv-loop linked entries next tombstoned live slots cursor₀ n₀ cursor n =
     Walked (listed tombstoned (live-flags live slots)) linked entries next cursor₀ n cursor
 
 abbrev μ-loop : tie.MeasureT-loop
-μ-loop linked entries next tombstoned live slots cursor₀ n₀ cursor n = length (listed-left linked entries next tombstoned live slots cursor)
+μ-loop linked entries next tombstoned live slots cursor₀ n₀ cursor n = length (remaining linked entries next cursor)
 
 loop-holds : tie.Need-loop-holds Inv-loop μ-loop
 loop-holds c = walked-start (c .before .before .before .pre .ready)
 
-seek-requires : tie.Need-seek-requires Inv-loop μ-loop
-seek-requires c κs = record { ready = c .loop .inv .ready; live-long = c .before .before .before .before .pre .live-long }
+is-listed-requires : tie.Need-is-listed-requires Inv-loop μ-loop
+is-listed-requires c κs = c .before .before .before .before .before .before .before .before .pre .live-long
+
+-- few entries are past
+few : (c : tie.At-loop Inv-loop μ-loop) → c .loop .n ≤ NONE + LIMIT
+few c = walked-few (c .before .before .before .before .pre .ready) (c .loop .inv)
 
 returns : tie.Need-returns Inv-loop μ-loop
 returns c =
     let s = c .before .before in
     let w = s .before .loop .inv in
-    w .counted ∙ sym (ap length (walked-end w (s .seek .ensures) (c .enum-told .given .1)))
-
-add-n : tie.Need-add-n Inv-loop μ-loop
-add-n c =
-    let s = c .before .before .before in
-    omega (arith, walked-few (s .before .before .before .before .pre .ready) (s .loop .inv))
+    let q = c .enum-told .given .1 in
+    w .counted ∙ sym (ap length (walked-end w (seek-done (seek-start (w .ready)) (s .step .ensures) q) q))
 
 loop-less : tie.Need-loop-less Inv-loop μ-loop
-loop-less c = let s = c .before .before .before in walked-less (s .before .loop .inv) (s .seek .ensures) (c .before .enum-told2 .given .1)
+loop-less c =
+    let l = c .before .before in
+    let s = l .before .before .before .before in
+    turn-less (s .before .loop .inv .ready) (s .step .ensures) (l .before .before .found .given .1)
 
 loop-again : tie.Need-loop-again Inv-loop μ-loop
-loop-again c = let s = c .before .before .before in walked-on (s .before .loop .inv) (s .seek .ensures) (c .before .enum-told2 .given .1)
+loop-again c =
+    let l = c .before .before in
+    let s = l .before .before .before .before in
+    let w = s .before .loop .inv in
+    let q = l .before .before .found .given .1 in
+    ⊎-elim
+    (λ a. rw (a .1) (walked-on w (seek-listed (seek-start (w .ready)) (s .step .ensures) q (sym (l .is-listed .ensures) ∙ a .0 .taken)) q))
+    (λ a. rw (a .1) (walked-skip (w .ready) (s .step .ensures) q (sym (l .is-listed .ensures) ∙ a .0 .left) w))
+    (c .before .if1 .came)
 
 pub count-spec : {M : Type 1} → statement M
 count-spec =
     tie.close
-    (tie.spec Inv-loop μ-loop loop-holds seek-requires (λ c. search needs) returns (λ c. search needs) add-n loop-less loop-again)
+    (tie.spec
+    Inv-loop
+    μ-loop
+    loop-holds
+    (λ c κs. c .loop .inv .ready)
+    (λ c. search needs)
+    is-listed-requires
+    (λ c. omega (arith, few (c .before .before .before .before .before .before)))
+    (λ c. search needs)
+    returns
+    loop-less
+    loop-again)
