@@ -129,11 +129,6 @@ module _ {test : ℕ → Bool} {linked : Bool} {entries next : List ℕ} {c₀ c
   pub walked-room : {e : ℕ} → s .found ≡ Edge e → n < length (keep test (remaining linked entries next c₀))
   walked-room {e} q = rw (w .whole, sought-edge found q) (simp length-append (omega (arith, w .counted)))
 
-  -- fewer are left
-  pub walked-less : {e : ℕ} → s .found ≡ Edge e
-      → length (keep test (remaining linked entries next (s .cursor))) < length (keep test (remaining linked entries next c))
-  walked-less {e} q = rw (sought-edge found q) (omega arith)
-
   -- at the end all are past
   pub walked-end : s .found ≡ Done → keep test (remaining linked entries next c₀) ≡ w .past
   walked-end q = w .whole ∙ rw (sought-none found q) (append-nil (w .past))

@@ -67,15 +67,14 @@ module _ {ws : List ℕ} {ce cn : ℕ} {counts : Counts} {node : ℕ} (pre : Cut
     pub relabel-below : p < ce
     relabel-below = small p (rw split (in-second p (s .done) (p ∷ rest) (member-first p rest)))
 
-    -- the link of p is as it was, also after the store
-    pub relabel-link : getD (set vs p new) (3 * ce + p) 0 ≡ link-at ws ce p
+    -- the link of p is as it was
+    relabel-link : getD vs (3 * ce + p) 0 ≡ link-at ws ce p
     relabel-link =
         let low = relabel-below in
-        getD-set-other vs p (3 * ce + p) new 0 (omega arith)
-        ∙ s .now .kept (3 * ce + p) (λ m. let bad = small (3 * ce + p) (rw split (in-front (3 * ce + p) (s .done) (p ∷ rest) m)) in omega arith)
+        s .now .kept (3 * ce + p) (λ m. let bad = small (3 * ce + p) (rw split (in-front (3 * ce + p) (s .done) (p ∷ rest) m)) in omega arith)
 
     -- the end of p is stored
-    pub relabel-more : Relabelling ws (set vs p new) ce cn node new (left - 1) (getD (set vs p new) (3 * ce + p) 0)
+    pub relabel-more : Relabelling ws (set vs p new) ce cn node new (left - 1) (getD vs (3 * ce + p) 0)
     relabel-more =
         rw relabel-link
         (record {

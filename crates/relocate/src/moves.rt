@@ -6,7 +6,8 @@ use plain::Counts;
 ghost use Rattle.relocate.specs.Runs.{Cuttable};
 ghost use Rattle.relocate.specs.Moves.{RunRelabelled, HandableOver, HandedOver, Movable, Met, Moved};
 
-// Makes `new` the end of the edges in the run of a node, and answers how many they are.
+// Makes `new` the end of the edges in the run of a node, and answers how many they are. The link is read before the end is stored: the two words' addresses often
+// agree in their low bits, and a load behind such a store waits for it.
 fn relabel(
     axis: &mut [u32],
     edges: usize,
@@ -24,8 +25,8 @@ fn relabel(
     while left > 0 {
         let slot = next as usize;
         let at = 3 * edges + slot;
-        axis[slot] = new;
         next = axis[at];
+        axis[slot] = new;
         left -= 1;
     }
     length

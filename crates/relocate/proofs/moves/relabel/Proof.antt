@@ -1,8 +1,8 @@
 -- `moves::relabel` meets its contract. The invariant is `Relabelling`; the measure is how many entries are left.
-use Prim.Native.Nat.{_<_}
+use Prim.Native.Nat.{_*_, _≤_, _<_}
 use native.Mathlib.Omega.{arith}
 use borrow.Author.Needs.{needs}
-use lib.ListN.{length-set}
+use lib.ListN.{length}
 use Rattle.relocate.proofs.Moving.{Relabelling, relabel-start, relabel-below, relabel-more, relabel-end}
 use Rattle.relocate.proofs.moves.relabel.Statement.{statement}
 use Rattle.relocate.proofs.moves.relabel.Tie as tie
@@ -19,6 +19,10 @@ start c = c .before .before .before
 -- the present entry is an edge
 next-in : (c : tie.In-loop Inv-loop μ-loop) → c .before .loop .next < start (c .before) .args .edges
 next-in c = relabel-below (start (c .before) .pre) (start (c .before) .args .new) (c .loop-test .taken) (c .before .loop .inv)
+
+-- and the axis has a word for its end and one for its link
+long : (c : tie.After-slice-known3 Inv-loop μ-loop) → 4 * start (c .before .before) .args .edges ≤ length (c .before .before .loop .axis)
+long c = omega (arith, c .before .before .loop .inv .now .long, start (c .before .before) .pre .editable .sized .room)
 
 pub relabel-spec : {M : Type 1} → statement M
 relabel-spec =
@@ -42,9 +46,9 @@ relabel-spec =
     (λ c. search needs)
     (λ c. omega (arith, next-in c))
     (λ c. omega (arith, next-in c))
-    (λ c. omega (arith, next-in c, c .before .loop .inv .now .long, start (c .before) .pre .editable .sized .room))
-    (λ c. omega (arith, next-in c))
-    (λ c. simp length-set (omega (arith, next-in (c .before), c .before .before .loop .inv .now .long, start (c .before .before) .pre .editable .sized .room)))
+    (λ c. omega (arith, next-in (c .before), long c))
+    (λ c. omega (arith, next-in (c .before)))
+    (λ c. omega (arith, next-in (c .before), long c))
     (λ c. search needs)
     (λ c. omega arith)
     (λ c. let i = c .before in relabel-more (start (i .before) .pre) _ (i .loop-test .taken) (i .before .loop .inv))
