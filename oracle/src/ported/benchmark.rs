@@ -13,6 +13,8 @@
 //! makes the runs from the map that was decoded, testing their entries; what that
 //! takes is timed by itself too.
 
+mod shapes;
+
 use std::time::{Duration, Instant};
 
 use super::Port;
@@ -28,7 +30,7 @@ use crate::rust_store::{self, RustStore, perform};
 /// As many nodes as edges.
 const SLOTS: u32 = LIMIT as u32;
 /// How often each check is timed.
-const TIMES: usize = 201;
+const TIMES: usize = 41;
 
 fn added(rng: &mut Rng) -> RustStore {
     let mut rust = RustStore::fresh(Capacities {
@@ -429,12 +431,5 @@ pub fn run(seed: u64) {
     println!("stores of {SLOTS} nodes and {SLOTS} edges, seed {seed}");
     let mut rng = Rng::new(seed);
     compare_operations(&mut rng);
-    println!("the check, median of {TIMES}");
-    let delta = added(&mut rng);
-    let mut compact = delta.clone();
-    compact.graph.compact();
-    compare("delta, as operations added it", &delta);
-    compare("compact, after compaction", &compact);
-    let redirected = redirected(compact, &mut rng);
-    compare("redirected, both ends of every edge", &redirected);
+    shapes::run(&mut rng);
 }
