@@ -13,9 +13,9 @@ use Rattle.plain.specs.declared.Slots.{Slots}
 use Rattle.plain.specs.Numbers.{LIMIT}
 use Rattle.plain.specs.Memory.{live-words}
 use Rattle.plain.specs.Lists.{written, joined}
-use Rattle.plain.specs.Plain.{low-of, high-of, no-node, node-flags, edge-flags, end-of}
+use Rattle.plain.specs.Plain.{low-of, high-of, no-node, node-flags, end-of}
 use Rattle.plain.specs.Reads.{live-count, live-slots}
-use Rattle.plain.specs.Compaction.{EdgeRecord, Survivors, rank, survivors, surviving-edge, source-of, target-of, adjacency}
+use Rattle.plain.specs.Compaction.{Survivors, rank, survivors, surviving-edge, source-of, target-of, adjacency}
 use Rattle.plain.specs.Bits.{bits-of, row, padding, bytes-for, least-width}
 use Rattle.plain.specs.Image.{edge-bits, image-bits, image, record-width, nodes-start, edges-start, outs-start, image-size, count-width, node-payload-width, edge-payload-width}
 use Rattle.plain.specs.WellFormed.{Sound}
@@ -38,7 +38,7 @@ use Rattle.relocate.specs.Stores.{checked-end}
 use Rattle.compact.specs.Working.{both-walks, both-length, both-live, both-renumbered}
 use Rattle.bits.specs.Wrote.{Wrote, wrote-then, wrote-pack}
 use Rattle.image.specs.Strung.{WroteTo, wrote-on, PiecesFit}
-use Rattle.image.specs.Writing.{NodesFit, RanksThere, EdgesFit, EntriesFit, live-payloads, record-at, live-records}
+use Rattle.image.specs.Writing.{NodesFit, EdgesFit, EntriesFit, live-payloads, record-at, live-records}
 
 -- "node count n and edge count m (16 bits each)"
 abbrev pub count-bits : ℕ → ℕ → List ℕ

@@ -2,7 +2,7 @@
 -- leave nothing out, so each number is given exactly in its case; a refused call leaves the store.
 use Prim.Native.Nat.{ℕ, zero, suc, _*_, _%_, _≤_, _<_}
 use mathlib.Core.Path.{_≡_, refl, sym, ap, _∙_}
-use mathlib.Core.Bool.{Bool, true, false}
+use mathlib.Core.Bool.{Bool, false}
 use mathlib.Core.Logic.{_⊎_, inl, inr, ⊎-elim}
 use mathlib.Core.Option.{Option, none, some, Option·map}
 use mathlib.Core.List.{List, [], _∷_, map}

@@ -211,15 +211,3 @@ module _ (caps : Capacities) (w : Within caps) (s : State) (h : WellFormed caps 
       → closing-image s node-map edge-map work again room ≡ write-image (s .lists) again room
   closing-image-is e again room =
       rw (compaction-state s node-map edge-map work e) (write-survivors (compacted (s .lists)) (s .lists) survivors-compacted again room)
-
-  -- "the only other number they can give is 2": the image writing
-  pub closing-image-number : compaction s node-map edge-map work .number ≡ 0 → (again room : ℕ)
-      → (closing-image s node-map edge-map work again room .number ≡ 0) ⊎ (closing-image s node-map edge-map work again room .number ≡ 2)
-  closing-image-number e again room = rw (closing-image-is e again room) (write-number (s .lists) again room)
-
-  -- the bytes of a closing image that answers 0
-  pub closing-bytes : compaction s node-map edge-map work .number ≡ 0 → (again room : ℕ) → closing-image s node-map edge-map work again room .number ≡ 0
-      → closing-image s node-map edge-map work again room
-      ≡ record { number = 0; value = length (image (survivors (s .lists))); words = image (survivors (s .lists)) }
-  closing-bytes e again room k =
-      let r = closing-image-is e again room in r ∙ write-whole (s .lists) again room (sym (ap (λ (t : Reply). t .number) r) ∙ k)

@@ -1,11 +1,10 @@
 -- `image::write::write_entries` meets its contract: after each turn one entry more was written.
 use Prim.Native.Nat.{_-_, _≤_}
-use mathlib.Core.Path.{refl, sym, ap}
+use mathlib.Core.Path.{refl}
 use native.Mathlib.Omega.{arith}
 use lib.ListN.{length, getD}
 use borrow.Author.Needs.{needs}
 use Rattle.plain.specs.Compaction.{rank}
-use Rattle.plain.specs.Bits.{bits-of}
 use Rattle.plain.specs.Laws.Bits.{length-bits-of}
 use Rattle.liveness.specs.Flags.{live-flags}
 use Rattle.image.specs.Strung.{StrungTo, entry-none, entry-more, entries-all, row-strung}

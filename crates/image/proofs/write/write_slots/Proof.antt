@@ -1,5 +1,4 @@
 -- `image::write::write_slots` meets its contract: counts, nodes and edges follow each other.
-use mathlib.Core.Path.{_∙_}
 use borrow.Author.Needs.{needs}
 use Rattle.image.specs.Surviving.{node-words, node-slots, ranks-room, counts-fit, edges-fit, wrote-slots}
 use Rattle.image.proofs.write.write_slots.Statement.{statement}

@@ -1,0 +1,41 @@
+-- `lotstrip_text::book::book` meets its contract: the strip and the image one after the other.
+use borrow.Author.Needs.{needs}
+use Rattle.lotstrip_text.specs.Booking.{closing-of}
+use Rattle.lotstrip_text.proofs.book.book.Statement.{statement}
+use Rattle.lotstrip_text.proofs.book.book.Tie as tie
+
+-- the entry, from the strip
+abbrev start : tie.After-run-strip → tie.Start
+start c = c .before .before .before .before .before .before .before .before .before .before .before .before
+
+print-image-requires : tie.Need-print-image-requires
+print-image-requires c κs = let ran = c .before .before .before .before .before .before .before .before .before .before .before .before .before .before .before .before .before in record { held = ran .run-strip .ensures .held; room = start ran .pre .1 .1 }
+
+returns : tie.Need-returns
+returns c =
+    let print = c .before .before in
+    let ran = print .before .before .before .before .before .before .before .before .before .before .before .before .before .before .before .before .before .before in closing-of (ran .run-strip .ensures) (print .print-image .ensures)
+
+pub book-spec : {M : Type 1} → statement M
+book-spec =
+    tie.close
+    (tie.spec
+    (λ c. search needs)
+    (λ c. search needs)
+    (λ c. search needs)
+    (λ c. search needs)
+    (λ c. search needs)
+    (λ c. search needs)
+    (λ c. search needs)
+    (λ c κs. search needs)
+    (λ c. search needs)
+    (λ c. search needs)
+    (λ c. search needs)
+    (λ c. search needs)
+    (λ c. search needs)
+    (λ c. search needs)
+    (λ c. search needs)
+    print-image-requires
+    (λ c. search needs)
+    (λ c. search needs)
+    returns)
