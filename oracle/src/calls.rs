@@ -112,7 +112,7 @@ impl Lots for Model {
     }
 
     fn image(&self) -> Vec<u8> {
-        image::write(&self.plain)
+        image::of(&self.plain)
     }
 }
 

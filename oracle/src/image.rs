@@ -19,10 +19,14 @@ fn bit_length(nodes: usize, edges: usize) -> usize {
     32 + 32 * nodes + (2 * w + 64) * edges + 2 * v * edges
 }
 
-/// The image of plain lists. Request 2: it "gives what compaction followed by writing
-/// would give".
+/// The image of what survives of plain lists. Request 2: it "gives what compaction
+/// followed by writing would give".
+pub fn of(plain: &Plain) -> Vec<u8> {
+    write(&plain.compaction().plain)
+}
+
+/// The image of plain lists without dead slots, right or not.
 pub fn write(plain: &Plain) -> Vec<u8> {
-    let plain = plain.compaction().plain;
     let (w, v) = (
         least_width(plain.nodes.len()),
         least_width(plain.edges.len()),
