@@ -16,7 +16,6 @@
  *   5       a node at or above the bound                 LOT_NONE
  *   7       an edge at or above the bound                LOT_NONE
  *   8       a removed edge                               LOT_NONE
- *   11      the image of a store that is not compact     LOT_NONE
  *   12      bytes that are no image                      the first broken rule, 1 to 6 (lot_read_image)
  *   13      a capacity above 32,768                      that capacity
  *
@@ -211,9 +210,10 @@ lot_answer lot_is_compact(lot_counts counts, LOT_STORE_READ);
 lot_answer lot_node_ids(lot_counts counts, LOT_STORE_READ, uint32_t *slots, size_t slots_length);
 lot_answer lot_edge_ids(lot_counts counts, LOT_STORE_READ, uint32_t *slots, size_t slots_length);
 
-/* The image of a compact store, at the start of `bytes`: bit-packed, most significant bit first, the same for stores that hold the same. Answers how many bytes.
- * Refuses 1, 11, 2. Leaves the bytes past them. */
-lot_answer lot_write_image(lot_counts counts, LOT_STORE_READ, uint8_t *bytes, size_t bytes_length);
+/* The image of the store, compact or not, at the start of `bytes`: what a compaction followed by writing would give, while the store keeps every word. It is
+ * bit-packed, most significant bit first, and the same for stores in which the same is live. Answers how many bytes. Refuses 1, then 2: `work` (twice the live
+ * edges), `bytes`. Where it answers 0, the words of `work` that are needed hold anything afterwards; leaves the words past them, and the bytes past the image. */
+lot_answer lot_write_image(lot_counts counts, LOT_STORE_READ, uint32_t *work, size_t work_length, uint8_t *bytes, size_t bytes_length);
 
 /* ---- maps of compactions: at each old slot the new one, or LOT_NONE where it was removed */
 

@@ -32,7 +32,7 @@ pub trait Lots {
     fn is_compact(&self) -> bool;
     /// Compacts, and gives node map, edge map and work slice.
     fn compaction(&mut self) -> [Vec<u32>; 3];
-    /// The image of a store without dead slots.
+    /// The image of what is live in the store.
     fn image(&self) -> Vec<u8>;
 }
 
@@ -112,7 +112,7 @@ impl Lots for Model {
     }
 
     fn image(&self) -> Vec<u8> {
-        image::write(&self.plain)
+        image::of(&self.plain)
     }
 }
 
@@ -220,10 +220,12 @@ pub fn compact(lots: &mut impl Lots, lengths: [usize; 3]) -> Result<[Vec<u32>; 3
     Ok(lots.compaction())
 }
 
-/// "Only compact stores have one. Writing: 1, 11, 2."
-pub fn write_image(lots: &impl Lots, length: usize) -> Result<Vec<u8>, Answer> {
-    if !lots.is_compact() {
-        return Err(Answer::refused(11));
+/// Request 2: "It needs a work slice of twice the live transfer count, checked for
+/// length before the image's slice". The lengths lent are in that order.
+pub fn write_image(lots: &impl Lots, [work, length]: [usize; 2]) -> Result<Vec<u8>, Answer> {
+    let needed = 2 * lots.live_edges().len();
+    if work < needed {
+        return Err(Answer::too_short(needed));
     }
     fit(lots.image(), length)
 }

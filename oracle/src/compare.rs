@@ -151,6 +151,7 @@ impl Trio {
     pub fn compact(&mut self, tally: &mut Tally) -> Result<Compaction, Difference> {
         let place = || "compaction".to_string();
         let in_rust_order = (!self.in_order()).then(|| self.in_rust_order().compaction());
+        let working = [self.model.image(), self.rust.image()];
         let expected = self.model.compact();
         let given = self.rust.graph.compact();
         let maps = [expected.node_map.clone(), expected.edge_map.clone()];
@@ -183,6 +184,8 @@ impl Trio {
 
         self.shape = Shape::compacted(&expected.plain);
         self.foreign = false;
+        let compacted = [self.model.image(), self.rust.image()];
+        tally.same(Thing::Working, place, compacted, working)?;
         self.compare_compacted(tally)?;
         Ok(expected)
     }

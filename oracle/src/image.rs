@@ -1,5 +1,5 @@
-//! Document 01's image of a compact store: plain lists to bytes and back, with
-//! the rules that an unreadable image breaks.
+//! Document 01's image: what survives of plain lists to bytes, and back, with the
+//! rules that an unreadable image breaks.
 
 use crate::model::{EdgePayload, Incidence, LIMIT, Plain, Slot};
 
@@ -19,7 +19,13 @@ fn bit_length(nodes: usize, edges: usize) -> usize {
     32 + 32 * nodes + (2 * w + 64) * edges + 2 * v * edges
 }
 
-/// The image of plain lists without dead slots.
+/// The image of what survives of plain lists. Request 2: it "gives what compaction
+/// followed by writing would give".
+pub fn of(plain: &Plain) -> Vec<u8> {
+    write(&plain.compaction().plain)
+}
+
+/// The image of plain lists without dead slots, right or not.
 pub fn write(plain: &Plain) -> Vec<u8> {
     let (w, v) = (
         least_width(plain.nodes.len()),

@@ -31,7 +31,7 @@ impl Answer {
         Self { number: 0, value }
     }
 
-    /// Numbers 4 to 11 and 16 have the value NONE.
+    /// Numbers 4 to 10 and 16 have the value NONE.
     pub const fn refused(number: u32) -> Self {
         Self {
             number,

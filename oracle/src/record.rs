@@ -194,10 +194,11 @@ impl Recorder<'_> {
             let given = self.both(&call, expected, given)?;
             self.list(&call, given);
         }
+        let work = self.length(2 * live_edges);
         let length = self.length(rust.image().len());
-        let call = format!("image {length}");
-        let expected = calls::write_image(model, length);
-        let given = calls::write_image(rust, length);
+        let call = format!("image {work} {length}");
+        let expected = calls::write_image(model, [work, length]);
+        let given = calls::write_image(rust, [work, length]);
         match self.both(&call, expected, given)? {
             Err(Answer { number, value }) => line!(self.text, "{call} {number} {value}"),
             Ok(bytes) => line!(
@@ -446,12 +447,12 @@ impl Replay {
     /// The image written, and its bytes where it is done.
     fn image(&mut self, rest: &str) {
         let numbers = numbers_of(rest);
-        let mut told = numbers[1..3].to_vec();
+        let mut told = numbers[2..4].to_vec();
         if told[0] == 0 {
             let text = rest.rsplit(' ').next().expect("the bytes");
             told.extend(bytes_of(text).into_iter().map(u64::from));
         }
-        self.one(14, &numbers[..1], &told);
+        self.one(14, &numbers[..2], &told);
     }
 
     /// A line of `images.txt`, read into a fresh store of these capacities, cut where

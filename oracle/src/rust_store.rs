@@ -225,7 +225,7 @@ impl Lots for RustStore {
     }
 
     fn image(&self) -> Vec<u8> {
-        image::write(&self.plain())
+        image::of(&self.plain())
     }
 }
 

@@ -68,6 +68,8 @@ things! {
         "Compaction drops the dead slots; an identity map holds i at each i below the bound";
     Image: "images",
         "the out-lists of nodes 0 up to n−1 joined, then the in-lists";
+    Working: "images of stores before and after a compaction",
+        "Writing an image now answers for every store, and gives what compaction followed by writing would give";
     Reading: "image readings",
         "and the result equals what compaction leaves";
     Pair: "pairs of images against survivors",
@@ -130,8 +132,10 @@ things! {
         "The Rust remains the yardstick wherever rings ascend and run entries precede the ring's in number";
     BookForeignModel: "book: compactions of stores from elsewhere with rings in another order, judged by the model",
         "compaction, joining and the image keep every walk of every store that passes the check, ring order included";
-    BookImage: "book: images written, into slices of several lengths, and refused",
-        "Only compact stores have one. Writing: 1, 11, 2.";
+    BookImage: "book: images written of any store, with work slices and into slices of several lengths, and refused",
+        "It needs a work slice of twice the live transfer count, checked for length before the image's slice and left free afterwards";
+    BookWorking: "book: images of stores that are not compact, against compaction and writing of a copy",
+        "Writing an image now answers for every store, and gives what compaction followed by writing would give, while the store keeps every word";
     BookReading: "book: images read, and refused",
         "Reading: 13, 12, 2 .. and the result equals what compaction leaves.";
     BookList: "book: walks, successors and predecessors, lists of live slots, into slices of several lengths",

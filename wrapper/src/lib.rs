@@ -45,7 +45,6 @@
 //! assert_eq!(book.node_ids()?, [malt]);
 //!
 //! // The image of what is left, which any other book can read.
-//! book.compact()?;
 //! let mut copy = LotBook::new(10, 10)?;
 //! copy.read_image(&book.image()?)?;
 //! assert_eq!(copy.node_payload(0)?, 7);
@@ -550,21 +549,25 @@ impl LotBook {
         self.slot_answer(|memory| memory.lot_edge_ids(slots))
     }
 
-    /// The image of a compact store: the same bytes for stores that hold the same.
+    /// The image of the store, compact or not: the same bytes for stores in which the
+    /// same is live, and those that a compaction followed by writing would give.
     ///
     /// # Errors
-    /// 1, 11 (not compact).
+    /// 1 (the first broken rule).
     pub fn image(&self) -> Result<Vec<u8>, Refused> {
-        self.list(Memory::lot_write_image)
+        let Memory { counts, lows, .. } = &self.memory;
+        let needed = 2 * lows.len().min(counts.edges.live as usize);
+        self.list(|memory, bytes| memory.lot_write_image(&mut vec![0; needed], bytes))
     }
 
-    /// The image into a lent slice: how many bytes it has. Bytes past them keep
-    /// their content.
+    /// The image into a lent slice, with a lent work slice: how many bytes it has.
+    /// Bytes past them keep their content, and so do words of `work` past those that
+    /// are needed; the words needed hold anything afterwards.
     ///
     /// # Errors
-    /// 1, 11 (not compact), 2 (the length needed).
-    pub fn image_into(&self, bytes: &mut [u8]) -> Result<u32, Refused> {
-        self.slot_answer(|memory| memory.lot_write_image(bytes))
+    /// 1 (the first broken rule), then 2 (the length needed) of the two in turn.
+    pub fn image_into(&self, work: &mut [u32], bytes: &mut [u8]) -> Result<u32, Refused> {
+        self.slot_answer(|memory| memory.lot_write_image(work, bytes))
     }
 }
 

@@ -301,19 +301,37 @@ fn images() {
     empty.compact().unwrap();
     assert_eq!(empty.image(), Ok(vec![0; 4]));
 
+    // Of a store that is not compact: what a compaction followed by writing would
+    // give, while the store keeps every word.
     let mut book = book();
-    assert_eq!(book.image(), Err(refused(11, NONE)));
-    book.compact().unwrap();
+    assert_eq!(book.is_compact(), Ok(false));
+    let working = book.clone();
     let image = book.image().unwrap();
+    assert_eq!(book, working);
+    let needed = 2 * book.edge_count().unwrap() as usize;
+    let mut work = vec![77; needed + 1];
     let mut bytes = vec![77; image.len() + 1];
-    assert_eq!(book.image_into(&mut bytes), Ok(image.len() as u32));
-    assert_eq!(bytes, [&image[..], &[77]].concat());
-    let mut short = vec![77; image.len() - 1];
     assert_eq!(
-        book.image_into(&mut short),
+        book.image_into(&mut work, &mut bytes),
+        Ok(image.len() as u32)
+    );
+    assert_eq!(bytes, [&image[..], &[77]].concat());
+    assert_eq!(work[needed], 77);
+    // The work slice first; a refusal writes nothing.
+    let mut short = vec![77; image.len() - 1];
+    let mut work = vec![77; needed];
+    assert_eq!(
+        book.image_into(&mut work[1..], &mut short),
+        Err(refused(2, needed as u64))
+    );
+    assert_eq!(
+        book.image_into(&mut work, &mut short),
         Err(refused(2, image.len() as u64))
     );
     assert_eq!(short, vec![77; image.len() - 1]);
+    assert_eq!(work, vec![77; needed]);
+    book.compact().unwrap();
+    assert_eq!(book.image(), Ok(image.clone()));
 
     // Into other memory, which holds anything.
     let mut memory = Memory::zeros(4, 30);

@@ -1,6 +1,7 @@
 /* A small program in C over lots.h: every function once, the layout of every struct, and answers that document 01 fixes. Ends with status 0 if all hold. */
 #include <stdio.h>
 #include <stdlib.h>
+#include <string.h>
 
 #include "lots.h"
 
@@ -106,18 +107,26 @@ int main(void) {
     expect("live edges", slots[0], slots[1], 0, 2);
     expect("past the list", slots[2], 77, 77, 77);
 
-    /* Compaction, and the image of what is left: two nodes, two edges. */
+    /* The image of what is live, compaction, and the image again: two nodes, two edges. */
     static const uint8_t image[] = {0, 2, 0, 2, 0, 0, 0, 7, 0, 0, 0, 9, 0x40, 0, 0, 1, 0x40, 0, 0, 1, 0xb0, 0, 0, 0, 0x80, 0, 0, 0, 0x85};
     uint8_t bytes[LENGTH(image) + 1];
     bytes[LENGTH(image)] = 77;
-    ANSWERS(lot_write_image(counts, STORE, SLICE(bytes)), 11, LOT_NONE);
-    uint32_t node_map[3], edge_map[3], work[4];
+    uint32_t node_map[3], edge_map[3], work[4], spare[5] = {77, 77, 77, 77, 77};
+    ANSWERS(lot_write_image(counts, STORE, spare, 3, bytes, 4), 2, 4);
+    ANSWERS(lot_write_image(counts, STORE, SLICE(spare), bytes, 4), 2, LENGTH(image));
+    expect("no work", spare[0], spare[3], 77, 77);
+    ANSWERS(lot_write_image(counts, STORE, SLICE(spare), SLICE(bytes)), 0, LENGTH(image));
+    expect("past the work", spare[4], 0, 77, 0);
+    for (size_t i = 0; i < LENGTH(image); i++)
+        expect("byte of the working store's image", i, bytes[i], i, image[i]);
+    expect("past the working store's image", bytes[LENGTH(image)], 0, 77, 0);
+    ANSWERS(lot_is_compact(counts, STORE), 0, 0);
+    memset(bytes, 0, LENGTH(image));
     changed = lot_compact(counts, STORE, SLICE(node_map), SLICE(edge_map), SLICE(work));
     expect("compaction", changed.number, changed.value, 0, 0);
     expect("maps", node_map[2], edge_map[2], LOT_NONE, 1);
     counts = changed.counts;
-    ANSWERS(lot_write_image(counts, STORE, bytes, 4), 2, LENGTH(image));
-    ANSWERS(lot_write_image(counts, STORE, SLICE(bytes)), 0, LENGTH(image));
+    ANSWERS(lot_write_image(counts, STORE, SLICE(work), SLICE(bytes)), 0, LENGTH(image));
     for (size_t i = 0; i < LENGTH(image); i++)
         expect("byte of the image", i, bytes[i], i, image[i]);
     expect("past the image", bytes[LENGTH(image)], 0, 77, 0);

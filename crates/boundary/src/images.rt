@@ -4,8 +4,7 @@ use plain::Answer;
 use plain::Changed;
 use plain::Counts;
 ghost use Rattle.shape.specs.Lent.{at-entry, at-exit};
-ghost use Rattle.view.specs.Calls.{Replied};
-ghost use Rattle.image.specs.Calls.{written-image, ReadOf};
+ghost use Rattle.image.specs.Calls.{WriteOf, ReadOf};
 
 #[no_mangle]
 pub extern "C" fn lot_write_image(
@@ -17,11 +16,12 @@ pub extern "C" fn lot_write_image(
     live_edges: &[u64],
     outgoing: &[u32],
     incoming: &[u32],
+    work: &mut [u32],
     bytes: &mut [u8],
 ) -> Answer
-    ensures { λ r. ⌜ Replied
+    ensures { λ r. ⌜ WriteOf
         (at-entry counts nodes lows highs «live_nodes» «live_edges» outgoing incoming)
-        written-image (now (bytes .entry)) r (now (bytes .exit)) ⌝ }
+        (now (work .entry)) (now (bytes .entry)) r (now (work .exit)) (now (bytes .exit)) ⌝ }
 {
     image::write::write_image(
         counts,
@@ -32,6 +32,7 @@ pub extern "C" fn lot_write_image(
         live_edges,
         outgoing,
         incoming,
+        work,
         bytes,
     )
 }

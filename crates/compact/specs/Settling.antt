@@ -54,12 +54,11 @@ module _ {w : Words} {node-map edge-map work : List ℕ} (pre : Settleable w nod
 
   pub workable : {edge-map' : List ℕ} → edge-map' ≡ written (renumbering (edge-live w)) edge-map → Workable w edge-map' work
   workable {edge-map'} is = record {
-    checked = pre .checked;
+    listable = record { checked = pre .checked; room = pre .work-room };
     mapped = λ e l. ap (λ (m : List ℕ). getD m e 0) is ∙ written-at (edge-live w) edge-map e l;
     edges-there = let flags = length-flags (w .live-edges) (w .counts .edges .bound) in
         let room = pre .edges-room in
         let long = ap length is ∙ mapped-long (edge-live w) edge-map (omega arith) in omega arith;
-    room = pre .work-room;
   }
 
   pub droppable : {node-map' work' : List ℕ} → node-map' ≡ written (renumbering (node-live w)) node-map → length work' ≡ length work → Droppable w node-map' work'

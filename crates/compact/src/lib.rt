@@ -49,26 +49,19 @@ fn write_work(
         (at-entry counts nodes lows highs «live_nodes» «live_edges» outgoing incoming))))
         (now (work .entry)) ⌝ }
 {
-    let edge_slots = counts.edges;
-    let m = edge_slots.live as usize;
-    lists::write_lists(
-        outgoing,
-        lows.len(),
-        nodes.len(),
+    lists::write_both(
         counts,
+        nodes,
+        lows,
+        highs,
         live_nodes,
         live_edges,
+        outgoing,
+        incoming,
         work,
     );
-    lists::write_lists(
-        incoming,
-        lows.len(),
-        nodes.len(),
-        counts,
-        live_nodes,
-        live_edges,
-        &mut work[m..],
-    );
+    let edge_slots = counts.edges;
+    let m = edge_slots.live as usize;
     slots::translate(work, 2 * m, edge_map);
 }
 

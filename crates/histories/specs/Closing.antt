@@ -7,17 +7,17 @@ use mathlib.Core.List.{List}
 use lib.ListN.{length, take}
 use Rattle.plain.specs.declared.Answer.{Answer}
 use Rattle.plain.specs.Lists.{written, from}
+use Rattle.plain.specs.Plain.{Plain}
 use Rattle.plain.specs.Step.{State}
 use Rattle.plain.specs.Reads.{Reply}
 use Rattle.plain.specs.Compaction.{survivors}
 use Rattle.plain.specs.Image.{image}
-use Rattle.plain.specs.Calls.{Compacted, compaction}
+use Rattle.plain.specs.Calls.{Compacted, compaction, write-image}
 use Rattle.plain.specs.History.{closing-image}
 use Rattle.shape.specs.Shape.{Words, shape-of}
 use Rattle.shape.specs.Steps.{state-of}
-use Rattle.view.specs.Calls.{Replied}
 use Rattle.compact.specs.Calls.{CompactOf}
-use Rattle.image.specs.Calls.{written-image}
+use Rattle.image.specs.Calls.{WriteOf}
 
 -- A compaction of store w, by the record of its entry's contract: the three slices lent, the answer, the store and the slices then.
 pub record Compacting (w : Words) : Type 0 where
@@ -32,12 +32,18 @@ pub record Compacting (w : Words) : Type 0 where
   pub worked : List ℕ
   pub comes-to : CompactOf w node-map edge-map work number value after node-mapped edge-mapped worked
 
--- The writing of store w's image, by the record of its entry's contract: the slice lent, the answer, the slice then.
+-- The writing of store w's image, by the record of its entry's contract: the work slice and the slice for the bytes, the answer, the slices then.
 pub record Writing (w : Words) : Type 0 where
+  pub work : List ℕ
   pub slice : List ℕ
   pub answer : Answer
+  pub worked : List ℕ
   pub exit : List ℕ
-  pub comes-to : Replied w written-image slice answer exit
+  pub comes-to : WriteOf w work slice answer worked exit
+
+-- the image: as many bytes of the slice as the value says
+abbrev pub image-in : {w : Words} → Writing w → List ℕ
+image-in a = take (a .answer .value) (a .exit)
 
 pub record Closing (w : Words) : Type 0 where
   pub compacting : Compacting w
@@ -48,9 +54,8 @@ pub record Done {w : Words} (c : Closing w) : Type 0 where
   pub compacts : c .compacting .number ≡ 0
   pub writes : c .writing .answer .number ≡ 0
 
--- the image: as many bytes of the slice as the value says
 abbrev pub image-of : {w : Words} → Closing w → List ℕ
-image-of c = take (c .writing .answer .value) (c .writing .exit)
+image-of c = image-in (c .writing)
 
 -- Compacting again: no field is changed, for not a word and not a count is, and the maps are identity maps. "A field is a count of the record or a word of the
 -- store's own memory .. whose content can change an answer of the check or of a read of the store; an identity map holds i at each i below the bound."
@@ -66,7 +71,12 @@ compaction-of s a = compaction s (length (a .node-map)) (length (a .edge-map)) (
 
 abbrev pub writing-of : State → {w : Words} → Closing w → Reply
 writing-of s c =
-    closing-image s (length (c .compacting .node-map)) (length (c .compacting .edge-map)) (length (c .compacting .work)) (length (c .writing .slice))
+    closing-image s (length (c .compacting .node-map)) (length (c .compacting .edge-map)) (length (c .compacting .work)) (length (c .writing .work))
+    (length (c .writing .slice))
+
+-- and of an image writing alone, of a store of plain lists p, compact or not
+abbrev pub written-of : Plain → {w : Words} → Writing w → Reply
+written-of p a = write-image p (length (a .work)) (length (a .slice))
 
 -- A compaction comes to what its definition says.
 pub record Compacts (s : State) {w : Words} (a : Compacting w) : Type 0 where
@@ -79,18 +89,25 @@ pub record Compacts (s : State) {w : Words} (a : Compacting w) : Type 0 where
   -- "the only other number they can give is 2"
   pub zero-or-two : (a .number ≡ 0) ⊎ (a .number ≡ 2)
 
--- An image writing after a compaction comes to what its definition says.
-pub record Writes (s : State) {w : Words} (c : Closing w) : Type 0 where
-  pub numbered : c .writing .answer .number ≡ writing-of s c .number
-  pub valued : c .writing .answer .value ≡ writing-of s c .value
-  pub bytes : c .writing .exit ≡ written (writing-of s c .words) (c .writing .slice)
+-- An image writing comes to a reply, that of its definition.
+pub record Writes (reply : Reply) {w : Words} (a : Writing w) : Type 0 where
+  pub numbered : a .answer .number ≡ reply .number
+  pub valued : a .answer .value ≡ reply .value
+  pub bytes : a .exit ≡ written (reply .words) (a .slice)
   -- "the only other number they can give is 2"
-  pub zero-or-two : (c .writing .answer .number ≡ 0) ⊎ (c .writing .answer .number ≡ 2)
+  pub zero-or-two : (a .answer .number ≡ 0) ⊎ (a .answer .number ≡ 2)
+
+-- What an image writing comes to on a store of plain lists p, compact or not: "Writing an image now answers for every store".
+pub record Images (p : Plain) {w : Words} (a : Writing w) : Type 0 where
+  pub writes : Writes (written-of p a) a
+  -- the image is that of the survivors, and the value is its length
+  pub imaged : a .answer .number ≡ 0 → image-in a ≡ image (survivors p)
+  pub image-length : a .answer .number ≡ 0 → a .answer .value ≡ length (image-in a)
 
 -- What closing calls come to on a store of state s.
 pub record Closes (s : State) {w : Words} (c : Closing w) : Type 0 where
   pub compacts : Compacts s (c .compacting)
-  pub writes : c .compacting .number ≡ 0 → Writes s c
+  pub writes : c .compacting .number ≡ 0 → Writes (writing-of s c) (c .writing)
   -- the image is that of the survivors, and the value is its length
   pub imaged : Done c → image-of c ≡ image (survivors (s .lists))
   pub image-length : Done c → c .writing .answer .value ≡ length (image-of c)

@@ -2,7 +2,7 @@ pub mod Places
 pub mod Checks
 pub mod Strung
 pub mod Writing
-pub mod Stored
+pub mod Surviving
 pub mod Spread
 pub mod Directions
 pub mod Reading

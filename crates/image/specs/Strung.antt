@@ -1,25 +1,26 @@
--- Pieces of bits written one after the other by a loop: what was written after each turn, and that a row and the bits of the edges' records are such pieces.
-use Prim.Native.Nat.{ℕ, zero, suc, _+_, _*_, _≤_, _<_, _^_}
-use mathlib.Core.Path.{_≡_, refl, sym, ap, ap₂, _∙_}
+-- Pieces of bits written one after the other by a loop: what was written after each turn, over the entries of a list or over the live slots; and that a row and the
+-- bits of the edges' records are such pieces.
+use Prim.Native.Nat.{ℕ, _+_, _*_, _≤_, _<_, _^_}
+use mathlib.Core.Path.{_≡_, refl, sym, ap, subst, _∙_}
+use mathlib.Core.Bool.{Bool}
 use mathlib.Core.List.{List, [], _∷_, _++_, map, append-assoc, append-nil}
 use native.Mathlib.Omega.{arith}
 use native.Mathlib.Nat.{mul-le-mul-left}
 use native.Mathlib.Numerals.{add-one}
 use lib.ListN.{length, take, getD, length-append}
-use lib.Seq.{take-suc, take-length}
-use Rattle.plain.specs.Lists.{from}
+use lib.Seq.{take-suc, take-length, length-take-le}
+use Rattle.plain.specs.Reads.{live-count, live-slots}
 use Rattle.plain.specs.Compaction.{EdgeRecord}
 use Rattle.plain.specs.Bits.{bits-of, row}
 use Rattle.plain.specs.Image.{edge-bits}
-use Rattle.plain.specs.Laws.Bits.{row-append}
-use Rattle.plain.specs.Laws.ListLaws.{map-snoc}
-use Rattle.shape.specs.Laws.Indexing.{from-snoc}
+use Rattle.liveness.specs.Flags.{next-live}
+use Rattle.liveness.specs.Passed.{Passed, passed-none, passed-fewer, passed-on, passed-all}
 use Rattle.bits.specs.Wrote.{Wrote, wrote-none, wrote-then}
 
--- f 0, f 1 and so on, n of them, one after the other
-unfoldable pub strung : (ℕ → List ℕ) → ℕ → List ℕ
-strung f zero = []
-strung f (suc n) = strung f n ++ f n
+-- the pieces of what is in a list, one after the other
+unfoldable pub strung : (ℕ → List ℕ) → List ℕ → List ℕ
+strung f [] = []
+strung f (x ∷ xs) = f x ++ strung f xs
 
 -- Bits f were written from bit p on, and bit q is next.
 pub record WroteTo (s : List ℕ) (p : ℕ) (f t : List ℕ) (q : ℕ) : Type 0 where
@@ -36,80 +37,109 @@ pub record PiecesFit (s : List ℕ) (p step n : ℕ) : Type 0 where
   pub within : p + step * n ≤ 8 * length s
   pub counted : p + step * n < 2 ^ 64
 
--- i pieces were written from bit p on, and bit q is next
-pub record Strung (s : List ℕ) (p step : ℕ) (f : ℕ → List ℕ) (i : ℕ) (t : List ℕ) (q : ℕ) : Type 0 where
-  pub place : q ≡ p + step * i
+-- the pieces of `past` were written from bit p on, and bit q is next
+pub record Strung (s : List ℕ) (p step : ℕ) (f : ℕ → List ℕ) (past t : List ℕ) (q : ℕ) : Type 0 where
+  pub place : q ≡ p + step * length past
   pub long : length t ≡ length s
-  pub wrote : Wrote s p (strung f i) t
+  pub wrote : Wrote s p (strung f past) t
 
 -- before the first
-pub strung-none : (s : List ℕ) (p step n : ℕ) (f : ℕ → List ℕ) → PiecesFit s p step n → Strung s p step f 0 s p
+strung-none : (s : List ℕ) (p step n : ℕ) (f : ℕ → List ℕ) → PiecesFit s p step n → Strung s p step f [] s p
 unfolding strung
 strung-none s p step n f h = record { place = omega arith; long = refl; wrote = wrote-none s p (omega (arith, h .within)) }
 
 -- as many bits as the pieces have
-length-strung : (step : ℕ) (f : ℕ → List ℕ) → ((i : ℕ) → length (f i) ≡ step) → (n : ℕ) → length (strung f n) ≡ step * n
+length-strung : (step : ℕ) (f : ℕ → List ℕ) → ((x : ℕ) → length (f x) ≡ step) → (xs : List ℕ) → length (strung f xs) ≡ step * length xs
 unfolding strung
-length-strung step f l zero = omega arith
-length-strung step f l (suc n) = rw (length-append (strung f n) (f n), length-strung step f l n, l n) (omega arith)
+length-strung step f l [] = omega arith
+length-strung step f l (x ∷ xs) = rw (length-append (f x) (strung f xs), length-strung step f l xs, l x) (omega arith)
 
-module _ {s t : List ℕ} {p step : ℕ} {f : ℕ → List ℕ} {i q : ℕ} (long : (i : ℕ) → length (f i) ≡ step) (h : Strung s p step f i t q) where
+-- one piece more
+strung-snoc : (f : ℕ → List ℕ) (xs : List ℕ) (x : ℕ) → strung f (xs ++ (x ∷ [])) ≡ strung f xs ++ f x
+unfolding strung
+strung-snoc f [] x = append-nil (f x)
+strung-snoc f (y ∷ xs) x = ap (λ (l : List ℕ). f y ++ l) (strung-snoc f xs x) ∙ sym (append-assoc (f y) (strung f xs) (f x))
+
+module _ {s t : List ℕ} {p step : ℕ} {f : ℕ → List ℕ} {past : List ℕ} {q : ℕ} (long : (x : ℕ) → length (f x) ≡ step) (h : Strung s p step f past t q) where
   -- one piece more
-  pub strung-more : {u : List ℕ} {r : ℕ} → Wrote t q (f i) u → r ≡ q + step → Strung s p step f (i + 1) u r
-  unfolding strung
-  strung-more w e = record {
-    place = omega (arith, h .place);
+  strung-more : {u : List ℕ} {r x : ℕ} → Wrote t q (f x) u → r ≡ q + step → Strung s p step f (past ++ (x ∷ [])) u r
+  strung-more {x = x} w e = record {
+    place = rw (length-append past (x ∷ [])) (omega (arith, h .place));
     long = w .long ∙ h .long;
-    wrote = rw (add-one i) (wrote-then (h .wrote) w (rw (length-strung step f long i) (h .place)));
+    wrote = rw (strung-snoc f past x) (wrote-then (h .wrote) w (rw (length-strung step f long past) (h .place)));
   }
 
-  -- all n of them
-  pub strung-all : (n : ℕ) → i ≡ n → WroteTo s p (strung f n) t q
-  strung-all n e = record { wrote = rw e at (h .wrote); next = rw (length-strung step f long n, ← e) (h .place) }
+  -- all of them
+  strung-all : WroteTo s p (strung f past) t q
+  strung-all = record { wrote = h .wrote; next = rw (length-strung step f long past) (h .place) }
 
   -- a piece that comes next has room
-  pub strung-room : {n : ℕ} → PiecesFit s p step n → i < n → PiecesFit t q step 1
+  strung-room : {n : ℕ} → PiecesFit s p step n → length past < n → PiecesFit t q step 1
   strung-room {n} fits l =
-      let more : i + 1 ≤ n = omega arith in
+      let more : length past + 1 ≤ n = omega arith in
       let most = mul-le-mul-left step more in
       record { within = omega (arith, h .place, h .long, fits .within); counted = omega (arith, h .place, fits .counted) }
 
--- ---- a row
+-- ---- over a list, entry by entry
 
--- the bits of word i
-abbrev pub word-bits : ℕ → List ℕ → ℕ → List ℕ
-word-bits w words i = bits-of w (getD words i 0)
+-- the pieces of the first i entries were written
+pub record StrungTo (s : List ℕ) (p step : ℕ) (f : ℕ → List ℕ) (words : List ℕ) (i : ℕ) (t : List ℕ) (q : ℕ) : Type 0 where
+  pub front : Strung s p step f (take i words) t q
 
--- the first n words
-row-front : (w : ℕ) (words : List ℕ) (n : ℕ) → n ≤ length words → strung (word-bits w words) n ≡ row w (take n words)
+pub entry-none : {n : ℕ} (s : List ℕ) (p step : ℕ) (f : ℕ → List ℕ) (words : List ℕ) → PiecesFit s p step n → StrungTo s p step f words 0 s p
+entry-none {n} s p step f words fits = record { front = strung-none s p step n f fits }
+
+module _ {s t : List ℕ} {p step : ℕ} {f : ℕ → List ℕ} {words : List ℕ} {i q : ℕ} (long : (x : ℕ) → length (f x) ≡ step) (h : StrungTo s p step f words i t q) where
+  pub entry-more : i < length words → {u : List ℕ} {r : ℕ} → Wrote t q (f (getD words i 0)) u → r ≡ q + step → StrungTo s p step f words (i + 1) u r
+  entry-more l {u} {r} w e = record {
+    front = subst (λ (past : List ℕ). Strung s p step f past u r) (sym (ap (λ (n : ℕ). take n words) (add-one i) ∙ take-suc words i 0 l))
+        (strung-more long (h .front) w e);
+  }
+
+  pub entry-room : PiecesFit s p step (length words) → i < length words → PiecesFit t q step 1
+  entry-room fits l = strung-room long (h .front) fits (rw (length-take-le i words (omega arith)) l)
+
+  pub entries-all : i ≡ length words → WroteTo s p (strung f words) t q
+  entries-all e = rw (e, take-length words) at (strung-all long (h .front))
+
+-- ---- over the live slots, in slot order
+
+-- the pieces of the live slots before `slot` were written, which is the next live one or past the end
+pub record StrungLive (flags : List Bool) (s : List ℕ) (p step : ℕ) (f : ℕ → List ℕ) (slot : ℕ) (t : List ℕ) (q : ℕ) : Type 0 where
+  pub past : List ℕ
+  pub passed : Passed flags past slot
+  pub written : Strung s p step f past t q
+
+pub live-none : {flags : List Bool} {slot n : ℕ} (s : List ℕ) (p step : ℕ) (f : ℕ → List ℕ) → slot ≡ next-live flags 0 → PiecesFit s p step n
+    → StrungLive flags s p step f slot s p
+live-none {n = n} s p step f next fits = record { past = []; passed = passed-none next; written = strung-none s p step n f fits }
+
+module _ {flags : List Bool} {s t : List ℕ} {p step : ℕ} {f : ℕ → List ℕ} {slot q : ℕ} (long : (x : ℕ) → length (f x) ≡ step)
+    (h : StrungLive flags s p step f slot t q) where
+  pub live-more : slot < length flags → {u : List ℕ} {r later : ℕ} → Wrote t q (f slot) u → r ≡ q + step → later ≡ next-live flags (slot + 1)
+      → StrungLive flags s p step f later u r
+  live-more l w e next = record { past = h .past ++ (slot ∷ []); passed = passed-on (h .passed) l next; written = strung-more long (h .written) w e }
+
+  pub live-room : PiecesFit s p step (live-count flags) → slot < length flags → PiecesFit t q step 1
+  live-room fits l = strung-room long (h .written) fits (passed-fewer (h .passed) l)
+
+  pub live-all : length flags ≤ slot → WroteTo s p (strung f (live-slots flags)) t q
+  live-all past-end = rw (passed-all (h .passed) past-end) (strung-all long (h .written))
+
+-- ---- rows and records
+
+-- a row of words
+pub row-strung : (w : ℕ) (g : ℕ → ℕ) (xs : List ℕ) → strung (λ x. bits-of w (g x)) xs ≡ row w (map g xs)
 unfolding strung row
-row-front w words zero h = refl
-row-front w words (suc n) h =
-    sym
-    (ap (row w) (take-suc words n 0 h) ∙ row-append w (take n words) (getD words n 0 ∷ [])
-    ∙ ap₂ (λ (k l : List ℕ). k ++ l) (sym (row-front w words n (omega arith))) (append-nil (word-bits w words n)))
-
--- all of them are the row
-pub row-strung : (w : ℕ) (words : List ℕ) → strung (word-bits w words) (length words) ≡ row w words
-row-strung w words = row-front w words (length words) (omega arith) ∙ ap (row w) (take-length words)
-
--- ---- the records of edges
+row-strung w g [] = refl
+row-strung w g (x ∷ xs) = ap (λ (l : List ℕ). bits-of w (g x) ++ l) (row-strung w g xs)
 
 -- the bits of one record
 abbrev pub record-bits : ℕ → EdgeRecord → List ℕ
 record-bits w r = edge-bits w (r ∷ [])
 
--- the records of one row of edges and the next
-edge-bits-append : (w : ℕ) (es ds : List EdgeRecord) → edge-bits w (es ++ ds) ≡ edge-bits w es ++ edge-bits w ds
-unfolding edge-bits
-edge-bits-append w [] ds = refl
-edge-bits-append w (e ∷ es) ds = rw (edge-bits-append w es ds) (simp append-assoc)
-
--- the records of the first n edges
-pub records-strung : (w : ℕ) (r : ℕ → EdgeRecord) (n : ℕ) → strung (λ e. record-bits w (r e)) n ≡ edge-bits w (map r (from 0 n))
-unfolding strung from edge-bits
-records-strung w r zero = refl
-records-strung w r (suc n) =
-    sym
-    (ap (λ (l : List ℕ). edge-bits w (map r l)) (from-snoc n) ∙ ap (edge-bits w) (map-snoc r (from 0 n) n) ∙ edge-bits-append w (map r (from 0 n)) (r n ∷ [])
-    ∙ ap (λ (l : List ℕ). l ++ edge-bits w (r n ∷ [])) (sym (records-strung w r n)))
+-- the records of edges
+pub records-strung : (w : ℕ) (r : ℕ → EdgeRecord) (es : List ℕ) → strung (λ e. record-bits w (r e)) es ≡ edge-bits w (map r es)
+unfolding strung edge-bits
+records-strung w r [] = refl
+records-strung w r (e ∷ es) = rw (records-strung w r es) (simp (append-assoc, append-nil))

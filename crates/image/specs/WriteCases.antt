@@ -1,93 +1,95 @@
--- The ways that writing an image ends: "Writing: 1, 11, 2." The contract is `Replied` of crate view, of `written-image`.
-use Prim.Native.Nat.{ℕ, _^_, _≤_, _<_}
-use mathlib.Core.Path.{_≡_, refl, sym, ap, ap₂, _∙_}
-use mathlib.Core.Bool.{true, false}
+-- The ways that writing an image ends: "1; 2 for the work slice; 2 for the image's slice", or done. The contract is `WriteOf`.
+use Prim.Native.Nat.{ℕ, _*_, _≤_, _<_}
+use mathlib.Core.Path.{_≡_, refl, sym, ap, _∙_}
 use mathlib.Core.List.{List, []}
 use native.Mathlib.Omega.{arith}
-use lib.ListN.{length, take, drop, length-drop}
-use lib.Seq.{length-take-le}
+use lib.ListN.{length, take, drop}
+use lib.Seq.{take-at, drop-at}
 use Rattle.plain.specs.declared.Answer.{Answer}
-use Rattle.plain.specs.Numbers.{NONE}
 use Rattle.plain.specs.Lists.{written}
-use Rattle.plain.specs.Reads.{listing}
-use Rattle.plain.specs.Bits.{pack, bytes-for}
-use Rattle.plain.specs.Image.{node-payload-width, image-size}
-use Rattle.plain.specs.Laws.Below.{Below, below-take}
-use Rattle.plain.specs.Laws.CallCases.{lent-short, lent-done, write-not-compact, write-compact}
-use Rattle.plain.specs.Laws.Packing.{length-pack}
-use Rattle.shape.specs.Shape.{Words, shape-of, is-compact}
-use Rattle.shape.specs.Steps.{state-of}
-use Rattle.validate.specs.Judging.{Judged}
-use Rattle.view.specs.Calls.{Replied, replies}
-use Rattle.image.specs.Calls.{written-image}
-use Rattle.image.specs.Writing.{Proper, ImageFits, column-bits, length-column-bits}
-use Rattle.image.specs.Stored.{columns-of, Stored, image-stored}
+use Rattle.plain.specs.Reads.{listing, live-count, live-edges}
+use Rattle.plain.specs.Compaction.{survivors}
+use Rattle.plain.specs.Bits.{bytes-for}
+use Rattle.plain.specs.Image.{image, image-size}
+use Rattle.plain.specs.Laws.CallCases.{write-short, write-lent}
+use Rattle.shape.specs.Shape.{Words, lists}
+use Rattle.shape.specs.Checked.{Checked}
+use Rattle.shape.specs.Laws.Reading.{plain-edge-flags}
+use Rattle.validate.specs.Judging.{Judged, refusal}
+use Rattle.view.specs.Calls.{replies, reply-refuses, list-short, list-done}
+use Rattle.compact.specs.Working.{both-walks, both-length}
+use Rattle.image.specs.Calls.{written-image, WorkFree, WriteOf}
+use Rattle.image.specs.Surviving.{ImageFits, image-bytes-of}
 
--- Bytes into a lent slice: "a lent slice too short | 2 | length needed | everything", and nothing written; else they are at its start, and the value is their
--- number.
-pub record BytesLent (bytes entry : List ℕ) (answer : Answer) (exit : List ℕ) : Type 0 where
-  pub number : answer .number ≡ listing (length entry) bytes .number
-  pub value : answer .value ≡ listing (length entry) bytes .value
-  pub writes : exit ≡ written (listing (length entry) bytes .words) entry
+-- the work slice of a call that refuses
+work-kept : (needed : ℕ) (work : List ℕ) (answer : Answer) → WorkFree needed work answer work
+work-kept needed work answer = record { long = refl; rest = refl; refused-keeps = λ _. refl }
 
-module _ {bytes entry : List ℕ} {n : ℕ} (size : n ≡ length bytes) where
-  pub bytes-short : length entry < n → BytesLent bytes entry (record { number = 2; value = n }) entry
-  bytes-short short =
-      let is = lent-short (length entry) (length bytes) bytes (rw (← size) short) in
-      record { number = rw is; value = rw is size; writes = rw is }
+-- the live edges, counted
+edges-live : {w : Words} → Checked w → w .counts .edges .live ≡ live-edges (lists w)
+edges-live {w} k = k .edges .live .live-right ∙ sym (ap live-count (plain-edge-flags w))
 
-  pub bytes-done : {exit : List ℕ} → n ≤ length entry → exit ≡ written bytes entry → BytesLent bytes entry (record { number = 0; value = n }) exit
-  bytes-done fits writes =
-      let is = lent-done (length entry) (length bytes) bytes (rw (← size) fits) in
-      record { number = rw is; value = rw is size; writes = rw is writes }
+-- as many entries as both directions' lists have
+walks-many : {w : Words} → Checked w → length (both-walks w) ≡ 2 * live-edges (lists w)
+walks-many k = both-length k ∙ ap (λ (n : ℕ). 2 * n) (edges-live k)
 
--- ---- the columns of a compact store
+-- with room for them the image is lent its slice
+image-lent : {w : Words} → Checked w → (work room : ℕ) → 2 * w .counts .edges .live ≤ work → written-image work w room ≡ listing room (image (survivors (lists w)))
+image-lent {w} k work room fits = write-lent (lists w) work room (omega (arith, edges-live k))
 
-module _ {n m : ℕ} {nodes lows highs outgoing incoming : List ℕ} (h : Stored n m nodes lows highs outgoing incoming) (small : Below (2 ^ node-payload-width) nodes) where
-  nodes-long : length (take n nodes) ≡ n
-  nodes-long = length-take-le n nodes (h .nodes-there)
+module _ {w : Words} {rule : ℕ} (j : Judged w rule) {work bytes : List ℕ} where
+  -- a rule is broken
+  pub write-refuses : {r : Answer} → (rule ≡ 0 → ⊥) → r ≡ refusal rule → WriteOf w work bytes r work bytes
+  write-refuses {r} broken is = record { replied = reply-refuses j broken is; work-free = work-kept (2 * live-edges (lists w)) work r }
 
-  edges-long : length (take m lows) ≡ m
-  edges-long = length-take-le m lows (h .lows-there)
+  -- the work slice is too short
+  pub work-short : rule ≡ 0 → length work < 2 * w .counts .edges .live → WriteOf w work bytes (record { number = 2; value = 2 * w .counts .edges .live }) work bytes
+  work-short zero short =
+      let many = edges-live (j .checked zero) in
+      let same : 2 * w .counts .edges .live ≡ 2 * live-edges (lists w) = ap (λ (n : ℕ). 2 * n) many in
+      rw same
+      (record {
+        replied = replies j zero (record { number = 2; value = 2 * live-edges (lists w); words = [] })
+            (write-short (lists w) (length work) (length bytes) (omega arith)) refl;
+        work-free = work-kept (2 * live-edges (lists w)) work (record { number = 2; value = 2 * live-edges (lists w) });
+      })
 
-  proper : Proper (columns-of n m nodes lows highs outgoing incoming)
-  proper = record {
-    nodes-within = rw nodes-long (h .nodes-within);
-    edges-within = rw edges-long (h .edges-within);
-    sources-long = length-take-le m outgoing (omega (arith, h .outgoing-there)) ∙ sym edges-long;
-    targets-long = length-take-le m incoming (omega (arith, h .incoming-there)) ∙ sym edges-long;
-    highs-long = length-take-le m highs (h .highs-there) ∙ sym edges-long;
-    outs-long = length-take-le m (drop (length lows) outgoing) (rw length-drop (omega (arith, h .outgoing-there))) ∙ sym edges-long;
-    ins-long = length-take-le m (drop (length lows) incoming) (rw length-drop (omega (arith, h .incoming-there))) ∙ sym edges-long;
-    small-nodes = below-take n small;
-    sources-below = rw nodes-long (h .sources-below);
-    targets-below = rw nodes-long (h .targets-below);
-    outs-below = rw edges-long (h .outs-below);
-    ins-below = rw edges-long (h .ins-below);
-  }
+  -- the image's slice is too short
+  pub bytes-short : {size : ℕ} → rule ≡ 0 → 2 * w .counts .edges .live ≤ length work → size ≡ bytes-for (image-size (w .counts .nodes .live) (w .counts .edges .live))
+      → length bytes < size → WriteOf w work bytes (record { number = 2; value = size }) work bytes
+  bytes-short {size} zero room is short =
+      let k = j .checked zero in
+      record {
+        replied = list-short j zero (image (survivors (lists w))) (image-lent k (length work) (length bytes) room) (is ∙ image-bytes-of k) short;
+        work-free = work-kept (2 * live-edges (lists w)) work (record { number = 2; value = size });
+      }
 
-  -- as many bytes as the counts say
-  pub stored-size : bytes-for (image-size n m) ≡ length (pack (column-bits (columns-of n m nodes lows highs outgoing incoming)))
-  stored-size =
-      sym (length-pack (column-bits (columns-of n m nodes lows highs outgoing incoming)) ∙ ap bytes-for (length-column-bits proper ∙ ap₂ image-size nodes-long edges-long))
+  -- the image is written
+  pub write-done : {size : ℕ} {work' bytes' : List ℕ} → rule ≡ 0 → 2 * w .counts .edges .live ≤ length work
+      → size ≡ bytes-for (image-size (w .counts .nodes .live) (w .counts .edges .live)) → size ≤ length bytes → work' ≡ written (both-walks w) work
+      → length work' ≡ length work → bytes' ≡ written (image (survivors (lists w))) bytes
+      → WriteOf w work bytes (record { number = 0; value = size }) work' bytes'
+  write-done zero room is fits walks long wrote =
+      let k = j .checked zero in
+      record {
+        replied = list-done j zero (image (survivors (lists w))) (image-lent k (length work) (length bytes) room) (is ∙ image-bytes-of k) fits wrote;
+        work-free = record {
+          long = long;
+          rest = ap (drop (2 * live-edges (lists w))) walks
+              ∙ drop-at (both-walks w) (drop (length (both-walks w)) work) (2 * live-edges (lists w)) (walks-many k)
+              ∙ ap (λ (n : ℕ). drop n work) (walks-many k);
+          refused-keeps = λ refused. absurd (refused refl);
+        };
+      }
 
-  -- and room for the image where there is room for those
-  pub stored-fits : {s : List ℕ} → bytes-for (image-size n m) ≤ length s → ImageFits s (columns-of n m nodes lows highs outgoing incoming)
-  stored-fits room = record { proper = proper; room = rw (nodes-long, edges-long) room }
-
--- ---- the entry
-
-module _ {w : Words} {rule : ℕ} (j : Judged w rule) (h : rule ≡ 0) {entry : List ℕ} where
-  -- "image of a store not compact | 11 | NONE | everything"
-  pub image-refused : is-compact (shape-of w) ≡ false → Replied w written-image entry (record { number = 11; value = NONE }) entry
-  image-refused not = replies j h (record { number = 11; value = NONE; words = [] }) (write-not-compact (state-of (shape-of w)) (length entry) not) refl
-
-  -- a compact store: its image is lent the slice
-  pub image-replied : {r : Answer} {exit : List ℕ} → is-compact (shape-of w) ≡ true
-      → BytesLent (pack (column-bits (columns-of (w .counts .nodes .bound) (w .counts .edges .bound) (w .nodes) (w .lows) (w .highs) (w .outgoing) (w .incoming)))) entry r exit
-      → Replied w written-image entry r exit
-  image-replied compact lent =
-      let bytes = pack (column-bits (columns-of (w .counts .nodes .bound) (w .counts .edges .bound) (w .nodes) (w .lows) (w .highs) (w .outgoing) (w .incoming))) in
-      let image = write-compact (state-of (shape-of w)) (length entry) compact ∙ ap (listing (length entry)) (image-stored (j .checked h) compact) in
-      let replied = replies j h {read = written-image} (listing (length entry) bytes) image (lent .writes) in
-      record { number = lent .number ∙ replied .number; value = lent .value ∙ replied .value; writes = replied .writes }
+-- the lists of both directions are in the work slice, and the image has room
+pub image-fits : {w : Words} (work : List ℕ) {work' bytes : List ℕ} {size : ℕ} → Checked w → 2 * w .counts .edges .live ≤ length work
+    → size ≡ bytes-for (image-size (w .counts .nodes .live) (w .counts .edges .live)) → size ≤ length bytes → work' ≡ written (both-walks w) work
+    → length work' ≡ length work → ImageFits w work' bytes
+image-fits {w} work k room is fits walks long = record {
+  checked = k;
+  work-there = omega arith;
+  listed = ap (take (2 * w .counts .edges .live)) walks
+      ∙ take-at (both-walks w) (drop (length (both-walks w)) work) (2 * w .counts .edges .live) (both-length k);
+  room = rw (← is) fits;
+}

@@ -1,4 +1,6 @@
-// Writing an image: rows of words and records of edges as bits, the image of columns of words, and the image of a store. Document 01, "The image".
+// Writing an image: the payloads of live nodes, the records of live edges and the entries of lists as bits, all by new numbers, and the image of any store. Document
+// 01, "The image"; document 02, No. 2: "Writing an image now answers for every store, and gives what compaction followed by writing would give, while the store keeps
+// every word."
 
 use crate::places::COUNT_WIDTH;
 use crate::places::EDGE_COUNT_START;
@@ -10,43 +12,55 @@ use crate::places::image_bytes;
 use bits::least_width;
 use bits::write_field;
 use bits::write_padding;
+use compact::lists::write_both;
+use liveness::next_live;
+use liveness::rank_by;
+use liveness::write_ranks;
 use plain::Answer;
 use plain::Counts;
 use plain::EdgePayload;
-use plain::NONE;
 use plain::numbers::DONE;
-use plain::numbers::NOT_COMPACT;
 use plain::numbers::TOO_SHORT;
 use validate::judging::judge;
 use validate::judging::no_store;
-use view::compactness::is_compact_checked;
 ghost use mathlib.Core.Path.{_≡_};
+ghost use mathlib.Core.List.{map};
 ghost use Prim.Native.Nat.{_≤_};
 ghost use lib.ListN.{length};
 ghost use Rattle.plain.specs.Numbers.{LIMIT};
 ghost use Rattle.plain.specs.Lists.{written};
-ghost use Rattle.plain.specs.Bits.{row, pack};
-ghost use Rattle.plain.specs.Image.{payload-bits, edge-bits};
-ghost use Rattle.shape.specs.Lent.{at-entry};
-ghost use Rattle.view.specs.Calls.{Replied};
-ghost use Rattle.image.specs.Calls.{written-image};
-ghost use Rattle.image.specs.WriteCases.{BytesLent};
-ghost use Rattle.image.specs.Stored.{Stored, columns-of};
-ghost use Rattle.image.specs.Strung.{WroteTo, record-bits};
+ghost use Rattle.plain.specs.Compaction.{rank, survivors};
+ghost use Rattle.plain.specs.Bits.{row};
+ghost use Rattle.plain.specs.Image.{payload-bits, edge-bits, image, node-payload-width};
+ghost use Rattle.liveness.specs.Flags.{live-flags};
+ghost use Rattle.shape.specs.Shape.{lists};
+ghost use Rattle.shape.specs.Lent.{lent, at-entry};
 ghost use Rattle.bits.specs.Wrote.{Wrote};
-ghost use Rattle.image.specs.Writing.{RowFits, PayloadFits, RecordFits, EdgesFit, SlotsFit, ListsFit, ImageFits, records-in, count-bits, slot-bits, list-bits, columns, column-bits};
+ghost use Rattle.image.specs.Calls.{WriteOf};
+ghost use Rattle.image.specs.Strung.{WroteTo, record-bits};
+ghost use Rattle.image.specs.Writing.{NodesFit, PayloadFits, RecordFits, EdgeFits, EdgesFit, EntriesFit, live-payloads, ranked-record, live-records};
+ghost use Rattle.image.specs.Surviving.{SlotsFit, ListsFit, ImageFits, count-bits, slot-bits};
 
-// Writes words one after the other, each in `width` bits, from bit `position` on, and answers the bit after them. Internal: they have room.
-fn write_row(bytes: &mut [u8], position: usize, width: u32, words: &[u32]) -> usize
-    requires { ⌜ RowFits (now bytes) position width (now words) ⌝ }
-    ensures { λ r. ⌜ WroteTo (now (bytes .entry)) position (row width (now (words .entry))) (now (bytes .exit)) r ⌝ }
+// The words of live bits that the most slots take.
+const LIVE_WORDS: usize = 512;
+
+// Writes the payloads of the live nodes in slot order, from bit `position` on, and answers the bit after them. Internal: they have room.
+fn write_nodes(
+    bytes: &mut [u8],
+    position: usize,
+    nodes: &[u32],
+    live: &[u64],
+    bound: usize,
+) -> usize
+    requires { ⌜ NodesFit (now bytes) position (now nodes) (now live) bound ⌝ }
+    ensures { λ r. ⌜ WroteTo (now (bytes .entry)) position (row node-payload-width (live-payloads (now (nodes .entry)) (now (live .entry)) bound)) (now (bytes .exit)) r ⌝ }
 {
     let mut at = position;
-    let mut i: usize = 0;
-    while i < words.len() {
-        write_field(bytes, at, width, words[i]);
-        at += width as usize;
-        i += 1;
+    let mut node = next_live(live, bound, 0);
+    while node < bound {
+        write_field(bytes, at, NODE_PAYLOAD_WIDTH, nodes[node]);
+        at += NODE_PAYLOAD_WIDTH as usize;
+        node = next_live(live, bound, node + 1);
     }
     at
 }
@@ -83,30 +97,91 @@ fn write_record(
     write_payload(bytes, second + width as usize, payload);
 }
 
-// Writes the records of edges, one after the other, and answers the bit after them. Internal.
+// Writes the record of a live edge, its ends by their new numbers. Internal.
+fn write_edge(
+    bytes: &mut [u8],
+    position: usize,
+    width: u32,
+    live: &[u64],
+    slots: usize,
+    ranks: &[u32],
+    source: u32,
+    target: u32,
+    payload: EdgePayload,
+)
+    requires { ⌜ EdgeFits (now bytes) position width (now live) slots (now ranks) source target ⌝ }
+    ensures { λ _. ⌜ Wrote (now (bytes .entry)) position (record-bits width (ranked-record (now (live .entry)) slots source target payload)) (now (bytes .exit)) ⌝ }
+{
+    let first = rank_by(live, slots, ranks, source as usize);
+    let second = rank_by(live, slots, ranks, target as usize);
+    write_record(bytes, position, width, first, second, payload);
+}
+
+// Writes the records of the live edges in slot order, and answers the bit after them. `live`, `slots` and `ranks` are the nodes', `live_edges` and `bound` the edges'.
+// Internal.
 fn write_edges(
     bytes: &mut [u8],
     position: usize,
     width: u32,
-    sources: &[u32],
-    targets: &[u32],
+    live: &[u64],
+    slots: usize,
+    ranks: &[u32],
+    live_edges: &[u64],
+    bound: usize,
+    outgoing: &[u32],
+    incoming: &[u32],
     lows: &[u32],
     highs: &[u32],
 ) -> usize
-    requires { ⌜ EdgesFit (now bytes) position width (now sources) (now targets) (now lows) (now highs) ⌝ }
-    ensures { λ r. ⌜ WroteTo (now (bytes .entry)) position
-        (edge-bits width (records-in (now (sources .entry)) (now (targets .entry)) (now (lows .entry)) (now (highs .entry)))) (now (bytes .exit)) r ⌝ }
+    requires { ⌜ EdgesFit (now bytes) position width (now live) slots (now ranks) (now «live_edges») bound (now outgoing) (now incoming) (now lows) (now highs) ⌝ }
+    ensures { λ r. ⌜ WroteTo (now (bytes .entry)) position (edge-bits width
+        (live-records (now (live .entry)) slots (now («live_edges» .entry)) bound (now (outgoing .entry)) (now (incoming .entry)) (now (lows .entry)) (now (highs .entry))))
+        (now (bytes .exit)) r ⌝ }
 {
     let mut at = position;
-    let mut e: usize = 0;
-    while e < lows.len() {
+    let mut e = next_live(live_edges, bound, 0);
+    while e < bound {
         let payload = EdgePayload {
             low: lows[e],
             high: highs[e],
         };
-        write_record(bytes, at, width, sources[e], targets[e], payload);
+        write_edge(
+            bytes,
+            at,
+            width,
+            live,
+            slots,
+            ranks,
+            outgoing[e],
+            incoming[e],
+            payload,
+        );
         at += 2 * width as usize + EDGE_PAYLOAD_WIDTH as usize;
-        e += 1;
+        e = next_live(live_edges, bound, e + 1);
+    }
+    at
+}
+
+// Writes entries of lists by their new numbers, one after the other, and answers the bit after them. Internal.
+fn write_entries(
+    bytes: &mut [u8],
+    position: usize,
+    width: u32,
+    live: &[u64],
+    slots: usize,
+    ranks: &[u32],
+    entries: &[u32],
+) -> usize
+    requires { ⌜ EntriesFit (now bytes) position width (now live) slots (now ranks) (now entries) ⌝ }
+    ensures { λ r. ⌜ WroteTo (now (bytes .entry)) position (row width (map (rank (live-flags (now (live .entry)) slots)) (now (entries .entry)))) (now (bytes .exit)) r ⌝ }
+{
+    let mut at = position;
+    let mut i: usize = 0;
+    while i < entries.len() {
+        let entry = rank_by(live, slots, ranks, entries[i] as usize);
+        write_field(bytes, at, width, entry);
+        at += width as usize;
+        i += 1;
     }
     at
 }
@@ -120,100 +195,110 @@ fn write_counts(bytes: &mut [u8], nodes: usize, edges: usize)
     write_field(bytes, EDGE_COUNT_START, COUNT_WIDTH, edges as u32);
 }
 
-// Writes the counts, the nodes' payloads and the edges' records, a node in `width` bits, and answers the bit after them. Internal.
+// Writes the counts, the nodes' payloads and the edges' records of what is live in a store, a node in `width` bits, and answers the bit after them. Internal.
 fn write_slots(
-    bytes: &mut [u8],
+    counts: Counts,
+    nodes: &[u32],
+    lows: &[u32],
+    highs: &[u32],
+    live_nodes: &[u64],
+    live_edges: &[u64],
+    outgoing: &[u32],
+    incoming: &[u32],
     width: u32,
-    nodes: &[u32],
-    sources: &[u32],
-    targets: &[u32],
-    lows: &[u32],
-    highs: &[u32],
-) -> usize
-    requires { ⌜ SlotsFit (now bytes) width (now nodes) (now sources) (now targets) (now lows) (now highs) ⌝ }
-    ensures { λ r. ⌜ WroteTo (now (bytes .entry)) 0
-        (slot-bits width (now (nodes .entry)) (records-in (now (sources .entry)) (now (targets .entry)) (now (lows .entry)) (now (highs .entry)))) (now (bytes .exit)) r ⌝ }
-{
-    write_counts(bytes, nodes.len(), lows.len());
-    let at = write_row(bytes, NODES_START, NODE_PAYLOAD_WIDTH, nodes);
-    write_edges(bytes, at, width, sources, targets, lows, highs)
-}
-
-// Writes the lists of both directions, an entry in `width` bits, and answers the bit after them. Internal.
-fn write_lists(bytes: &mut [u8], position: usize, width: u32, outs: &[u32], ins: &[u32]) -> usize
-    requires { ⌜ ListsFit (now bytes) position width (now outs) (now ins) ⌝ }
-    ensures { λ r. ⌜ WroteTo (now (bytes .entry)) position (list-bits width (now (outs .entry)) (now (ins .entry))) (now (bytes .exit)) r ⌝ }
-{
-    let at = write_row(bytes, position, width, outs);
-    write_row(bytes, at, width, ins)
-}
-
-// Writes the image of columns to the start of `bytes`: the nodes' payloads, the edges' ends, lows and highs, and the lists of all nodes joined, of each direction.
-// Internal: there is room for it.
-fn write_columns(
     bytes: &mut [u8],
+) -> usize
+    requires { ⌜ SlotsFit (lent counts nodes lows highs «live_nodes» «live_edges» outgoing incoming) width (now bytes) ⌝ }
+    ensures { λ r. ⌜ WroteTo (now (bytes .entry)) 0
+        (slot-bits width (survivors (lists (at-entry counts nodes lows highs «live_nodes» «live_edges» outgoing incoming)))) (now (bytes .exit)) r ⌝ }
+{
+    let node_slots = counts.nodes;
+    let edge_slots = counts.edges;
+    let slots = node_slots.bound as usize;
+    let mut ranks: [u32; LIVE_WORDS] = [0; LIVE_WORDS];
+    write_ranks(live_nodes, slots, &mut ranks);
+    write_counts(bytes, node_slots.live as usize, edge_slots.live as usize);
+    let at = write_nodes(bytes, NODES_START, nodes, live_nodes, slots);
+    write_edges(
+        bytes,
+        at,
+        width,
+        live_nodes,
+        slots,
+        &ranks,
+        live_edges,
+        edge_slots.bound as usize,
+        outgoing,
+        incoming,
+        lows,
+        highs,
+    )
+}
+
+// Writes the joined lists of both directions, an entry in `width` bits, and answers the bit after them. Internal.
+fn write_lists(
+    bytes: &mut [u8],
+    position: usize,
+    width: u32,
+    live: &[u64],
+    slots: usize,
+    entries: &[u32],
+) -> usize
+    requires { ⌜ ListsFit (now bytes) position width (now live) slots (now entries) ⌝ }
+    ensures { λ r. ⌜ WroteTo (now (bytes .entry)) position (row width (map (rank (live-flags (now (live .entry)) slots)) (now (entries .entry)))) (now (bytes .exit)) r ⌝ }
+{
+    let mut ranks: [u32; LIVE_WORDS] = [0; LIVE_WORDS];
+    write_ranks(live, slots, &mut ranks);
+    write_entries(bytes, position, width, live, slots, &ranks, entries)
+}
+
+// Writes the image of what is live in a store to the start of `bytes`; the work slice holds the lists of both directions by old numbers. Internal: there is room.
+fn write_survivors(
+    counts: Counts,
     nodes: &[u32],
-    sources: &[u32],
-    targets: &[u32],
     lows: &[u32],
     highs: &[u32],
-    outs: &[u32],
-    ins: &[u32],
+    live_nodes: &[u64],
+    live_edges: &[u64],
+    outgoing: &[u32],
+    incoming: &[u32],
+    work: &[u32],
+    bytes: &mut [u8],
 )
-    requires { ⌜ ImageFits (now bytes) (columns (now nodes) (now sources) (now targets) (now lows) (now highs) (now outs) (now ins)) ⌝ }
+    requires { ⌜ ImageFits (lent counts nodes lows highs «live_nodes» «live_edges» outgoing incoming) (now work) (now bytes) ⌝ }
     ensures { λ _. ⌜ now (bytes .exit) ≡ written
-        (pack (column-bits (columns (now (nodes .entry)) (now (sources .entry)) (now (targets .entry)) (now (lows .entry)) (now (highs .entry)) (now (outs .entry)) (now (ins .entry)))))
-        (now (bytes .entry)) ⌝ }
+        (image (survivors (lists (at-entry counts nodes lows highs «live_nodes» «live_edges» outgoing incoming)))) (now (bytes .entry)) ⌝ }
 {
-    let width = least_width(nodes.len() as u32);
-    let entry_width = least_width(lows.len() as u32);
-    let at = write_slots(bytes, width, nodes, sources, targets, lows, highs);
-    let end = write_lists(bytes, at, entry_width, outs, ins);
+    let node_slots = counts.nodes;
+    let edge_slots = counts.edges;
+    let width = least_width(node_slots.live);
+    let entry_width = least_width(edge_slots.live);
+    let count = 2 * edge_slots.live as usize;
+    let at = write_slots(
+        counts,
+        nodes,
+        lows,
+        highs,
+        live_nodes,
+        live_edges,
+        outgoing,
+        incoming,
+        width,
+        bytes,
+    );
+    let end = write_lists(
+        bytes,
+        at,
+        entry_width,
+        live_edges,
+        edge_slots.bound as usize,
+        &work[..count],
+    );
     write_padding(bytes, end);
 }
 
-// Writes the image of a compact store of n nodes and m edges. Internal: its words are right.
-fn write_store(
-    n: usize,
-    m: usize,
-    nodes: &[u32],
-    lows: &[u32],
-    highs: &[u32],
-    outgoing: &[u32],
-    incoming: &[u32],
-    bytes: &mut [u8],
-) -> Answer
-    requires { ⌜ Stored n m (now nodes) (now lows) (now highs) (now outgoing) (now incoming) ⌝ }
-    ensures { λ r. ⌜ BytesLent
-        (pack (column-bits (columns-of n m (now (nodes .entry)) (now (lows .entry)) (now (highs .entry)) (now (outgoing .entry)) (now (incoming .entry)))))
-        (now (bytes .entry)) r (now (bytes .exit)) ⌝ }
-{
-    let needed = image_bytes(n as u32, m as u32);
-    if bytes.len() < needed {
-        return Answer {
-            number: TOO_SHORT,
-            value: needed as u64,
-        };
-    }
-    let first = lows.len();
-    let last = first + m;
-    write_columns(
-        bytes,
-        &nodes[..n],
-        &outgoing[..m],
-        &incoming[..m],
-        &lows[..m],
-        &highs[..m],
-        &outgoing[first..last],
-        &incoming[first..last],
-    );
-    Answer {
-        number: DONE,
-        value: needed as u64,
-    }
-}
-
-// The image of the store, into `bytes`. "Only compact stores have one. Writing: 1, 11, 2."
+// The image of the store, into `bytes`: "1; 2 for the work slice, twice the live transfer count; 2 for the image's slice". The work slice takes the lists of both
+// directions, and is "left free afterwards".
 pub fn write_image(
     counts: Counts,
     nodes: &[u32],
@@ -223,11 +308,12 @@ pub fn write_image(
     live_edges: &[u64],
     outgoing: &[u32],
     incoming: &[u32],
+    work: &mut [u32],
     bytes: &mut [u8],
 ) -> Answer
-    ensures { λ r. ⌜ Replied
+    ensures { λ r. ⌜ WriteOf
         (at-entry counts nodes lows highs «live_nodes» «live_edges» outgoing incoming)
-        written-image (now (bytes .entry)) r (now (bytes .exit)) ⌝ }
+        (now (work .entry)) (now (bytes .entry)) r (now (work .exit)) (now (bytes .exit)) ⌝ }
 {
     let rule = judge(
         counts,
@@ -242,7 +328,23 @@ pub fn write_image(
     if rule != 0 {
         return no_store(rule);
     }
-    let compact = is_compact_checked(
+    let node_slots = counts.nodes;
+    let edge_slots = counts.edges;
+    let listed = 2 * edge_slots.live as usize;
+    if work.len() < listed {
+        return Answer {
+            number: TOO_SHORT,
+            value: listed as u64,
+        };
+    }
+    let needed = image_bytes(node_slots.live, edge_slots.live);
+    if bytes.len() < needed {
+        return Answer {
+            number: TOO_SHORT,
+            value: needed as u64,
+        };
+    }
+    write_both(
         counts,
         nodes,
         lows,
@@ -251,14 +353,22 @@ pub fn write_image(
         live_edges,
         outgoing,
         incoming,
+        work,
     );
-    if !compact {
-        return Answer {
-            number: NOT_COMPACT,
-            value: NONE as u64,
-        };
+    write_survivors(
+        counts,
+        nodes,
+        lows,
+        highs,
+        live_nodes,
+        live_edges,
+        outgoing,
+        incoming,
+        work,
+        bytes,
+    );
+    Answer {
+        number: DONE,
+        value: needed as u64,
     }
-    let n = counts.nodes.bound as usize;
-    let m = counts.edges.bound as usize;
-    write_store(n, m, nodes, lows, highs, outgoing, incoming, bytes)
 }

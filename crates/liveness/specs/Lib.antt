@@ -5,4 +5,6 @@ pub mod Bits
 pub mod FlagLaws
 pub mod WordFlags
 pub mod Next
+pub mod Passed
+pub mod Ranks
 pub mod Examples

@@ -9,6 +9,7 @@ ghost use Rattle.plain.specs.Reads.{live-count};
 ghost use Rattle.plain.specs.Compaction.{rank as rank-of};
 ghost use Rattle.liveness.specs.Flags.{live-flags, packed, counted, next-live};
 ghost use Rattle.liveness.specs.Calls.{Pushed, Cleared, Reset};
+ghost use Rattle.liveness.specs.Ranks.{RanksFit, Ranked};
 
 // What counting the live slots answers.
 pub enum Counted {
@@ -110,6 +111,30 @@ pub fn rank(words: &[u64], slots: usize, slot: usize) -> usize
         return count_before(words, slots);
     }
     count_before(words, slot)
+}
+
+// Writes how many live slots stand before each word to the start of `ranks`, for `rank_by`.
+pub fn write_ranks(words: &[u64], slots: usize, ranks: &mut [u32])
+    requires { ⌜ RanksFit (now words) slots (now ranks) ⌝ }
+    ensures { λ _. ⌜ Ranked (now (words .entry)) slots (now (ranks .exit)) ⌝ }
+{
+    let count = (slots + 63) / 64;
+    let mut live: u32 = 0;
+    let mut i: usize = 0;
+    while i < count {
+        ranks[i] = live;
+        live += u64::count_ones(words[i]);
+        i += 1;
+    }
+}
+
+// How many live slots stand before a slot, in constant time: those before its word, and those of its word's low bits.
+pub fn rank_by(words: &[u64], slots: usize, ranks: &[u32], slot: usize) -> u32
+    requires { ⌜ Ranked (now words) slots (now ranks) × (slot < slots) ⌝ }
+    ensures { λ r. ⌜ r ≡ rank-of (live-flags (now (words .entry)) slots) slot ⌝ }
+{
+    let at = slot / 64;
+    ranks[at] + u64::count_ones(words[at] % (1u64 << (slot % 64)))
 }
 
 // Makes the first slots live, with the packed shape; words past those needed are as they were.

@@ -1,8 +1,6 @@
--- A strip on a fresh store of lotstrip's capacities, its compaction and its image: none of the calls is refused, and what they leave is that of the plain lists.
+-- A strip on a fresh store of lotstrip's capacities, and the image of what survives it: none of the calls is refused, and what they leave is that of the plain lists.
 use Prim.Native.Nat.{ℕ, _+_, _*_, _/_, _%_, _≤_}
 use mathlib.Core.Path.{_≡_, refl, ap, ap₂, subst, _∙_}
-use mathlib.Core.Bool.{true}
-use mathlib.Core.Option.{none}
 use mathlib.Core.List.{List}
 use native.Mathlib.Omega.{arith}
 use native.Mathlib.Nat.{mul-le-mul}
@@ -14,20 +12,20 @@ use Rattle.plain.specs.Operations.{operation-words, operations}
 use Rattle.plain.specs.Plain.{Plain, EdgeSlot, edge-flags}
 use Rattle.plain.specs.Reads.{Reply, live-edges}
 use Rattle.plain.specs.Step.{Capacities, State, run, answers}
-use Rattle.plain.specs.Compaction.{survivors, compacted}
+use Rattle.plain.specs.Compaction.{survivors}
 use Rattle.plain.specs.Bits.{least-width}
 use Rattle.plain.specs.Image.{image, record-width, edges-start}
 use Rattle.plain.specs.Memory.{Lengths, first-short, live-words, axis-length, exact}
-use Rattle.plain.specs.Calls.{Stripped, Compacted, strip, judged-strip, judged-compaction, judged-reply, compaction, compacting, fresh-state, within, fresh-within, fresh}
+use Rattle.plain.specs.Calls.{Stripped, strip, judged-strip, judged-reply, fresh-state, within, fresh-within, fresh}
 use Rattle.plain.specs.Lotstrip.{lotstrip-capacities}
 use Rattle.plain.specs.WellFormed.{WellFormed}
 use Rattle.plain.specs.Laws.Width.{width-least}
 use Rattle.plain.specs.Laws.ListLaws.{count-length}
 use Rattle.plain.specs.Laws.Strips.{length-operations}
-use Rattle.plain.specs.Laws.CallCases.{no-slice, slice-fits, strip-done, compaction-done, write-compact, lent-done}
-use Rattle.plain.specs.Laws.Compacting.{survivors-sound, survivors-of, surviving-nodes-within, surviving-edges-within}
+use Rattle.plain.specs.Laws.CallCases.{strip-done, write-lent, lent-done}
+use Rattle.plain.specs.Laws.Compacting.{survivors-sound, surviving-nodes-within, surviving-edges-within}
 use Rattle.plain.specs.Laws.ImageLaws.{image-length}
-use Rattle.shape.specs.Shape.{Words, store, capacities, lengths-of, shape-of, plain-of, lists, is-compact}
+use Rattle.shape.specs.Shape.{Words, store, capacities, lengths-of, shape-of, plain-of, lists}
 use Rattle.shape.specs.Checked.{Checked}
 use Rattle.shape.specs.Kept.{same-capacities}
 use Rattle.shape.specs.Rules.{broken}
@@ -35,9 +33,7 @@ use Rattle.shape.specs.Steps.{state-of}
 use Rattle.shape.specs.Laws.Judging.{checked-sound}
 use Rattle.strip.specs.Fresh.{FreshOf}
 use Rattle.strip.specs.Strip.{StripOf, stripped}
-use Rattle.compact.specs.Calls.{CompactOf, compacting-of}
-use Rattle.view.specs.Calls.{Replied}
-use Rattle.image.specs.Calls.{written-image}
+use Rattle.image.specs.Calls.{written-image, WriteOf}
 
 -- the plain lists of a strip booked on a fresh store, and what the strip answers
 abbrev pub booked : List ℕ → State
@@ -46,7 +42,7 @@ booked words = run lotstrip-capacities fresh-state (operations words)
 abbrev pub booking-answers : List ℕ → List ℕ
 booking-answers words = answers lotstrip-capacities fresh-state (operations words)
 
--- "prints the image": that of what survives the closing compaction
+-- "compacts, and prints the image": that of what survives, which writing gives with no compaction (document 02, No. 2)
 abbrev pub closing : List ℕ → List ℕ
 closing words = image (survivors (booked words .lists))
 
@@ -125,13 +121,12 @@ module _ {nodes lows highs live-nodes live-edges outgoing incoming words entry :
         answered = done .answered ∙ ap (λ (o : Stripped). written (o .words) entry) is;
       }
 
--- ---- the compaction
+-- ---- the image
 
--- What the closing compaction of store w leaves: v is compact, and has the same survivors.
-pub record Closed (w v : Words) : Type 0 where
-  pub checked : Checked v
-  pub compact : is-compact (shape-of v) ≡ true
-  pub same : survivors (plain-of (shape-of v)) ≡ survivors (plain-of (shape-of w))
+-- A store that a strip led to, and bytes for any image of lotstrip's.
+pub record Printable (w : Words) (bytes : List ℕ) : Type 0 where
+  pub held : Held w
+  pub room : image-room ≤ length bytes
 
 module _ {w : Words} (h : Held w) where
   abbrev plain : Plain
@@ -140,29 +135,8 @@ module _ {w : Words} (h : Held w) where
   well : WellFormed lotstrip-capacities plain
   well = subst (λ (caps : Capacities). WellFormed caps plain) (h .sized) (h .checked .walks)
 
-  compacting-is : (node-map edge-map work : ℕ) → lotstrip-capacities .nodes ≤ node-map → lotstrip-capacities .edges ≤ edge-map → 2 * lotstrip-capacities .edges ≤ work
-      → compacting-of w node-map edge-map work ≡ compacting none (state-of (shape-of w))
-  compacting-is node-map edge-map work a b c =
-      let few : live-edges plain ≤ lotstrip-capacities .edges = omega (arith, count-length (λ f. f) (edge-flags plain), length-map (plain .edges) (λ (e : EdgeSlot). e .live), well .edges-within) in
-      let s = state-of (shape-of w) in
-      ap (λ (rule : ℕ). judged-compaction rule s (compaction s node-map edge-map work)) (checked-sound w (h .checked))
-      ∙ compaction-done s node-map edge-map work
-      (slice-fits (omega (arith, well .nodes-within)) (slice-fits (omega (arith, well .edges-within)) (slice-fits (omega arith) no-slice)))
-
-  pub closes : {node-map edge-map work node-map' edge-map' work' : List ℕ} {number value : ℕ} {v : Words}
-      → CompactOf w node-map edge-map work number value v node-map' edge-map' work'
-      → lotstrip-capacities .nodes ≤ length node-map → lotstrip-capacities .edges ≤ length edge-map → 2 * lotstrip-capacities .edges ≤ length work → Closed w v
-  unfolding compacted
-  closes {node-map} {edge-map} {work} done a b c =
-      let is = compacting-is (length node-map) (length edge-map) (length work) a b c in
-      let zero = done .numbered ∙ ap (λ (o : Compacted). o .number) is in
-      let state = done .state ∙ ap (λ (o : Compacted). o .after) is in
-      record {
-        checked = done .checked zero;
-        compact = ap (λ (s : State). s .compact) state;
-        same = ap (λ (s : State). survivors (s .lists)) state
-            ∙ survivors-of (survivors plain) (survivors-sound lotstrip-capacities plain well (omega arith) (omega arith));
-      }
+  few : live-edges plain ≤ lotstrip-capacities .edges
+  few = omega (arith, count-length (λ f. f) (edge-flags plain), length-map (plain .edges) (λ (e : EdgeSlot). e .live), well .edges-within)
 
   -- its image is never longer
   pub image-short : length (image (survivors plain)) ≤ image-room
@@ -177,29 +151,21 @@ module _ {w : Words} (h : Held w) where
       let entries : least-width (length (s .edges)) * length (s .edges) ≤ edge-width * lotstrip-capacities .edges = mul-le-mul wide edges in
       omega (arith, image-length s (survivors-sound lotstrip-capacities plain well (omega arith) (omega arith)))
 
--- ---- the image
-
--- A compact store whose image has room.
-pub record Printable (w : Words) (bytes : List ℕ) : Type 0 where
-  pub checked : Checked w
-  pub compact : is-compact (shape-of w) ≡ true
-  pub room : length (image (survivors (plain-of (shape-of w)))) ≤ length bytes
-
 pub record Printed (w : Words) (entry : List ℕ) (size : ℕ) (exit : List ℕ) : Type 0 where
   pub sized : size ≡ length (image (survivors (plain-of (shape-of w))))
   pub bytes : exit ≡ written (image (survivors (plain-of (shape-of w)))) entry
 
-pub prints : {w : Words} {entry exit : List ℕ} {answer : Answer} → Printable w entry → Replied w written-image entry answer exit
-    → Printed w entry (answer .value) exit
-prints {w} {entry} p replied =
+pub prints : {w : Words} {work work' entry exit : List ℕ} {answer : Answer} → Printable w entry → 2 * lotstrip-capacities .edges ≤ length work
+    → WriteOf w work entry answer work' exit → Printed w entry (answer .value) exit
+prints {w} {work} {entry = entry} p room done =
     let bytes = image (survivors (plain-of (shape-of w))) in
-    let is : judged-reply (broken w) (written-image w (length entry)) ≡ record { number = 0; value = length bytes; words = bytes } =
-    ap (λ (rule : ℕ). judged-reply rule (written-image w (length entry))) (checked-sound w (p .checked))
-    ∙ write-compact (state-of (shape-of w)) (length entry) (p .compact)
-    ∙ lent-done (length entry) (length bytes) bytes (p .room) in
+    let is : judged-reply (broken w) (written-image (length work) w (length entry)) ≡ record { number = 0; value = length bytes; words = bytes } =
+    ap (λ (rule : ℕ). judged-reply rule (written-image (length work) w (length entry))) (checked-sound w (p .held .checked))
+    ∙ write-lent (lists w) (length work) (length entry) (omega (arith, few (p .held)))
+    ∙ lent-done (length entry) (length bytes) bytes (omega (arith, p .room, image-short (p .held))) in
     record {
-      sized = replied .value ∙ ap (λ (r : Reply). r .value) is;
-      bytes = replied .writes ∙ ap (λ (r : Reply). written (r .words) entry) is;
+      sized = done .replied .value ∙ ap (λ (r : Reply). r .value) is;
+      bytes = done .replied .writes ∙ ap (λ (r : Reply). written (r .words) entry) is;
     }
 
 -- ---- all of it
@@ -211,14 +177,10 @@ pub record Closing (words answers bytes answers' : List ℕ) (size : ℕ) (bytes
   pub short : length (closing words) ≤ image-room
   pub printed : bytes' ≡ written (closing words) bytes
 
-pub closed-printable : {w v : Words} {bytes : List ℕ} → Held w → Closed w v → image-room ≤ length bytes → Printable v bytes
-closed-printable h c room = record { checked = c .checked; compact = c .compact; room = rw (c .same) (omega (arith, image-short h)) }
-
-pub closing-of : {words answers answers' bytes bytes' : List ℕ} {w v : Words} {size : ℕ} → Booked words answers w answers' → Closed w v
-    → Printed v bytes size bytes' → Closing words answers bytes answers' size bytes'
-closing-of {words} {bytes = bytes} {w} {v} before closed after =
-    let same : image (survivors (plain-of (shape-of v))) ≡ closing words =
-    ap image (closed .same ∙ ap (λ (s : State). survivors (s .lists)) (before .state)) in
+pub closing-of : {words answers answers' bytes bytes' : List ℕ} {w : Words} {size : ℕ} → Booked words answers w answers' → Printed w bytes size bytes'
+    → Closing words answers bytes answers' size bytes'
+closing-of {words} {bytes = bytes} before after =
+    let same = ap (λ (s : State). image (survivors (s .lists))) (before .state) in
     record {
       answered = before .answered;
       sized = after .sized ∙ ap length same;

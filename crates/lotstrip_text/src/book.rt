@@ -1,5 +1,5 @@
-// A strip booked on a fresh store of lotstrip's capacities, the closing compaction, and its image. All functions are internal: the room is required, so that no
-// call is refused.
+// A strip booked on a fresh store of lotstrip's capacities, and the image of what survives it. All functions are internal: the room is required, so that no call
+// is refused.
 
 use crate::rooms::AXIS;
 use crate::rooms::EDGES;
@@ -7,7 +7,6 @@ use crate::rooms::LIVE_EDGES;
 use crate::rooms::LIVE_NODES;
 use crate::rooms::NODES;
 use crate::rooms::WORK;
-use compact;
 use image;
 use plain::Counts;
 use strip;
@@ -16,7 +15,7 @@ ghost use mathlib.Core.Path.{_≡_};
 ghost use lib.ListN.{length};
 ghost use Rattle.plain.specs.Operations.{operation-words};
 ghost use Rattle.shape.specs.Lent.{lent, at-entry, at-exit};
-ghost use Rattle.lotstrip_text.specs.Booking.{image-room, Bookable, Booked, Held, Closed, Printable, Printed, Closing};
+ghost use Rattle.lotstrip_text.specs.Booking.{image-room, Bookable, Booked, Printable, Printed, Closing};
 
 // Runs a strip on a fresh store.
 fn run_strip(
@@ -59,42 +58,7 @@ fn run_strip(
     done.counts
 }
 
-// Compacts the store that a strip led to. The maps and the work are of no further use.
-fn close(
-    counts: Counts,
-    nodes: &mut [u32],
-    lows: &mut [u32],
-    highs: &mut [u32],
-    live_nodes: &mut [u64],
-    live_edges: &mut [u64],
-    outgoing: &mut [u32],
-    incoming: &mut [u32],
-) -> Counts
-    requires { ⌜ Held (lent counts nodes lows highs «live_nodes» «live_edges» outgoing incoming) ⌝ }
-    ensures { λ r. ⌜ Closed
-        (at-entry counts nodes lows highs «live_nodes» «live_edges» outgoing incoming)
-        (at-exit r nodes lows highs «live_nodes» «live_edges» outgoing incoming) ⌝ }
-{
-    let mut node_map: [u32; NODES] = [0; NODES];
-    let mut edge_map: [u32; EDGES] = [0; EDGES];
-    let mut work: [u32; WORK] = [0; WORK];
-    let done = compact::compact(
-        counts,
-        nodes,
-        lows,
-        highs,
-        live_nodes,
-        live_edges,
-        outgoing,
-        incoming,
-        &mut node_map,
-        &mut edge_map,
-        &mut work,
-    );
-    done.counts
-}
-
-// Writes the image of a compact store, and answers how many bytes it has.
+// Writes the image of what survives in a store that a strip led to, and answers how many bytes it has. The work is of no further use.
 fn print_image(
     counts: Counts,
     nodes: &[u32],
@@ -111,6 +75,7 @@ fn print_image(
         (at-entry counts nodes lows highs «live_nodes» «live_edges» outgoing incoming)
         (now (bytes .entry)) r (now (bytes .exit)) ⌝ }
 {
+    let mut work: [u32; WORK] = [0; WORK];
     let done = image::write::write_image(
         counts,
         nodes,
@@ -120,6 +85,7 @@ fn print_image(
         live_edges,
         outgoing,
         incoming,
+        &mut work,
         bytes,
     );
     done.value as usize
@@ -147,16 +113,6 @@ pub fn book(words: &[u32], answers: &mut [u32], bytes: &mut [u8]) -> usize
         &mut incoming,
         words,
         answers,
-    );
-    let counts = close(
-        counts,
-        &mut nodes,
-        &mut lows,
-        &mut highs,
-        &mut live_nodes,
-        &mut live_edges,
-        &mut outgoing,
-        &mut incoming,
     );
     print_image(
         counts,

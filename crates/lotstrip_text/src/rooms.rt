@@ -18,7 +18,7 @@ pub const LIVE_EDGES: usize = EDGES / 64;
 // The words of an axis.
 pub const AXIS: usize = 4 * EDGES + 6 * NODES + 1;
 
-// The work of a compaction: two words a live edge.
+// The work of writing an image: two words a live edge.
 pub const WORK: usize = 2 * EDGES;
 
 // The bytes of a word, and of an operation.

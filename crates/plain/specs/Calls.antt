@@ -9,7 +9,7 @@ use lib.Dec.{eqb, ltb}
 use Rattle.plain.specs.declared.Answer.{Answer}
 use Rattle.plain.specs.declared.Record.{Record}
 use Rattle.plain.specs.declared.Total.{Total}
-use Rattle.plain.specs.Numbers.{NONE, LIMIT, done, no-store, too-short, ragged, not-compact, unreadable, above-limit}
+use Rattle.plain.specs.Numbers.{LIMIT, done, no-store, too-short, ragged, unreadable, above-limit}
 use Rattle.plain.specs.Plain.{Plain, empty, node-bound, edge-bound, node-flags, edge-flags}
 use Rattle.plain.specs.Operations.{operations, operation-words}
 use Rattle.plain.specs.Step.{Capacities, State, run, answers}
@@ -135,11 +135,12 @@ judged-compaction (suc rule) s compacted =
 
 -- ---- the image
 
--- "Only compact stores have one. Writing: 1, 11, 2."
-unfoldable pub write-image : State → ℕ → Reply
-write-image s room =
-    let bytes = image (survivors (s .lists)) in
-    cond (s .compact) (lent room (length bytes) bytes) (record { number = not-compact; value = NONE; words = [] })
+-- "Writing an image now answers for every store, and gives what compaction followed by writing would give": the image of the survivors. "It needs a work slice of
+-- twice the live transfer count, checked for length before the image's slice": 1, 2, 2, by the lengths of the work slice and of the image's slice.
+unfoldable pub write-image : Plain → ℕ → ℕ → Reply
+write-image p work room =
+    let bytes = image (survivors p) in
+    cond (ltb work (2 * live-edges p)) (record { number = too-short; value = 2 * live-edges p; words = [] }) (lent room (length bytes) bytes)
 
 -- refused with 12 and the rule, if one is broken; else as it goes on
 abbrev pub readable : ℕ → Answer → Answer

@@ -79,7 +79,7 @@ pub record Examples : Type 0 where
   pub m1 : (node-bound-answer (fresh-state .lists) ≡ answered 0) × (edge-bound-answer (fresh-state .lists) ≡ answered 0)
       × (is-compact fresh-state ≡ answered 1)
   -- M2 fresh, compacted: image 00 00 00 00.
-  pub m2 : write-image (history small (Compaction 0 0 0 ∷ [])) 4 ≡ record { number = 0; value = 4; words = 0 ∷ 0 ∷ 0 ∷ 0 ∷ [] }
+  pub m2 : write-image (history small (Compaction 0 0 0 ∷ []) .lists) 0 4 ≡ record { number = 0; value = 4; words = 0 ∷ 0 ∷ 0 ∷ 0 ∷ [] }
   -- M3 a self-loop is in both lists; removing its node removes it.
   pub m3 : (walk Outgoing (after self-loop .lists) 0 1 ≡ record { number = 0; value = 1; words = 0 ∷ [] })
       × (walk Incoming (after self-loop .lists) 0 1 ≡ record { number = 0; value = 1; words = 0 ∷ [] })
@@ -128,8 +128,18 @@ pub record Examples : Type 0 where
   pub low-above-high : answers-after small (booked weights ∷ []) (op 9 9 1 6 5 ++ (op 9 9 0 6 5 ++ (op 2 9 9 6 5 ++ (op 9 9 0 5 5 ++ op 9 1 0 5 6))))
       ≡ 4 ∷ NONE ∷ 16 ∷ NONE ∷ 16 ∷ NONE ∷ 7 ∷ NONE ∷ 0 ∷ 0 ∷ []
   -- The image has the low, then the high.
-  pub low-then-high : write-image (history small one-range) 16
+  pub low-then-high : write-image (history small one-range .lists) 2 16
       ≡ record { number = 0; value = 16; words = 0 ∷ 1 ∷ 0 ∷ 1 ∷ 0 ∷ 0 ∷ 0 ∷ 7 ∷ 0 ∷ 0 ∷ 0 ∷ 5 ∷ 0 ∷ 0 ∷ 0 ∷ 8 ∷ [] }
+  -- Document 02, No. 2: a store with a removed edge has the image that its compaction has; the work slice is asked before the image's.
+  pub working-image : (write-image (after first-removed .lists) 3 24 ≡ record { number = 2; value = 4; words = [] })
+      × (write-image (after first-removed .lists) 4 24 ≡ record { number = 2; value = 25; words = [] })
+      × (write-image (after first-removed .lists) 4 25
+      ≡ record {
+        number = 0;
+        value = 25;
+        words = 0 ∷ 1 ∷ 0 ∷ 2 ∷ 0 ∷ 0 ∷ 0 ∷ 7 ∷ 0 ∷ 0 ∷ 0 ∷ 2 ∷ 0 ∷ 0 ∷ 0 ∷ 2 ∷ 0 ∷ 0 ∷ 0 ∷ 3 ∷ 0 ∷ 0 ∷ 0 ∷ 3 ∷ 80 ∷ [];
+      })
+      × (write-image (history small (booked first-removed ∷ Compaction 1 3 4 ∷ []) .lists) 4 25 ≡ write-image (after first-removed .lists) 4 25)
   -- Of the slices whose lengths are no capacities that of the highs comes first.
   pub highs-first : fresh (record { capacities = capacities 8 9; highs = 8; live-nodes = 0; live-edges = 1; outgoing = 85; incoming = 85 }) ≡ record { number = 2; value = 9 }
 
@@ -152,5 +162,6 @@ examples = record {
   totals = (refl, refl, refl, refl);
   low-above-high = refl;
   low-then-high = refl;
+  working-image = (refl, refl, refl, refl);
   highs-first = refl;
 }

@@ -52,6 +52,6 @@ unfoldable pub history : Capacities → List Call → State
 history caps calls = history-from caps fresh-state calls
 
 -- "The closing compactions and image writings are meant where they answer 0; the only other number they can give is 2": a compaction, of the lengths of its
--- three lent slices, and the image of what it leaves, into bytes of a length
-abbrev pub closing-image : State → ℕ → ℕ → ℕ → ℕ → Reply
-closing-image s node-map edge-map work room = write-image (compaction s node-map edge-map work .after) room
+-- three lent slices, and the image of what it leaves, by the lengths of the writing's own work slice and of its bytes
+abbrev pub closing-image : State → ℕ → ℕ → ℕ → ℕ → ℕ → Reply
+closing-image s node-map edge-map work again room = write-image (compaction s node-map edge-map work .after .lists) again room

@@ -1,4 +1,4 @@
--- The numbers that calls and operations answer: the table of document 01, "The strip", and document 02. Numbers 1, 2, 3, 11, 12 and 13 are a call's alone and
+-- The numbers that calls and operations answer: the table of document 01, "The strip", and document 02. Numbers 1, 2, 3, 12 and 13 are a call's alone and
 -- leave "everything" as it was; 4 to 10 and 16 are an operation's and leave the "store". Of these the reads answer 5, 7 and 8 too, "walk: 1, 5, 2", "live record 1, 7, 8",
 -- and write nothing then.
 use Prim.Native.Nat.{ℕ}
@@ -55,9 +55,7 @@ onto-itself = 9
 abbrev pub full : ℕ
 full = 10
 
--- image of a store not compact
-abbrev pub not-compact : ℕ
-not-compact = 11
+-- 11, "image of a store not compact", is no number of any call or operation any more: document 02, No. 2, and `never-eleven` of crate histories
 
 -- image unreadable
 abbrev pub unreadable : ℕ

@@ -30,9 +30,6 @@ pub const ONTO_ITSELF: u32 = 9;
 // Bound equals capacity.
 pub const FULL: u32 = 10;
 
-// Image of a store not compact.
-pub const NOT_COMPACT: u32 = 11;
-
 // Image unreadable.
 pub const UNREADABLE: u32 = 12;
 

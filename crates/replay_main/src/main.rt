@@ -4,7 +4,7 @@
 // A line is five words of eight hexadecimal digits, separated by a space: the kind of call and its arguments. Kinds: 0 fresh (node and edge capacity), 1 strip (words,
 // words lent for the answers, lines that follow: the five words of an operation each), 2 and 3 walk out and in (node, words lent), 4 and 5 live nodes and edges
 // (0, words lent), 6 node payload, 7 and 8 record in both readings, 9 bounds, counts, empty and compact, 10 and 11 degree out and in, 12 compaction (words lent for
-// the node map, the edge map and the work), 13 finding (two nodes), 14 writing the image (bytes lent), 15 reading an image (bytes, lines that follow: sixteen bytes
+// the node map, the edge map and the work), 13 finding (two nodes), 14 writing the image (words lent for the work, bytes lent), 15 reading an image (bytes, lines that follow: sixteen bytes
 // each, in the last four words), 16 and 17 total out and in.
 
 use plain::Answer;
@@ -368,6 +368,7 @@ fn print_image(
     live_edges: &[u64],
     outgoing: &[u32],
     incoming: &[u32],
+    work: &mut [u32],
     bytes: &mut [u8],
 ) {
     let answered = image::write::write_image(
@@ -379,6 +380,7 @@ fn print_image(
         live_edges,
         outgoing,
         incoming,
+        work,
         bytes,
     );
     number(wide(answered.number));
@@ -389,7 +391,7 @@ fn print_image(
     io::write_all(1, b"\n");
 }
 
-// The image into bytes of the recorded length.
+// The image with a work slice and into bytes of the recorded lengths.
 fn write_image(
     counts: Counts,
     nodes: &[u32],
@@ -401,8 +403,10 @@ fn write_image(
     incoming: &[u32],
     call: Call,
 ) {
+    let mut work: [u32; 2048] = [0; 2048];
     let mut bytes: [u8; 4096] = [0; 4096];
-    let room = within_bytes(call.first, &bytes);
+    let lent = within(call.first, &work);
+    let room = within_bytes(call.second, &bytes);
     print_image(
         counts,
         nodes,
@@ -412,6 +416,7 @@ fn write_image(
         live_edges,
         outgoing,
         incoming,
+        &mut work[..lent],
         &mut bytes[..room],
     );
 }

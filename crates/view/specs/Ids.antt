@@ -1,24 +1,20 @@
 -- Listing the live slots by the next live one: what the loop holds, and what the two reads answer.
-use Prim.Native.Nat.{ℕ, suc, _+_, _*_, _≤_, _<_}
+use Prim.Native.Nat.{ℕ, _+_, _*_, _≤_, _<_}
 use native.Mathlib.Omega.{arith}
-use native.Mathlib.Numerals.{add-one}
 use mathlib.Core.Path.{_≡_, refl, sym, ap, _∙_}
 use mathlib.Core.Bool.{Bool}
-use mathlib.Core.Logic.{⊎-elim}
-use mathlib.Core.List.{List, [], _∷_, _++_, append-nil}
+use mathlib.Core.List.{List, [], _∷_, _++_}
 use lib.ListN.{length, set, drop, length-append, length-set}
-use lib.Seq.{append-snoc}
 use Rattle.plain.specs.declared.TraversalDirection.the-variants.{Outgoing}
 use Rattle.plain.specs.declared.Slots.{Slots}
 use Rattle.plain.specs.Numbers.{LIMIT}
 use Rattle.plain.specs.Lists.{written}
 use Rattle.plain.specs.Plain.{node-flags, edge-flags}
-use Rattle.plain.specs.Reads.{Reply, listing, live-count, live-from, live-slots, node-slots, edge-slots}
-use Rattle.plain.specs.Laws.Booleans.{below-or-not}
+use Rattle.plain.specs.Reads.{Reply, listing, live-count, live-slots, node-slots, edge-slots}
 use Rattle.plain.specs.Laws.ListLaws.{count-length}
 use Rattle.plain.specs.Laws.Rank.{length-live-slots}
 use Rattle.liveness.specs.Flags.{live-flags, next-live}
-use Rattle.liveness.specs.Next.{listed-next, listed-end}
+use Rattle.liveness.specs.Passed.{Passed, passed-none, passed-fewer, passed-on, passed-later, passed-few, passed-all}
 use Rattle.shape.specs.Checked.{SlotsChecked}
 use Rattle.shape.specs.Shape.{Words, node-live, edge-live, plain-of, lists}
 use Rattle.shape.specs.Laws.Reading.{node-flags-are, edge-flags-are}
@@ -35,44 +31,21 @@ pub record LiveFits (words : List ℕ) (bound : ℕ) (slots : List ℕ) : Type 0
 -- The live slots before `slot`, which is the next or past the end, are written, n of them.
 pub record Listing (flags : List Bool) (out₀ out : List ℕ) (n slot : ℕ) : Type 0 where
   pub past : List ℕ
-  pub place : ℕ
-  pub next : slot ≡ next-live flags place
-  pub whole : live-slots flags ≡ past ++ live-from place (drop place flags)
+  pub passed : Passed flags past slot
   pub counted : n ≡ length past
   pub wrote : out ≡ past ++ drop n out₀
   pub long : length out ≡ length out₀
-  pub fits : length (live-slots flags) ≤ length out₀
+  pub fits : live-count flags ≤ length out₀
 
 -- where it starts
 pub listing-start : {flags : List Bool} {out : List ℕ} {slot : ℕ} → slot ≡ next-live flags 0 → live-count flags ≤ length out → Listing flags out out 0 slot
-listing-start {flags} next fits = record {
-  past = [];
-  place = 0;
-  next = next;
-  whole = refl;
-  counted = refl;
-  wrote = refl;
-  long = refl;
-  fits = rw (length-live-slots flags) fits;
-}
-
--- the next live slot from x on is not before x
-next-onward : (flags : List Bool) (x : ℕ) → x ≤ length flags → x ≤ next-live flags x
-next-onward flags x h =
-    ⊎-elim (λ l. listed-next flags x l .onward) (λ l. omega arith) (below-or-not (next-live flags x) (length flags))
+listing-start next fits = record { past = []; passed = passed-none next; counted = refl; wrote = refl; long = refl; fits = fits }
 
 module _ {flags : List Bool} {out₀ out : List ℕ} {n slot : ℕ} (i : Listing flags out₀ out n slot) where
   module _ (l : slot < length flags) where
-    -- the slot begins what is left
-    here : live-from (i .place) (drop (i .place) flags) ≡ slot ∷ live-from (suc slot) (drop (suc slot) flags)
-    here = rw (← i .next) at (listed-next flags (i .place) (rw (← i .next) l) .lists)
-
-    more : live-slots flags ≡ (i .past ++ (slot ∷ [])) ++ live-from (suc slot) (drop (suc slot) flags)
-    more = i .whole ∙ rw here (sym (append-snoc (i .past) slot (live-from (suc slot) (drop (suc slot) flags))))
-
     -- there is room for it
     pub listing-room : n < length out
-    listing-room = omega (arith, i .counted, i .long, i .fits, simp length-append at (ap length more))
+    listing-room = omega (arith, i .counted, i .long, i .fits, passed-fewer (i .passed) l)
 
     -- one slot more
     pub listing-on : {later : ℕ} → later ≡ next-live flags (slot + 1) → Listing flags out₀ (set out n slot) (n + 1) later
@@ -80,9 +53,7 @@ module _ {flags : List Bool} {out₀ out : List ℕ} {n slot : ℕ} (i : Listing
         let room : n < length out₀ = omega (arith, listing-room, i .long) in
         record {
           past = i .past ++ (slot ∷ []);
-          place = suc slot;
-          next = next ∙ ap (next-live flags) (add-one slot);
-          whole = more;
+          passed = passed-on (i .passed) l next;
           counted = simp length-append (omega (arith, i .counted));
           wrote = rw (i .wrote) (write-one (i .past) out₀ n slot (i .counted) room);
           long = length-set out n slot ∙ i .long;
@@ -91,19 +62,15 @@ module _ {flags : List Bool} {out₀ out : List ℕ} {n slot : ℕ} (i : Listing
 
     -- the next is later
     pub listing-later : {later : ℕ} → later ≡ next-live flags (slot + 1) → slot < later
-    listing-later next = omega (arith, next, next-onward flags (slot + 1) (omega arith))
+    listing-later next = passed-later (i .passed) l next
 
   -- no more than there are slots
   pub listing-few : n ≤ length flags
-  listing-few =
-      omega (arith, i .counted, length-live-slots flags, count-length (λ (f : Bool). f) flags, simp length-append at (ap length (i .whole)))
+  listing-few = omega (arith, i .counted, passed-few (i .passed), count-length (λ (f : Bool). f) flags)
 
   -- all are written
   pub listing-end : length flags ≤ slot → out ≡ written (live-slots flags) out₀
-  listing-end past-end =
-      let nothing = listed-end flags (i .place) (rw (← i .next) past-end) in
-      let all : live-slots flags ≡ i .past = i .whole ∙ rw nothing (append-nil (i .past)) in
-      rw (all, ← i .counted) (i .wrote)
+  listing-end past-end = rw (passed-all (i .passed) past-end, ← i .counted) (i .wrote)
 
 -- ---- the answers, of one kind of slot
 

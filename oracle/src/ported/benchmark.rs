@@ -94,6 +94,8 @@ struct Pair {
 
 /// How often a workload is timed; at strips of one, once.
 const REPEATS: usize = 5;
+/// How often the writing of an image is.
+const IMAGES: usize = 51;
 
 impl Pair {
     fn of(rust: RustStore) -> Self {
@@ -194,6 +196,47 @@ impl Pair {
             "{name}: port {port:.0} µs, of it the check {check:.0} µs, Rust {rust:.0} µs, ratio {:.2}, without the check {:.2}",
             port / rust,
             (port - check).max(0.0) / rust
+        );
+    }
+
+    /// The image written directly, beside a compaction of a copy followed by writing;
+    /// each of the three calls checks the store, which is timed by itself too. Lent
+    /// slices and the copy are there before.
+    fn compare_image(&self, name: &str) {
+        let [nodes, edges] = self.rust.bounds();
+        let expected = self.rust.image();
+        let mut times = [const { Vec::new() }; 3];
+        for _ in 0..IMAGES {
+            let mut book = self.book.clone();
+            let mut maps = [nodes, edges].map(|bound| vec![0; bound]);
+            let mut work = vec![0; 2 * self.rust.graph.edge_count()];
+            let mut images = [(); 2].map(|()| vec![0; expected.len()]);
+            let [direct, behind] = &mut images;
+            let began = Instant::now();
+            self.book.check().expect("a store");
+            let check = began.elapsed();
+            let began = Instant::now();
+            let done = self.book.image_into(&mut work, direct);
+            let directly = began.elapsed();
+            done.expect("a store");
+            let [node_map, edge_map] = &mut maps;
+            let began = Instant::now();
+            let compacted = book.compact_into(node_map, edge_map, &mut work);
+            let done = book.image_into(&mut work, behind);
+            let compacting = began.elapsed();
+            compacted.expect("a store");
+            done.expect("a store");
+            assert!(images.iter().all(|image| *image == expected), "one image");
+            for (times, time) in times.iter_mut().zip([directly, compacting, check]) {
+                times.push(time);
+            }
+        }
+        let [directly, compacting, check] = times.map(median);
+        println!(
+            "{name}: directly {directly:.0} µs, compaction followed by writing {compacting:.0} µs, ratio {:.2}; \
+             a check {check:.0} µs, ratio without the one and the two checks {:.2}",
+            directly / compacting,
+            (directly - check).max(0.0) / (compacting - 2.0 * check)
         );
     }
 
@@ -425,6 +468,24 @@ fn compare_operations(rng: &mut Rng) {
     );
 
     built.compare_reads();
+    compare_images(&built, &removals);
+}
+
+/// Images of a full store, of which half of the edges are removed (the first half of
+/// the removals), half of the nodes, or nothing.
+fn compare_images(built: &Pair, removals: &[[u32; 5]]) {
+    let (edges, nodes) = removals.split_at(SLOTS as usize / 2);
+    for (name, removed) in [
+        ("half of its edges removed", edges),
+        ("half of its nodes removed", &nodes[..edges.len()]),
+        ("nothing removed", &[]),
+    ] {
+        let mut rust = built.rust.clone();
+        for &words in removed {
+            rust.operation(words);
+        }
+        Pair::of(rust).compare_image(&format!("the image of a full store, {name}"));
+    }
 }
 
 pub fn run(seed: u64) {

@@ -183,14 +183,14 @@ impl Shelf {
         self.compact_again(tally)
     }
 
-    /// Reads an image, its own where it has one, another or a spoiled one, on both
+    /// Reads an image, its own, another or a spoiled one, on both
     /// sides, then every read. Refused, every word stays.
     fn read(&mut self, rng: &mut Rng, tally: &mut Tally) -> Same {
         let place = || "reading an image".to_string();
         let capacities = self.rust.capacities;
-        let bytes = match (rng.below(3), calls::write_image(&self.rust, usize::MAX)) {
-            (0, Ok(own)) => own,
-            (1, _) => spoiled_image(rng, one_weight),
+        let bytes = match rng.below(3) {
+            0 => self.rust.image(),
+            1 => spoiled_image(rng, one_weight),
             _ => image::write(&compact_lists(rng, capacities, one_weight)),
         };
         let Capacities { nodes, edges } = capacities;
@@ -321,28 +321,41 @@ impl<L: Lots> Reads<'_, L> {
         Ok(())
     }
 
-    /// The image, into a slice with bytes to spare and into one that
-    /// is too short; of a store that is not compact it is refused.
+    /// The image of the store, compact or not: with words of work and bytes to spare,
+    /// and with slices that are too short, alone and together, which have to stay.
     fn compare_image(&self, tally: &mut Tally) -> Same {
         let place = || "the image".to_string();
-        let expected = calls::write_image(self.lots, usize::MAX);
-        let needed = expected.as_ref().map_or(0, Vec::len);
-        let mut bytes = vec![77; needed + 2];
-        let given = self.book.image_into(&mut bytes).map_err(Answer::from);
-        let past = bytes.split_off(needed);
-        let given = given.map(|length| (length as usize, bytes));
-        let expected = expected.map(|image| (image.len(), image));
-        tally.same(
-            Thing::BookImage,
-            place,
-            (expected, vec![77; 2]),
-            (given, past),
-        )?;
-        if let Some(shorter) = needed.checked_sub(1) {
-            let mut bytes = vec![77; shorter];
-            let given = self.book.image_into(&mut bytes).map_err(Answer::from);
-            let expected = (Err(Answer::too_short(needed)), vec![77; shorter]);
-            tally.same(Thing::BookImage, place, expected, (given, bytes))?;
+        let image = self.lots.image();
+        let needed = [2 * self.lots.live_edges().len(), image.len()];
+        let less = needed.map(|length| length.saturating_sub(1));
+        let [more, exact] = [2, 0].map(|spare| needed.map(|length| length + spare));
+        let lengths = [more, exact, [exact[0], less[1]], [less[0], more[1]], less];
+        for [work_lent, bytes_lent] in lengths {
+            let expected = calls::write_image(self.lots, [work_lent, bytes_lent]);
+            let mut work = vec![77; work_lent];
+            let mut bytes = vec![77; bytes_lent];
+            let given = self.book.image_into(&mut work, &mut bytes);
+            // The words of work that are needed are left free where it is done.
+            let free = if expected.is_ok() { needed[0] } else { 0 };
+            let mut whole = vec![77; bytes_lent];
+            if expected.is_ok() {
+                whole[..image.len()].copy_from_slice(&image);
+            }
+            let expected = expected.map(|image| image.len() as u32);
+            let expected = (expected, vec![77; work_lent - free], whole);
+            let given = (
+                given.map_err(Answer::from),
+                work.split_off(free),
+                bytes,
+            );
+            tally.same(Thing::BookImage, place, expected, given)?;
+        }
+        if !self.lots.is_compact() {
+            let mut copy = self.book.clone();
+            let compacted = copy.compact().map(|_| ());
+            let expected = (compacted, copy.image());
+            let given = (Ok(()), self.book.image());
+            tally.same(Thing::BookWorking, place, expected, given)?;
         }
         Ok(())
     }
@@ -437,7 +450,7 @@ fn compare_refused(memory: &Words, refused: Refused, rng: &mut Rng, tally: &mut 
         book.edge_count().map(nothing),
         book.node_ids_into(&mut slots).map(nothing),
         book.edge_ids_into(&mut slots).map(nothing),
-        book.image_into(&mut [0; 8]).map(nothing),
+        book.image_into(&mut [0; 8], &mut [0; 8]).map(nothing),
     ];
     for answer in answers {
         tally.same(Thing::BookRefused, place, Err(refused), answer)?;

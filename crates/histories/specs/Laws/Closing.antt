@@ -1,4 +1,5 @@
--- What the closing calls come to on every checked store: the image is that of the survivors of its plain lists, and a further compaction finds nothing to do.
+-- What image writing and the closing calls come to on every checked store: the image is that of the survivors of its plain lists, and a further compaction finds nothing
+-- to do.
 use Prim.Native.Nat.{ℕ}
 use mathlib.Core.Path.{_≡_, sym, ap, ap₂, subst, _∙_}
 use mathlib.Core.Logic.{_⊎_, ⊎-elim}
@@ -13,11 +14,11 @@ use Rattle.plain.specs.Step.{State}
 use Rattle.plain.specs.Reads.{Reply}
 use Rattle.plain.specs.Compaction.{renumbering, survivors}
 use Rattle.plain.specs.Image.{image}
-use Rattle.plain.specs.Calls.{Compacted, compacting, write-image, judged-reply}
+use Rattle.plain.specs.Calls.{Compacted, compacting, judged-reply}
 use Rattle.plain.specs.WellFormed.{Sound}
 use Rattle.plain.specs.Laws.Compacting.{survivors-sound}
 use Rattle.plain.specs.Laws.Renumberings.{renumbering-all-live}
-use Rattle.plain.specs.Laws.Histories.{compaction-state, closing-compaction-number, closing-image-number, closing-bytes}
+use Rattle.plain.specs.Laws.Histories.{compaction-state, closing-compaction-number, survivors-compacted, write-number, write-whole}
 use Rattle.shape.specs.Shape.{Words, capacities, shape-of, lists}
 use Rattle.shape.specs.Checked.{Checked}
 use Rattle.shape.specs.Rules.{broken}
@@ -26,7 +27,7 @@ use Rattle.shape.specs.Steps.{state-of}
 use Rattle.shape.specs.Laws.Reading.{plain-node-flags, plain-edge-flags}
 use Rattle.compact.specs.Calls.{Canonical, compacting-of}
 use Rattle.image.specs.Calls.{written-image}
-use Rattle.histories.specs.Closing.{Compacting, Closing, Done, image-of, NothingMore, compaction-of, writing-of, Compacts, Writes, Closes}
+use Rattle.histories.specs.Closing.{Compacting, Writing, image-in, Closing, NothingMore, compaction-of, writing-of, written-of, Compacts, Writes, Images, Closes}
 use Rattle.histories.specs.Laws.Following.{checked-within, compacting-is}
 
 -- the map of slots that are all live
@@ -70,6 +71,46 @@ module _ {w : Words} (k : Checked w) (a : Compacting w) where
         ∙ ap (λ (l : List ℕ). written l (a .edge-map)) (identity-map _ (w .counts .edges .bound) (plain-edge-flags w ∙ canonical .edges .words-set .flags));
   }
 
+-- ---- one image writing, of any checked store
+
+module _ {w : Words} (k : Checked w) (a : Writing w) where
+  abbrev bytes : List ℕ
+  bytes = image (survivors (lists w))
+
+  reply-is : judged-reply (broken w) (written-image (length (a .work)) w (length (a .slice))) ≡ written-of (lists w) a
+  reply-is = ap (λ (rule : ℕ). judged-reply rule (written-image (length (a .work)) w (length (a .slice)))) (checked-sound w k)
+
+  image-number : a .answer .number ≡ written-of (lists w) a .number
+  image-number = a .comes-to .replied .number ∙ ap (λ (r : Reply). r .number) reply-is
+
+  image-writes : Writes (written-of (lists w) a) a
+  image-writes = record {
+    numbered = image-number;
+    valued = a .comes-to .replied .value ∙ ap (λ (r : Reply). r .value) reply-is;
+    bytes = a .comes-to .replied .writes ∙ ap (λ (r : Reply). written (r .words) (a .slice)) reply-is;
+    zero-or-two = subst (λ (n : ℕ). (n ≡ 0) ⊎ (n ≡ 2)) (sym image-number) (write-number (lists w) (length (a .work)) (length (a .slice)));
+  }
+
+  module _ (done : a .answer .number ≡ 0) where
+    reply-whole : written-of (lists w) a ≡ record { number = 0; value = length bytes; words = bytes }
+    reply-whole = write-whole (lists w) (length (a .work)) (length (a .slice)) (sym image-number ∙ done)
+
+    value-length : a .answer .value ≡ length bytes
+    value-length = image-writes .valued ∙ ap (λ (r : Reply). r .value) reply-whole
+
+    image-is : image-in a ≡ bytes
+    image-is =
+        ap₂ {C = List ℕ} (λ (n : ℕ) (l : List ℕ). take n l) value-length
+        (image-writes .bytes ∙ ap (λ (r : Reply). written (r .words) (a .slice)) reply-whole)
+        ∙ take-append-seam bytes (drop (length bytes) (a .slice))
+
+  pub checked-image : Images (lists w) a
+  checked-image = record {
+    writes = image-writes;
+    imaged = image-is;
+    image-length = λ done. value-length done ∙ sym (ap length (image-is done));
+  }
+
 -- ---- compaction and image writing
 
 module _ {w : Words} (k : Checked w) (c : Closing w) where
@@ -77,50 +118,27 @@ module _ {w : Words} (k : Checked w) (c : Closing w) where
     compaction-done : compaction-of (state-of (shape-of w)) (c .compacting) .number ≡ 0
     compaction-done = sym (number-is k (c .compacting)) ∙ done
 
-    reply-is : judged-reply (broken (c .compacting .after)) (written-image (c .compacting .after) (length (c .writing .slice))) ≡ writing-of (state-of (shape-of w)) c
-    reply-is =
-        ap (λ (rule : ℕ). judged-reply rule (written-image (c .compacting .after) (length (c .writing .slice))))
-        (checked-sound (c .compacting .after) (c .compacting .comes-to .checked done))
-        ∙ ap (λ (s : State). write-image s (length (c .writing .slice))) (checked-compacts k (c .compacting) .leaves)
+    -- the writing is that of what the compaction left
+    after-image : Images (lists (c .compacting .after)) (c .writing)
+    after-image = checked-image (c .compacting .comes-to .checked done) (c .writing)
 
-    image-number : c .writing .answer .number ≡ writing-of (state-of (shape-of w)) c .number
-    image-number = c .writing .comes-to .number ∙ ap (λ (r : Reply). r .number) reply-is
+    closing-writes : Writes (writing-of (state-of (shape-of w)) c) (c .writing)
+    closing-writes =
+        subst (λ (s : State). Writes (written-of (s .lists) (c .writing)) (c .writing)) (checked-compacts k (c .compacting) .leaves) (after-image .writes)
 
-    checked-writes : Writes (state-of (shape-of w)) c
-    checked-writes = record {
-      numbered = image-number;
-      valued = c .writing .comes-to .value ∙ ap (λ (r : Reply). r .value) reply-is;
-      bytes = c .writing .comes-to .writes ∙ ap (λ (r : Reply). written (r .words) (c .writing .slice)) reply-is;
-      zero-or-two = subst (λ (n : ℕ). (n ≡ 0) ⊎ (n ≡ 2)) (sym image-number)
-          (closing-image-number (capacities w) (checked-within k) (state-of (shape-of w)) (k .walks) (length (c .compacting .node-map)) (length (c .compacting .edge-map))
-          (length (c .compacting .work)) compaction-done (length (c .writing .slice)));
-    }
-
-  module _ (done : Done c) where
-    abbrev bytes : List ℕ
-    bytes = image (survivors (lists w))
-
-    reply-whole : writing-of (state-of (shape-of w)) c ≡ record { number = 0; value = length bytes; words = bytes }
-    reply-whole =
-        closing-bytes (capacities w) (checked-within k) (state-of (shape-of w)) (k .walks) (length (c .compacting .node-map)) (length (c .compacting .edge-map))
-        (length (c .compacting .work)) (compaction-done (done .compacts)) (length (c .writing .slice)) (sym (image-number (done .compacts)) ∙ done .writes)
-
-    value-length : c .writing .answer .value ≡ length bytes
-    value-length = checked-writes (done .compacts) .valued ∙ ap (λ (r : Reply). r .value) reply-whole
-
-    image-is : image-of c ≡ bytes
-    image-is =
-        ap₂ {C = List ℕ} (λ (n : ℕ) (l : List ℕ). take n l) value-length
-        (checked-writes (done .compacts) .bytes ∙ ap (λ (r : Reply). written (r .words) (c .writing .slice)) reply-whole)
-        ∙ take-append-seam bytes (drop (length bytes) (c .writing .slice))
+    -- which has the same survivors
+    left-same : survivors (lists (c .compacting .after)) ≡ survivors (lists w)
+    left-same =
+        ap (λ (s : State). survivors (s .lists)) (checked-compacts k (c .compacting) .leaves ∙ ap (λ (r : Compacted). r .after) (whole k (c .compacting) done))
+        ∙ survivors-compacted (capacities w) (checked-within k) (state-of (shape-of w)) (k .walks) 0 0 0
 
   -- closing calls on any checked store
   pub checked-closes : Closes (state-of (shape-of w)) c
   checked-closes = record {
     compacts = checked-compacts k (c .compacting);
-    writes = checked-writes;
-    imaged = image-is;
-    image-length = λ done. value-length done ∙ sym (ap length (image-is done));
+    writes = closing-writes;
+    imaged = λ done. after-image (done .compacts) .imaged (done .writes) ∙ ap image (left-same (done .compacts));
+    image-length = λ done. after-image (done .compacts) .image-length (done .writes);
     again = λ done a. nothing-more (c .compacting .comes-to .checked done) a (c .compacting .comes-to .canonical done);
   }
 

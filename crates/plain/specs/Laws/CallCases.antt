@@ -2,7 +2,7 @@
 -- leave nothing out, so each number is given exactly in its case; a refused call leaves the store.
 use Prim.Native.Nat.{ℕ, zero, suc, _*_, _%_, _≤_, _<_}
 use mathlib.Core.Path.{_≡_, refl, sym, ap, _∙_}
-use mathlib.Core.Bool.{Bool, true, false}
+use mathlib.Core.Bool.{Bool, false}
 use mathlib.Core.Logic.{_⊎_, inl, inr, ⊎-elim}
 use mathlib.Core.Option.{Option, none, some, Option·map}
 use mathlib.Core.List.{List, [], _∷_, map}
@@ -18,7 +18,7 @@ use Rattle.plain.specs.Lists.{sum}
 use Rattle.plain.specs.Plain.{low-of, high-of, Plain, NodeSlot, EdgeSlot, no-node, no-edge, node-bound, edge-bound, node-flags, edge-flags, list-of, end-of, opposite}
 use Rattle.plain.specs.Operations.{operation-words, operations}
 use Rattle.plain.specs.Step.{Capacities, State, node-missing, run, answers}
-use Rattle.plain.specs.Reads.{lent, listing, answered, yes-or-no, no-record, no-total, payloads-of, walk, neighbors, degree, total, node-payload, edge-record, live-edge-record, contains-node, contains-edge, is-live, found, find}
+use Rattle.plain.specs.Reads.{lent, listing, answered, yes-or-no, no-record, no-total, payloads-of, walk, neighbors, degree, total, node-payload, edge-record, live-edge-record, contains-node, contains-edge, is-live, live-edges, found, find}
 use Rattle.plain.specs.Compaction.{survivors}
 use Rattle.plain.specs.Image.{image, broken-image, nodes-in, edges-in}
 use Rattle.plain.specs.Memory.{Slice, first-short, Lengths, other-slices}
@@ -256,13 +256,13 @@ module _ (s : State) (node-map edge-map work : ℕ) where
   unfolding compaction
   compaction-done h = ap (λ (o : Option ℕ). compacting o s) (all-long h)
 
--- ---- image writing: 11, then 2
+-- ---- image writing: 2 for the work slice, then 2 for the bytes
 
-module _ (s : State) (room : ℕ) where
-  pub write-not-compact : s .compact ≡ false → write-image s room ≡ record { number = 11; value = NONE; words = [] }
+module _ (p : Plain) (work room : ℕ) where
+  pub write-short : work < 2 * live-edges p → write-image p work room ≡ record { number = 2; value = 2 * live-edges p; words = [] }
   unfolding write-image
-  write-not-compact h = rw h
+  write-short h = rw (lt-ltb work (2 * live-edges p) h)
 
-  pub write-compact : s .compact ≡ true → write-image s room ≡ lent room (length (image (survivors (s .lists)))) (image (survivors (s .lists)))
+  pub write-lent : 2 * live-edges p ≤ work → write-image p work room ≡ listing room (image (survivors p))
   unfolding write-image
-  write-compact h = rw h
+  write-lent h = rw (le-ltb work (2 * live-edges p) h)

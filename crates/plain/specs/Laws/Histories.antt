@@ -2,28 +2,29 @@
 -- the theorem of crate histories.
 use Prim.Native.Nat.{ℕ, zero, suc, _*_, _%_, _≤_}
 use mathlib.Core.Path.{_≡_, refl, sym, ap, _∙_}
-use mathlib.Core.Bool.{cond}
+use mathlib.Core.Bool.{true, cond}
 use mathlib.Core.Logic.{_⊎_, inl, inr, ⊎-elim}
 use mathlib.Core.Option.{Option, none, some}
 use mathlib.Core.List.{List, [], _∷_}
 use native.Mathlib.Omega.{arith}
 use lib.ListN.{length}
 use lib.Dec.{eqb, ltb}
-use Rattle.plain.specs.Numbers.{LIMIT}
+use Rattle.plain.specs.Numbers.{LIMIT, NONE}
 use Rattle.plain.specs.Operations.{operation-words, operations}
 use Rattle.plain.specs.Step.{Capacities, State}
-use Rattle.plain.specs.Reads.{Reply, lent}
+use Rattle.plain.specs.Plain.{Plain}
+use Rattle.plain.specs.Reads.{Reply, lent, listing, live-edges}
 use Rattle.plain.specs.Compaction.{Survivors, survivors, compacted}
 use Rattle.plain.specs.Image.{image, broken-image, nodes-in, edges-in, parsed}
 use Rattle.plain.specs.Memory.{first-short, exact}
-use Rattle.plain.specs.Calls.{strip, fresh-state, limits, compacting, compaction, compaction-slices, reading-slices, read-image, read-state}
+use Rattle.plain.specs.Calls.{strip, fresh-state, limits, compacting, compaction, compaction-slices, reading-slices, read-image, read-state, write-image}
 use Rattle.plain.specs.History.{Call, Strip, Compaction, Reading, call, history-from, history, closing-image}
 use Rattle.plain.specs.WellFormed.{WellFormed}
 use Rattle.plain.specs.Laws.Booleans.{by-test, below-or-not}
 use Rattle.plain.specs.Laws.Operating.{empty-well-formed}
 use Rattle.plain.specs.Laws.Stepping.{run-well-formed, Words, operations-fitting}
-use Rattle.plain.specs.Laws.CallCases.{LongEnough, FirstShort, slice-fits, long-or-short, read-broken, read-short, read-done, write-compact, lent-short, lent-done}
-use Rattle.plain.specs.Laws.Compacting.{survivors-sound, of-survivors-well-formed, survivors-of, compacted-well-formed}
+use Rattle.plain.specs.Laws.CallCases.{LongEnough, FirstShort, slice-fits, long-or-short, read-broken, read-short, read-done, write-short, write-lent, lent-short, lent-done}
+use Rattle.plain.specs.Laws.Compacting.{survivors-sound, of-survivors-well-formed, survivors-of, compacted-well-formed, length-surviving-edges}
 use Rattle.plain.specs.Laws.ImageLaws.{parsed-sound, nodes-length, edges-length}
 
 -- capacities that a fresh store takes
@@ -158,6 +159,42 @@ pub compaction-state : (s : State) (node-map edge-map work : ℕ) → compaction
 unfolding compaction
 compaction-state s node-map edge-map work e = compacting-done (first-short (compaction-slices (s .lists) node-map edge-map work)) s e
 
+-- ---- image writing, of any lists
+
+module _ (p : Plain) (work room : ℕ) where
+  -- it is done or, for want of work or of bytes, refused with 2
+  pub write-number : (write-image p work room .number ≡ 0) ⊎ (write-image p work room .number ≡ 2)
+  write-number =
+      ⊎-elim (λ h. inr (ap (λ (r : Reply). r .number) (write-short p work room h)))
+      (λ h. rw (write-lent p work room h) (lent-number room (length (image (survivors p))) (image (survivors p))))
+      (below-or-not work (2 * live-edges p))
+
+  -- done, it is the image of the survivors, whole
+  pub write-whole : write-image p work room .number ≡ 0
+      → write-image p work room ≡ record { number = 0; value = length (image (survivors p)); words = image (survivors p) }
+  write-whole e =
+      ⊎-elim (λ h. absurd (let z = sym (ap (λ (r : Reply). r .number) (write-short p work room h)) ∙ e in omega arith))
+      (λ h. let r = write-lent p work room h in
+      r ∙ lent-words room (length (image (survivors p))) (image (survivors p)) (sym (ap (λ (t : Reply). t .number) r) ∙ e))
+      (below-or-not work (2 * live-edges p))
+
+-- lists with the same survivors, and so as many live edges, have the same image
+pub write-survivors : (p q : Plain) → survivors p ≡ survivors q → (work room : ℕ) → write-image p work room ≡ write-image q work room
+unfolding write-image
+write-survivors p q same work room =
+    let many : live-edges p ≡ live-edges q = sym (length-surviving-edges p) ∙ ap (λ (s : Survivors). length (s .edges)) same ∙ length-surviving-edges q in
+    rw (same, many)
+
+-- What writing answered before request 2, where the store was compact: "Only compact stores have one. Writing: 1, 11, 2."
+unfoldable pub write-compact-image : State → ℕ → Reply
+write-compact-image s room = cond (s .compact) (listing room (image (survivors (s .lists)))) (record { number = 11; value = NONE; words = [] })
+
+-- "Compact stores give their old bytes": number, value and bytes, wherever the work slice is long enough
+pub compact-as-before : (s : State) (work room : ℕ) → s .compact ≡ true → 2 * live-edges (s .lists) ≤ work
+    → write-image (s .lists) work room ≡ write-compact-image s room
+unfolding write-compact-image
+compact-as-before s work room compact h = write-lent (s .lists) work room h ∙ rw compact
+
 module _ (caps : Capacities) (w : Within caps) (s : State) (h : WellFormed caps (s .lists)) (node-map edge-map work : ℕ) where
   -- "the only other number they can give is 2": the compaction
   pub closing-compaction-number : (compaction s node-map edge-map work .number ≡ 0) ⊎ (compaction s node-map edge-map work .number ≡ 2)
@@ -169,24 +206,8 @@ module _ (caps : Capacities) (w : Within caps) (s : State) (h : WellFormed caps 
   unfolding compacted
   survivors-compacted = survivors-of (survivors (s .lists)) (survivors-sound caps (s .lists) h (w .nodes) (w .edges))
 
-  -- the image after a compaction that answers 0 is that of the survivors, if the slice is long enough
-  pub closing-image-is : compaction s node-map edge-map work .number ≡ 0 → (room : ℕ)
-      → closing-image s node-map edge-map work room ≡ lent room (length (image (survivors (s .lists)))) (image (survivors (s .lists)))
-  closing-image-is e room =
-      rw (compaction-state s node-map edge-map work e)
-      (write-compact (compacting none s .after) room refl
-      ∙ ap (λ (t : Survivors). lent room (length (image t)) (image t)) survivors-compacted)
-
-  -- "the only other number they can give is 2": the image writing
-  pub closing-image-number : compaction s node-map edge-map work .number ≡ 0 → (room : ℕ)
-      → (closing-image s node-map edge-map work room .number ≡ 0) ⊎ (closing-image s node-map edge-map work room .number ≡ 2)
-  closing-image-number e room =
-      rw (closing-image-is e room) (lent-number room (length (image (survivors (s .lists)))) (image (survivors (s .lists))))
-
-  -- the bytes of a closing image that answers 0
-  pub closing-bytes : compaction s node-map edge-map work .number ≡ 0 → (room : ℕ) → closing-image s node-map edge-map work room .number ≡ 0
-      → closing-image s node-map edge-map work room
-      ≡ record { number = 0; value = length (image (survivors (s .lists))); words = image (survivors (s .lists)) }
-  closing-bytes e room k =
-      let r = closing-image-is e room in
-      r ∙ lent-words room (length (image (survivors (s .lists)))) (image (survivors (s .lists))) (sym (ap (λ (t : Reply). t .number) r) ∙ k)
+  -- Writing "gives what compaction followed by writing would give": number, value and bytes, where the compaction answers 0
+  pub closing-image-is : compaction s node-map edge-map work .number ≡ 0 → (again room : ℕ)
+      → closing-image s node-map edge-map work again room ≡ write-image (s .lists) again room
+  closing-image-is e again room =
+      rw (compaction-state s node-map edge-map work e) (write-survivors (compacted (s .lists)) (s .lists) survivors-compacted again room)

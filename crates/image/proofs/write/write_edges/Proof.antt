@@ -1,69 +1,80 @@
--- `image::write::write_edges` meets its contract: after each turn one record more was written.
-use Prim.Native.Nat.{ℕ, _-_, _≤_}
+-- `image::write::write_edges` meets its contract: after each turn the record of one live edge more was written.
+use Prim.Native.Nat.{ℕ, _-_}
+use mathlib.Core.Path.{_≡_}
 use mathlib.Core.List.{List}
 use native.Mathlib.Omega.{arith}
 use lib.ListN.{length}
 use borrow.Author.Needs.{needs}
+use Rattle.plain.specs.Reads.{live-slots}
 use Rattle.plain.specs.Image.{record-width}
-use Rattle.image.specs.Strung.{Strung, strung-none, strung-more, strung-all, record-bits, records-strung}
-use Rattle.image.specs.Writing.{record-at, record-room, length-record-bits}
+use Rattle.liveness.specs.Flags.{live-flags}
+use Rattle.liveness.specs.FlagLaws.{length-flags}
+use Rattle.liveness.specs.Passed.{passed-later}
+use Rattle.image.specs.Strung.{StrungLive, live-none, live-more, live-all, record-bits, records-strung}
+use Rattle.image.specs.Writing.{record-at, edge-room, length-record-bits}
 use Rattle.image.proofs.write.write_edges.Statement.{statement}
 use Rattle.image.proofs.write.write_edges.Tie as tie
 
-abbrev piece : ℕ → List ℕ → List ℕ → List ℕ → List ℕ → ℕ → List ℕ
-piece width sources targets lows highs e = record-bits width (record-at sources targets lows highs e)
+abbrev piece : ℕ → List ℕ → ℕ → List ℕ → List ℕ → List ℕ → List ℕ → ℕ → List ℕ
+piece width live slots outgoing incoming lows highs e = record-bits width (record-at live slots outgoing incoming lows highs e)
 
 abbrev Inv-loop : tie.InvT-loop
-Inv-loop bytes₀ position width sources targets lows highs at₀ e₀ bytes at e =
-    (e ≤ length lows) × Strung bytes₀ position (record-width width) (piece width sources targets lows highs) e bytes at
+Inv-loop bytes₀ position width live slots ranks live-edges bound outgoing incoming lows highs at₀ e₀ bytes at e =
+    StrungLive (live-flags live-edges bound) bytes₀ position (record-width width) (piece width live slots outgoing incoming lows highs) e bytes at
 
 abbrev μ-loop : tie.MeasureT-loop
-μ-loop bytes₀ position width sources targets lows highs at₀ e₀ bytes at e = length lows - e
+μ-loop bytes₀ position width live slots ranks live-edges bound outgoing incoming lows highs at₀ e₀ bytes at e = bound - e
 
--- places behind the slices
-abbrev at-start : tie.After-shared-slice-known4 Inv-loop μ-loop → tie.Start Inv-loop μ-loop
-at-start c = c .before .before .before .before .before
+-- the places on the way
+abbrev start : tie.At-loop Inv-loop μ-loop → tie.Start Inv-loop μ-loop
+start c = c .before .before .before .before .before .before .before .before .before .before
 
-abbrev at-in-loop : tie.After-shared-slice-known8 Inv-loop μ-loop → tie.In-loop Inv-loop μ-loop
-at-in-loop c = c .before .before .before .before .before
+abbrev turned : tie.After-slice-known2 Inv-loop μ-loop → tie.In-loop Inv-loop μ-loop
+turned c = c .before .before .before .before .before .before .before .before
+
+-- a record has as many bits as any other
+long : (c : tie.At-loop Inv-loop μ-loop) (e : ℕ) → let a = start c .args in
+    length (piece (a .width) (a .live .now) (a .slots) (a .outgoing .now) (a .incoming .now) (a .lows .now) (a .highs .now) e) ≡ record-width (a .width)
+long c e =
+    let a = start c .args in
+    length-record-bits (a .width) (record-at (a .live .now) (a .slots) (a .outgoing .now) (a .incoming .now) (a .lows .now) (a .highs .now) e)
 
 loop-holds : tie.Need-loop-holds Inv-loop μ-loop
 loop-holds c =
-    let s = at-start c in
-    let a = s .args in (
-      omega arith,
-      strung-none (a .bytes .now) (a .position) (record-width (a .width)) (length (a .lows .now))
-          (piece (a .width) (a .sources .now) (a .targets .now) (a .lows .now) (a .highs .now)) (s .pre .room),
-    )
+    let s = c .before .before .before .before .before .before .before .before .before in
+    let a = s .args in
+    live-none (a .bytes .now) (a .position) (record-width (a .width))
+    (piece (a .width) (a .live .now) (a .slots) (a .outgoing .now) (a .incoming .now) (a .lows .now) (a .highs .now)) (c .next-live .ensures) (s .pre .room)
 
-write-record-requires : tie.Need-write-record-requires Inv-loop μ-loop
-write-record-requires c κs =
-    let turn = at-in-loop c in
-    record-room (at-start (turn .before .before) .pre) (turn .before .loop .inv .1) (turn .loop-test .taken)
+write-edge-requires : tie.Need-write-edge-requires Inv-loop μ-loop
+write-edge-requires c κs =
+    let turn = c .before .before .before .before .before in
+    edge-room (start (turn .before) .pre) (turn .before .loop .inv) (turn .loop-test .taken)
 
 add-at-2 : tie.Need-add-at-2 Inv-loop μ-loop
 add-at-2 c =
-    let turn = at-in-loop (c .before .before .before) in
-    let fits = record-room (at-start (turn .before .before) .pre) (turn .before .loop .inv .1) (turn .loop-test .taken) in
+    let turn = turned c in
+    let fits = edge-room (start (turn .before) .pre) (turn .before .loop .inv) (turn .loop-test .taken) in
     omega (arith, fits .room .counted)
+
+loop-less : tie.Need-loop-less Inv-loop μ-loop
+loop-less c =
+    let turn = turned (c .before) in
+    omega (arith, turn .loop-test .taken, passed-later (turn .before .loop .inv .passed) (rw length-flags (turn .loop-test .taken)) (c .next-live2 .ensures))
 
 loop-again : tie.Need-loop-again Inv-loop μ-loop
 loop-again c =
-    let written = c .before .before in
-    let turn = at-in-loop (written .before) in
-    let a = at-start (turn .before .before) .args in (
-      omega (arith, turn .loop-test .taken),
-      strung-more (λ e. length-record-bits (a .width) (record-at (a .sources .now) (a .targets .now) (a .lows .now) (a .highs .now) e)) (turn .before .loop .inv .1)
-          (written .write-record .ensures) (omega arith),
-    )
+    let written = c .before .before .before in
+    let turn = turned (c .before) in
+    live-more (long (turn .before)) (turn .before .loop .inv) (rw length-flags (turn .loop-test .taken)) (written .write-edge .ensures) (omega arith)
+    (c .next-live2 .ensures)
 
 returns : tie.Need-returns Inv-loop μ-loop
 returns c =
-    let l = c .before .loop in
-    let a = at-start (c .before .before) .args in
-    rw (records-strung (a .width) (record-at (a .sources .now) (a .targets .now) (a .lows .now) (a .highs .now)) (length (a .lows .now))) at
-    (strung-all (λ e. length-record-bits (a .width) (record-at (a .sources .now) (a .targets .now) (a .lows .now) (a .highs .now) e)) (l .inv .1) (length (a .lows .now))
-    (omega (arith, c .loop-test .left)))
+    let a = start (c .before) .args in
+    rw (records-strung (a .width) (record-at (a .live .now) (a .slots) (a .outgoing .now) (a .incoming .now) (a .lows .now) (a .highs .now))
+    (live-slots (live-flags (a .live-edges .now) (a .bound)))) at
+    (live-all (long (c .before)) (c .before .loop .inv) (rw length-flags (c .loop-test .left)))
 
 pub write-edges-spec : {M : Type 1} → statement M
 write-edges-spec =
@@ -71,6 +82,7 @@ write-edges-spec =
     (tie.spec
     Inv-loop
     μ-loop
+    (λ c κs. search needs)
     loop-holds
     (λ c. search needs)
     (λ c. search needs)
@@ -80,13 +92,14 @@ write-edges-spec =
     (λ c. search needs)
     (λ c. search needs)
     (λ c. search needs)
-    write-record-requires
+    write-edge-requires
     (λ c. search needs)
     (λ c. search needs)
     (λ c. search needs)
     add-at-2
     (λ c. search needs)
-    (λ c. search needs)
+    (λ c κs. search needs)
+    loop-less
     loop-again
-    (λ c. search needs)
+    (λ c. c .before .loop .inv .written .long)
     returns)

@@ -1,32 +1,56 @@
 -- `image::write::write_image` meets its contract: a law for each way out.
 use borrow.Author.Needs.{needs}
-use Rattle.validate.specs.Passing.{refused, accepted}
-use Rattle.view.specs.Calls.{reply-refuses}
-use Rattle.image.specs.Stored.{compact-stored}
-use Rattle.image.specs.WriteCases.{image-refused, image-replied}
+use Rattle.image.specs.Surviving.{counts-few}
+use Rattle.image.specs.WriteCases.{write-refuses, work-short, bytes-short, image-fits, write-done}
 use Rattle.image.proofs.write.write_image.Statement.{statement}
 use Rattle.image.proofs.write.write_image.Tie as tie
 
-returns-2 : tie.Need-returns-2
-returns-2 c =
-    let tested = c .before in
-    let judged = tested .before in
-    image-refused (judged .before .judge .ensures) (judged .if1 .left) (refused (tested .is-compact-checked .ensures) (c .if2 .taken))
+-- the places on the way, each from the next one
+abbrev sound : tie.Else2 → tie.Else1
+sound c = c .before .before .before .before
 
-write-store-requires : tie.Need-write-store-requires
-write-store-requires c κs =
-    let other = c .before .before .before in
-    let tested = other .before in
-    let judged = tested .before in
-    compact-stored (judged .before .judge .ensures .checked (judged .if1 .left)) (accepted (tested .is-compact-checked .ensures) (other .if2 .left))
+abbrev roomy : tie.Else3 → tie.Else2
+roomy c = c .before .before
+
+abbrev listed : tie.After-write-survivors → tie.After-write-both
+listed c = c .before .before .before .before .before
+
+returns-2 : tie.Need-returns-2
+returns-2 c = let first = c .before .before .before .before in work-short (first .before .judge .ensures) (first .if1 .left) (c .if2 .taken)
+
+image-bytes-requires : tie.Need-image-bytes-requires
+image-bytes-requires c κs = let first = sound c in counts-few (first .before .judge .ensures .checked (first .if1 .left))
 
 returns-3 : tie.Need-returns-3
 returns-3 c =
-    let written = c .before .before in
-    let other = written .before .before .before .before in
-    let tested = other .before in
-    let judged = tested .before in
-    image-replied (judged .before .judge .ensures) (judged .if1 .left) (accepted (tested .is-compact-checked .ensures) (other .if2 .left)) (written .write-store .ensures)
+    let room = c .before .before in
+    let first = sound room in
+    bytes-short (first .before .judge .ensures) (first .if1 .left) (room .if2 .left) (c .before .image-bytes .ensures) (c .if3 .taken)
+
+write-both-requires : tie.Need-write-both-requires
+write-both-requires c κs =
+    let room = roomy (c .before) in
+    let first = sound room in
+    record { checked = first .before .judge .ensures .checked (first .if1 .left); room = room .if2 .left }
+
+write-survivors-requires : tie.Need-write-survivors-requires
+write-survivors-requires c κs =
+    let both = c .before .before .before .before in
+    let fits = both .before .before in
+    let room = roomy fits in
+    let first = sound room in
+    image-fits _ (first .before .judge .ensures .checked (first .if1 .left)) (room .if2 .left) (fits .before .image-bytes .ensures) (fits .if3 .left) (both .write-both .ensures)
+    (search needs)
+
+returns-4 : tie.Need-returns-4
+returns-4 c =
+    let call = c .before .before in
+    let both = listed call in
+    let fits = both .before .before in
+    let room = roomy fits in
+    let first = sound room in
+    write-done (first .before .judge .ensures) (first .if1 .left) (room .if2 .left) (fits .before .image-bytes .ensures) (fits .if3 .left) (both .write-both .ensures)
+    (search needs) (call .write-survivors .ensures)
 
 pub write-image-spec : {M : Type 1} → statement M
 write-image-spec =
@@ -34,12 +58,14 @@ write-image-spec =
     (tie.spec
     (λ c κs. search needs)
     (λ c κs. search needs)
-    (λ c. reply-refuses (c .before .before .judge .ensures) (c .before .if1 .taken) (c .no-store .ensures))
-    (λ c κs. c .before .judge .ensures .checked (c .if1 .left))
+    (λ c. write-refuses (c .before .before .judge .ensures) (c .before .if1 .taken) (c .no-store .ensures))
+    (λ c. search needs)
     (λ c. search needs)
     returns-2
+    image-bytes-requires
+    returns-3
+    write-both-requires
+    write-survivors-requires
     (λ c. search needs)
     (λ c. search needs)
-    write-store-requires
-    (λ c. search needs)
-    returns-3)
+    returns-4)

@@ -1,30 +1,52 @@
--- `image::write::write_slots` meets its contract: counts, a row and records that follow each other.
+-- `image::write::write_slots` meets its contract: counts, nodes and edges follow each other.
 use borrow.Author.Needs.{needs}
-use Rattle.image.specs.Writing.{edges-fit, wrote-slots}
+use Rattle.image.specs.Surviving.{node-words, node-slots, ranks-room, counts-fit, edges-fit, wrote-slots}
 use Rattle.image.proofs.write.write_slots.Statement.{statement}
 use Rattle.image.proofs.write.write_slots.Tie as tie
 
-abbrev start : tie.After-write-counts → tie.Start
-start c = c .before .before .before .before .before .before .before .before
+-- the entry, and the calls, each from the next one
+abbrev entry : tie.After-write-ranks → tie.Start
+entry c = c .before .before .before .before .before .before .before .before .before .before .before .before .before
 
--- places behind the slices
-abbrev at-write-counts : tie.After-write-row-arg → tie.After-write-counts
-at-write-counts c = c .before .before .before
+abbrev ranked : tie.After-write-counts → tie.After-write-ranks
+ranked c = c .before .before .before .before .before
+
+abbrev counted : tie.After-write-nodes → tie.After-write-counts
+counted c = c .before .before .before .before
+
+write-ranks-requires : tie.Need-write-ranks-requires
+write-ranks-requires c κs = let h = c .before .before .before .before .before .before .before .before .before .before .before .before .pre in ranks-room (node-words h) (node-slots h) (search needs)
+
+write-counts-requires : tie.Need-write-counts-requires
+write-counts-requires c κs = counts-fit (entry (c .before .before .before .before) .pre)
 
 write-edges-requires : tie.Need-write-edges-requires
 write-edges-requires c κs =
-    let row = c .before .before .before in
-    let counts = at-write-counts (row .before) in
-    edges-fit (start counts .pre) (counts .write-counts .ensures .long) (row .write-row .ensures)
+    let nodes = c .before .before .before .before .before in
+    let counts = counted nodes in
+    let ranks = ranked counts in
+    edges-fit (entry ranks .pre) (counts .write-counts .ensures .long) (nodes .write-nodes .ensures) (ranks .write-ranks .ensures)
 
 returns : tie.Need-returns
 returns c =
     let edges = c .before .before in
-    let row = edges .before .before .before .before in
-    let counts = at-write-counts (row .before) in
-    wrote-slots (start counts .pre) (counts .write-counts .ensures) (row .write-row .ensures) (edges .write-edges .ensures)
+    let nodes = edges .before .before .before .before .before .before in
+    let counts = counted nodes in
+    wrote-slots (entry (ranked counts) .pre) (counts .write-counts .ensures) (nodes .write-nodes .ensures) (edges .write-edges .ensures)
 
 pub write-slots-spec : {M : Type 1} → statement M
 write-slots-spec =
     tie.close
-    (tie.spec (λ c κs. search needs) (λ c κs. search needs) write-edges-requires (λ c. search needs) returns)
+    (tie.spec
+    (λ c. search needs)
+    (λ c. search needs)
+    write-ranks-requires
+    (λ c. search needs)
+    (λ c. search needs)
+    write-counts-requires
+    (λ c κs. search needs)
+    (λ c. search needs)
+    (λ c. search needs)
+    write-edges-requires
+    (λ c. search needs)
+    returns)
