@@ -22,6 +22,7 @@ pub mod Width
 pub mod Cutting
 pub mod ImageBits
 pub mod Refusals
+pub mod Devices
 pub mod ImageLaws
 pub mod Ascending
 pub mod Histories

@@ -1,0 +1,42 @@
+-- Devices: what the skid takes a box takes, both are proper, and the boxes' reading is what it was before there was a skid.
+use Prim.Native.Nat.{ℕ, zero, suc, _≤_}
+use mathlib.Core.Path.{_≡_, refl, ap}
+use mathlib.Core.List.{List}
+use native.Mathlib.Omega.{arith}
+use Rattle.plain.specs.declared.Answer.{Answer}
+use Rattle.plain.specs.Image.{broken-image, nodes-in, edges-in}
+use Rattle.plain.specs.Step.{Capacities}
+use Rattle.plain.specs.Memory.{Lengths, first-short}
+use Rattle.plain.specs.Devices.{Device, box, skid, Takes, Proper}
+use Rattle.plain.specs.Calls.{within, short-answer, readable, reading-slices, asked, reading, read-image}
+use Rattle.plain.specs.Laws.CallCases.{within-limits}
+use Rattle.plain.specs.Laws.Refusals as refusals
+
+pub box-proper : Proper box
+box-proper = record { no-larger = record { nodes = omega arith; edges = omega arith }; refuses = λ q. omega arith }
+
+pub skid-proper : Proper skid
+skid-proper = record { no-larger = record { nodes = omega arith; edges = omega arith }; refuses = λ q. omega arith }
+
+-- a box takes what any device takes
+pub box-takes : {device : Device} → Proper device → {caps : Capacities} → Takes device caps → Takes box caps
+box-takes p t = record { nodes = omega (arith, p .no-larger .nodes, t .nodes); edges = omega (arith, p .no-larger .edges, t .edges) }
+
+-- and every image: rule 2 of 12 refuses a count above 32,768
+pub image-taken : (bytes : List ℕ) → broken-image bytes ≡ 0 → Takes box (asked (nodes-in bytes) (edges-in bytes))
+image-taken bytes image =
+    let counted = refusals.readable bytes image .ended .padded .sized .counted in
+    record { nodes = counted .nodes-within; edges = counted .edges-within }
+
+-- The boxes' reading is document 01's "13, 12, 2": the limits of the image's counts refuse nothing.
+pub boxes-read : (l : Lengths) (bytes : List ℕ) → read-image box l bytes
+    ≡ within box (l .capacities) (readable (broken-image bytes) (short-answer (first-short (reading-slices (nodes-in bytes) (edges-in bytes) l))))
+unfolding read-image reading
+boxes-read l bytes = ap (within box (l .capacities)) (by-rule (broken-image bytes) refl)
+  where
+    rest : Answer
+    rest = short-answer (first-short (reading-slices (nodes-in bytes) (edges-in bytes) l))
+
+    by-rule : (rule : ℕ) → broken-image bytes ≡ rule → readable rule (within box (asked (nodes-in bytes) (edges-in bytes)) rest) ≡ readable rule rest
+    by-rule zero image = within-limits box (asked (nodes-in bytes) (edges-in bytes)) rest (image-taken bytes image)
+    by-rule (suc rule) broke = refl
