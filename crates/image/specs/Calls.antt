@@ -1,10 +1,11 @@
--- What reading an image comes to, on any memory and any bytes. Writing is a read that fills one lent slice: `Replied` of crate view, of `written-image`.
+-- What reading an image comes to on a device, with any memory and any bytes. Writing is a read that fills one lent slice: `Replied` of crate view, of `written-image`.
 use Prim.Native.Nat.{ℕ}
 use mathlib.Core.Path.{_≡_}
 use mathlib.Core.List.{List}
 use Rattle.plain.specs.declared.Answer.{Answer}
 use Rattle.plain.specs.Reads.{Reply}
 use Rattle.plain.specs.Image.{parsed}
+use Rattle.plain.specs.Devices.{Device}
 use Rattle.plain.specs.Calls.{read-image, read-state, write-image}
 use Rattle.shape.specs.Shape.{Words, lengths-of, shape-of}
 use Rattle.shape.specs.Checked.{Checked}
@@ -19,8 +20,8 @@ abbrev pub written-image : Words → ℕ → Reply
 written-image w room = write-image (state-of (shape-of w)) room
 
 -- Reading bytes into a store's memory: w is what was there, v is what is there then.
-pub record ReadOf (w : Words) (bytes : List ℕ) (number value : ℕ) (v : Words) : Type 0 where
-  pub answered : _≡_ {A = Answer} (record { number = number; value = value }) (read-image (lengths-of w) bytes)
+pub record ReadOf (device : Device) (w : Words) (bytes : List ℕ) (number value : ℕ) (v : Words) : Type 0 where
+  pub answered : _≡_ {A = Answer} (record { number = number; value = value }) (read-image device (lengths-of w) bytes)
   pub state : number ≡ 0 → state-of (shape-of v) ≡ read-state bytes
   -- all is in the base: "the result equals what compaction leaves"
   pub shape : number ≡ 0 → shape-of v ≡ shape-of-survivors (parsed bytes)

@@ -22,8 +22,8 @@ pub mod Width
 pub mod Cutting
 pub mod ImageBits
 pub mod Refusals
-pub mod Devices
 pub mod ImageLaws
+pub mod Devices
 pub mod Ascending
 pub mod Histories
 pub mod Compactness

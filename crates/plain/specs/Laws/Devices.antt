@@ -1,16 +1,20 @@
 -- Devices: what the skid takes a box takes, both are proper, and the boxes' reading is what it was before there was a skid.
-use Prim.Native.Nat.{ℕ, zero, suc, _≤_}
-use mathlib.Core.Path.{_≡_, refl, ap}
+use Prim.Native.Nat.{ℕ, zero, suc, _≤_, _<_}
+use mathlib.Core.Path.{_≡_, refl, sym, ap, _∙_}
 use mathlib.Core.List.{List}
 use native.Mathlib.Omega.{arith}
+use lib.ListN.{length}
 use Rattle.plain.specs.declared.Answer.{Answer}
-use Rattle.plain.specs.Image.{broken-image, nodes-in, edges-in}
+use Rattle.plain.specs.Compaction.{Survivors}
+use Rattle.plain.specs.Image.{image, broken-image, nodes-in, edges-in}
 use Rattle.plain.specs.Step.{Capacities}
 use Rattle.plain.specs.Memory.{Lengths, first-short}
 use Rattle.plain.specs.Devices.{Device, box, skid, Takes, Proper}
 use Rattle.plain.specs.Calls.{within, short-answer, readable, reading-slices, asked, reading, read-image}
-use Rattle.plain.specs.Laws.CallCases.{within-limits}
+use Rattle.plain.specs.WellFormed.{Sound}
+use Rattle.plain.specs.Laws.CallCases.{within-limits, image-nodes-above, image-edges-above}
 use Rattle.plain.specs.Laws.Refusals as refusals
+use Rattle.plain.specs.Laws.ImageLaws.{image-readable, read-back, nodes-length, edges-length}
 
 pub box-proper : Proper box
 box-proper = record { no-larger = record { nodes = omega arith; edges = omega arith }; refuses = λ q. omega arith }
@@ -40,3 +44,23 @@ boxes-read l bytes = ap (within box (l .capacities)) (by-rule (broken-image byte
     by-rule : (rule : ℕ) → broken-image bytes ≡ rule → readable rule (within box (asked (nodes-in bytes) (edges-in bytes)) rest) ≡ readable rule rest
     by-rule zero image = within-limits box (asked (nodes-in bytes) (edges-in bytes)) rest (image-taken bytes image)
     by-rule (suc rule) broke = refl
+
+-- An image that a store wrote, and that is more than a device takes, is refused with the device's number and its count, lots before transfers: on the skid one of 65 lots
+-- with 15 and 65, one of 64 lots and 129 transfers with 15 and 129.
+module _ (device : Device) (l : Lengths) (takes : Takes device (l .capacities)) (s : Survivors) (sound : Sound s) where
+  nodes-written : nodes-in (image s) ≡ length (s .nodes)
+  nodes-written = sym (nodes-length (image s)) ∙ ap (λ (t : Survivors). length (t .nodes)) (read-back s sound)
+
+  edges-written : edges-in (image s) ≡ length (s .edges)
+  edges-written = sym (edges-length (image s)) ∙ ap (λ (t : Survivors). length (t .edges)) (read-back s sound)
+
+  pub many-lots : device .limits .nodes < length (s .nodes) → read-image device l (image s) ≡ record { number = device .number; value = length (s .nodes) }
+  many-lots h =
+      image-nodes-above device l takes (image s) (image-readable s sound) (omega (arith, nodes-written))
+      ∙ ap (λ (n : ℕ). record { number = device .number; value = n }) nodes-written
+
+  pub many-transfers : length (s .nodes) ≤ device .limits .nodes → device .limits .edges < length (s .edges)
+      → read-image device l (image s) ≡ record { number = device .number; value = length (s .edges) }
+  many-transfers h k =
+      image-edges-above device l takes (image s) (image-readable s sound) (omega (arith, nodes-written)) (omega (arith, edges-written))
+      ∙ ap (λ (n : ℕ). record { number = device .number; value = n }) edges-written
