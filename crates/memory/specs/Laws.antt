@@ -7,14 +7,13 @@ use native.Mathlib.Omega.{arith}
 use lib.Dec.{leb}
 use borrow.Author.Tests.{le-leb, lt-leb, lt-ltb, le-ltb}
 use Rattle.plain.specs.declared.Answer.{Answer}
-use Rattle.plain.specs.Step.{Capacities}
 use Rattle.plain.specs.Numbers.{too-short}
 use Rattle.plain.specs.Image.{broken-image, nodes-in, edges-in}
 use Rattle.plain.specs.Memory.{Slice, Lengths, first-short, other-slices, live-words, axis-length}
 use Rattle.plain.specs.Devices.{Device, Takes, Proper}
 use Rattle.plain.specs.Calls.{short-answer, within, fresh, readable, reading-slices, asked, reading, read-image}
 use Rattle.plain.specs.Laws.Booleans.{by-test, below-or-not}
-use Rattle.plain.specs.Laws.CallCases.{LongEnough, slice-fits, no-slice, FirstShort, one-short, long-or-short, nodes-above, edges-above, within-limits}
+use Rattle.plain.specs.Laws.CallCases.{LongEnough, slice-fits, no-slice, one-short, long-or-short, nodes-above, edges-above, within-limits}
 use Rattle.memory.specs.Lengths.{lacking}
 
 -- ---- on the way to the answer

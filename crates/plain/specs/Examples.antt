@@ -153,7 +153,8 @@ pub record Examples : Type 0 where
       × (fresh skid (exact (capacities 65 129)) ≡ record { number = 15; value = 65 })
       × (fresh skid (record { capacities = capacities 64 129; highs = 0; live-nodes = 0; live-edges = 0; outgoing = 0; incoming = 0 }) ≡ record { number = 15; value = 129 })
       × (fresh skid (record { capacities = capacities 64 128; highs = 0; live-nodes = 0; live-edges = 0; outgoing = 0; incoming = 0 }) ≡ record { number = 2; value = 128 })
-  -- Reading on it: 64 lots are taken, 65 refused; of transfers likewise, by the rule 0 and the counts of an image (law `many-transfers`), lots before transfers.
+  -- Reading on it: 64 lots are taken, 65 refused; of transfers likewise, by the rule 0 and the counts of an image (of an image's bytes
+  -- `skid-refuses-129` of Laws/Devices), lots before transfers.
   pub skid-reading : (read-image skid whole-skid (lots 64) ≡ record { number = 0; value = 0 })
       × (read-image skid whole-skid (lots 65) ≡ record { number = 15; value = 65 })
       × (reading skid whole-skid 0 64 128 ≡ record { number = 0; value = 0 })
