@@ -18,6 +18,7 @@
  *   8       a removed edge                               LOT_NONE
  *   12      bytes that are no image                      the first broken rule, 1 to 6 (lot_read_image)
  *   13      a capacity above 32,768                      that capacity
+ *   15      more lots or transfers than the skid takes   that capacity, or the image's count (lot_skid_fresh, lot_skid_read_image)
  *
  * Operations of a strip are refused by themselves (lot_strip). docs/ENTRIES.md tells the same of the Rattle functions, with the definition that each is proved
  * equal to.
@@ -36,6 +37,9 @@ extern "C" {
 #define LOT_NONE UINT32_C(4294967295)
 /* The most node slots, and the most edge slots. */
 #define LOT_LIMIT 32768
+/* The most node slots, and the most edge slots, of the skid. */
+#define LOT_SKID_NODES 64
+#define LOT_SKID_EDGES 128
 /* The words of `outgoing` and of `incoming`, and of live bits, for so many slots. */
 #define LOT_AXIS_WORDS(nodes, edges) (4 * (size_t)(edges) + 6 * (size_t)(nodes) + 1)
 #define LOT_LIVE_WORDS(slots) (((size_t)(slots) + 63) / 64)
@@ -150,6 +154,15 @@ lot_changed lot_compact(lot_counts counts, LOT_STORE_WRITTEN, uint32_t *node_map
  *   3  a length that the counts do not give 6  a list entry not below the edge count, repeated, or at the wrong node
  * What was there is not checked, and need not be a store: counts of any content are taken. */
 lot_changed lot_read_image(lot_counts counts, LOT_STORE_WRITTEN, const uint8_t *bytes, size_t bytes_length);
+
+/* ---- the skid that washes tanks: the two calls that ask for its limits. Every other call is the same for both devices. */
+
+/* lot_fresh within the skid's limits. Refuses 15 (nodes before edges) in place of 13, then 2. */
+lot_changed lot_skid_fresh(LOT_STORE_READ);
+
+/* lot_read_image within the skid's limits. Refuses 15 with a capacity (nodes before edges) in place of 13, then 12, then 15 with a count of the image (likewise), then 2. Rule 2
+ * of 12 is the same. */
+lot_changed lot_skid_read_image(lot_counts counts, LOT_STORE_WRITTEN, const uint8_t *bytes, size_t bytes_length);
 
 /* Whether the words are a store. Answers 0. Refuses 1. Every function below that takes a store makes the same check first. */
 lot_answer lot_check(lot_counts counts, LOT_STORE_READ);

@@ -6,7 +6,7 @@ use std::fmt::Write;
 
 use crate::graph::traverse::TraversalDirection;
 use crate::image;
-use crate::model::{Answer, Capacities, Model, NONE, capacities};
+use crate::model::{Answer, BOX, Capacities, Device, Model, NONE};
 
 /// What a call reads of a store or does to it: the model, or the Rust store.
 pub trait Lots {
@@ -234,12 +234,24 @@ pub fn write_image(lots: &impl Lots, [work, length]: [usize; 2]) -> Result<Vec<u
 /// than its count being too short, then the other slices)". The Rust has no
 /// image reading.
 pub fn read_image(nodes: u64, edges: u64, bytes: &[u8]) -> Result<Model, Answer> {
-    let capacities = capacities(nodes, edges)?;
+    read_image_on(BOX, nodes, edges, bytes)
+}
+
+/// The same on a device. Request 7: 15 "in place of 13 when lent memory exceeds its
+/// limits, and right after 12 when an image does".
+pub fn read_image_on(
+    device: Device,
+    nodes: u64,
+    edges: u64,
+    bytes: &[u8],
+) -> Result<Model, Answer> {
+    let capacities = device.within([nodes, edges])?;
     let plain = image::read(bytes).map_err(|rule| Answer {
         number: 12,
         value: rule.into(),
     })?;
     let counts = [plain.nodes.len(), plain.edges.len()];
+    device.within(counts.map(|count| count as u64))?;
     for (count, capacity) in counts.into_iter().zip([nodes, edges]) {
         if capacity < count as u64 {
             return Err(Answer::too_short(count));

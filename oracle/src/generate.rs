@@ -66,6 +66,17 @@ pub const STRIP: Size = Size {
     every: 1,
 };
 
+/// All that the skid takes.
+#[cfg(all(ported, feature = "serde"))]
+pub const WHOLE_SKID: Size = Size {
+    name: "skid",
+    nodes: [64; 2],
+    edges: [128; 2],
+    steps: [100, 600],
+    rarity: 3,
+    every: 1,
+};
+
 impl Size {
     /// Within the size, and 0 now and then, unless the size is one number.
     pub fn capacities(&self, rng: &mut Rng) -> Capacities {
@@ -305,6 +316,15 @@ pub fn compact_lists(
     let nodes = rng.below(capacities.nodes as usize + 1);
     let most = if nodes == 0 { 0 } else { capacities.edges };
     let edges = rng.below(most as usize + 1);
+    lists_of([nodes, edges], rng, payload)
+}
+
+/// Lists of so many nodes and edges; of no node there is no edge.
+pub fn lists_of(
+    [nodes, edges]: [usize; 2],
+    rng: &mut Rng,
+    payload: fn(&mut Rng) -> EdgePayload,
+) -> Plain {
     let live = true;
     let node = |_| Slot {
         payload: rng.word(),
@@ -332,4 +352,24 @@ pub fn compact_lists(
         }
     }
     plain
+}
+
+/// So many slots as the limit, one less or a few more, or any number below.
+pub fn about(limit: usize, rng: &mut Rng) -> usize {
+    match rng.below(6) {
+        0 => rng.below(limit),
+        1 | 2 => limit + rng.below(4),
+        3 => limit - 1,
+        _ => limit,
+    }
+}
+
+/// Lists with lots about the skid's limit and transfers mostly few.
+pub fn lists_about_skid(rng: &mut Rng, payload: fn(&mut Rng) -> EdgePayload) -> Plain {
+    let nodes = 1 + about(63, rng);
+    let edges = match rng.one_in(3) {
+        true => about(128, rng),
+        false => rng.below(8),
+    };
+    lists_of([nodes, edges], rng, payload)
 }

@@ -559,16 +559,42 @@ impl Model {
     }
 }
 
+/// A device: the most nodes and edges that it takes, and the number that refuses more.
+#[derive(Debug, Clone, Copy, PartialEq, Eq)]
+pub struct Device {
+    limits: [u64; 2],
+    number: u32,
+}
+
+/// "capacity above 32,768 | 13 | that capacity".
+pub const BOX: Device = Device {
+    limits: [LIMIT; 2],
+    number: 13,
+};
+
+/// Request 7: "64 lots and 128 transfers", "It refuses with 15 and the value asked
+/// for, lots before transfers, in place of 13".
+pub const SKID: Device = Device {
+    limits: [64, 128],
+    number: 15,
+};
+
+impl Device {
+    /// What is asked for, if the device takes it: "nodes before edges".
+    pub fn within(self, asked: [u64; 2]) -> Result<Capacities, Answer> {
+        let mut limited = asked.into_iter().zip(self.limits);
+        if let Some((value, _)) = limited.find(|(value, limit)| limit < value) {
+            let number = self.number;
+            return Err(Answer { number, value });
+        }
+        let [nodes, edges] = asked.map(|slots| slots as u32);
+        Ok(Capacities { nodes, edges })
+    }
+}
+
 /// "capacity above 32,768 | 13 | that capacity", "nodes before edges".
 pub fn capacities(nodes: u64, edges: u64) -> Result<Capacities, Answer> {
-    let within = |value: u64| match value {
-        0..=LIMIT => Ok(value as u32),
-        _ => Err(Answer { number: 13, value }),
-    };
-    Ok(Capacities {
-        nodes: within(nodes)?,
-        edges: within(edges)?,
-    })
+    BOX.within([nodes, edges])
 }
 
 /// "a low above its high": 16.

@@ -23,6 +23,7 @@ mod memory;
 mod ranges;
 #[cfg(feature = "serde")]
 mod rules;
+mod skid;
 mod strips;
 mod words;
 
@@ -375,6 +376,7 @@ pub fn compare(operations: u64, depth: usize, seed: u64, tally: &mut Tally) -> S
     strips::compare_fresh(4_000, seed, tally)?;
     strips::compare(4_000, seed, tally)?;
     images::compare(20_000, seed, tally)?;
+    skid::compare(10_000, seed, tally)?;
     maps::compare(20_000, seed, tally)?;
     #[cfg(feature = "serde")]
     {
@@ -397,5 +399,6 @@ pub fn compacted_walk(rust: &RustStore) -> Vec<u32> {
 #[cfg(feature = "serde")]
 pub fn compare_books(operations: u64, seed: u64, tally: &mut Tally) -> Same {
     book::compare(operations, operations / 10, seed, tally)?;
+    book::compare_skid(operations / 10, seed, tally)?;
     ranges::compare(operations / 10, seed, tally)
 }

@@ -9,11 +9,12 @@ use std::fmt::{Debug, Display, Write};
 use crate::calls::{self, LOTSTRIP, Lots, hexadecimal};
 use crate::compare::Trio;
 use crate::generate::{
-    Generator, MEDIUM, MIXES, Mix, SHORT, STRIP, Size, Step, compact_lists, one_weight, range,
+    Generator, MEDIUM, MIXES, Mix, SHORT, STRIP, Size, Step, about, compact_lists,
+    lists_about_skid, one_weight, range,
 };
 use crate::graph::traverse::TraversalDirection;
 use crate::image;
-use crate::model::{Answer, Capacities, DIRECTIONS, EdgePayload};
+use crate::model::{Answer, BOX, Capacities, DIRECTIONS, Device, EdgePayload, Plain, SKID};
 use crate::rng::Rng;
 use crate::tally::{Difference, Tally, Thing};
 
@@ -287,7 +288,12 @@ fn sequences(seed: u64, tally: &mut Tally) -> Result<String, Difference> {
 /// A random image with these payloads, most of the time spoiled in its lists, its
 /// payloads or its bytes.
 pub fn spoiled_image(rng: &mut Rng, payload: fn(&mut Rng) -> EdgePayload) -> Vec<u8> {
-    let mut plain = compact_lists(rng, Capacities { nodes: 5, edges: 7 }, payload);
+    let plain = compact_lists(rng, Capacities { nodes: 5, edges: 7 }, payload);
+    spoiled(plain, rng)
+}
+
+/// The image of these lists, most of the time spoiled.
+pub fn spoiled(mut plain: Plain, rng: &mut Rng) -> Vec<u8> {
     let (nodes, edges) = (plain.nodes.len() as u32, plain.edges.len());
     let incidence = match rng.one_in(2) {
         true => &mut plain.outgoing,
@@ -329,7 +335,18 @@ pub fn spoiled_image(rng: &mut Rng, payload: fn(&mut Rng) -> EdgePayload) -> Vec
     bytes
 }
 
-/// The text of `images.txt`: capacities, image, and how reading answers.
+/// Capacities, image, and how reading answers on a device.
+fn reading(device: Device, [nodes, edges]: [u64; 2], bytes: &[u8]) -> String {
+    let read = calls::read_image_on(device, nodes, edges, bytes);
+    let Answer { number, value } = read.map_or_else(|refused| refused, |_| Answer::done(0));
+    let bytes = match bytes {
+        [] => "-".to_string(),
+        bytes => hexadecimal(bytes),
+    };
+    format!("{nodes} {edges} {bytes} {number} {value}")
+}
+
+/// The text of `images.txt`: readings on a box, and then on the skid.
 fn images(seed: u64) -> String {
     let mut rng = Rng::new(seed);
     let mut text = format!("images of the lot store, seed {seed}\n");
@@ -340,16 +357,17 @@ fn images(seed: u64) -> String {
             1 => rng.below(8) as u64,
             _ => rng.pick(&[7, 8, 32_768]),
         };
-        let (nodes, edges) = (capacity(), capacity());
-        let Answer { number, value } = match calls::read_image(nodes, edges, &bytes) {
-            Ok(_) => Answer::done(0),
-            Err(refused) => refused,
+        let capacities = [capacity(), capacity()];
+        line!(text, "{}", reading(BOX, capacities, &bytes));
+    }
+    for _ in 0..60 {
+        let lists = lists_about_skid(&mut rng, range);
+        let bytes = spoiled(lists, &mut rng);
+        let capacities = match rng.below(3) {
+            0 => [64, 128].map(|limit| about(limit, &mut rng) as u64),
+            _ => [64, 128],
         };
-        let bytes = match bytes.as_slice() {
-            [] => "-".to_string(),
-            bytes => hexadecimal(bytes),
-        };
-        line!(text, "{nodes} {edges} {bytes} {number} {value}");
+        line!(text, "skid {}", reading(SKID, capacities, &bytes));
     }
     text
 }
@@ -363,7 +381,7 @@ fn covers_reading(text: &str) -> bool {
     });
     let seen: Vec<_> = numbers.collect();
     let rules = ["1", "2", "3", "4", "5", "6"];
-    let others = ["0", "2", "13"];
+    let others = ["0", "2", "13", "15"];
     rules
         .iter()
         .all(|&rule| seen.contains(&(Some(rule), Some("12"))))
@@ -430,16 +448,16 @@ impl Replay {
     }
 
     /// An image read: its bytes, sixteen a line, the last of them filled with 0.
-    fn reading(&mut self, bytes: &[u8], told: &[u64]) {
+    fn reading(&mut self, kind: u64, bytes: &[u8], told: &[u64]) {
         let lines = bytes.chunks(16);
-        self.call(15, &[bytes.len() as u64, lines.len() as u64]);
+        self.call(kind, &[bytes.len() as u64, lines.len() as u64]);
         for line in lines {
             let mut sixteen = [0; 16];
             sixteen[..line.len()].copy_from_slice(line);
             let (words, _) = sixteen.as_chunks::<4>();
             let word = |&word: &[u8; 4]| u32::from_be_bytes(word).into();
             let words: Vec<u64> = words.iter().map(word).collect();
-            self.call(15, &words);
+            self.call(kind, &words);
         }
         self.answer(told);
     }
@@ -458,6 +476,9 @@ impl Replay {
     /// A line of `images.txt`, read into a fresh store of these capacities, cut where
     /// the program's memory ends: that is longer than the counts of any image here.
     fn image_line(&mut self, text: &str) {
+        if let Some(text) = text.strip_prefix("skid ") {
+            return self.skid_line(text);
+        }
         let fields: Vec<&str> = text.split(' ').collect();
         let [nodes, edges, bytes, number, value] = fields[..] else {
             unreachable!("five fields")
@@ -472,7 +493,24 @@ impl Replay {
             });
         self.one(0, &[nodes, edges], &[0, 0]);
         let bytes = if bytes == "-" { "" } else { bytes };
-        self.reading(&bytes_of(bytes), &numbers_of(&format!("{number} {value}")));
+        let told = numbers_of(&format!("{number} {value}"));
+        self.reading(15, &bytes_of(bytes), &told);
+    }
+
+    /// A line of the skid: a fresh store there, which is refused above the limits, and
+    /// the reading.
+    fn skid_line(&mut self, text: &str) {
+        let fields: Vec<&str> = text.split(' ').collect();
+        let [nodes, edges, bytes, number, value] = fields[..] else {
+            unreachable!("five fields")
+        };
+        let capacities = [nodes, edges].map(|text| text.parse().expect("a capacity"));
+        let made = SKID.within(capacities);
+        let made = made.map_or_else(|refused| refused, |_| Answer::done(0));
+        self.one(18, &capacities, &[made.number.into(), made.value]);
+        let bytes = if bytes == "-" { "" } else { bytes };
+        let told = numbers_of(&format!("{number} {value}"));
+        self.reading(19, &bytes_of(bytes), &told);
     }
 
     /// A compaction: number and value beside each of the three slices that it
@@ -526,7 +564,7 @@ fn replay(sequences: &str, images: &str) -> [String; 2] {
             "compact" => replay.compaction(&numbers, &mut lines),
             "find" => replay.one(13, &numbers[..2], &numbers[2..]),
             "image" => replay.image(rest),
-            "read" => replay.reading(&bytes_of(rest), &[0, 0]),
+            "read" => replay.reading(15, &bytes_of(rest), &[0, 0]),
             name => unreachable!("a line of sequences.txt, {name}"),
         }
     }

@@ -88,6 +88,10 @@ things! {
         "a lent slice too short | 2 | length needed";
     PortFresh: "port: fresh stores, in memory of any lengths",
         "Fresh: 13, nodes before edges, then 2.";
+    SkidFresh: "skid: fresh stores, in memory of any lengths",
+        "It refuses with 15 and the value asked for, lots before transfers, in place of 13 when lent memory exceeds its limits";
+    SkidReading: "skid: images read into memory of any lengths, and refused",
+        "in place of 13 when lent memory exceeds its limits, and right after 12 when an image does";
     PortAnswer: "port: strips, by their own answers and all words of their answer slices",
         "Each operation leaves two words in the answer slice: number and value.";
     PortRefusal: "port: words after a refused strip, or a strip of refused operations",

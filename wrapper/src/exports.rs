@@ -3,7 +3,7 @@
 //! that its slices can be read, those for answers and a changed store written, and
 //! that they do not overlap: the borrows say so.
 
-use super::Memory;
+use super::{Device, Memory};
 
 /// `Slots` of crate `plain`.
 #[repr(C)]
@@ -179,6 +179,22 @@ mod others {
             incoming: *const u32,
             incoming_length: usize,
         ) -> Changed;
+        pub fn lot_skid_fresh(
+            nodes: *const u32,
+            nodes_length: usize,
+            lows: *const u32,
+            lows_length: usize,
+            highs: *const u32,
+            highs_length: usize,
+            live_nodes: *const u64,
+            live_nodes_length: usize,
+            live_edges: *const u64,
+            live_edges_length: usize,
+            outgoing: *const u32,
+            outgoing_length: usize,
+            incoming: *const u32,
+            incoming_length: usize,
+        ) -> Changed;
         pub fn lot_strip(
             counts: Counts,
             nodes: *mut u32,
@@ -242,6 +258,25 @@ mod others {
             bytes: *const u8,
             bytes_length: usize,
         ) -> Changed;
+        pub fn lot_skid_read_image(
+            counts: Counts,
+            nodes: *mut u32,
+            nodes_length: usize,
+            lows: *mut u32,
+            lows_length: usize,
+            highs: *mut u32,
+            highs_length: usize,
+            live_nodes: *mut u64,
+            live_nodes_length: usize,
+            live_edges: *mut u64,
+            live_edges_length: usize,
+            outgoing: *mut u32,
+            outgoing_length: usize,
+            incoming: *mut u32,
+            incoming_length: usize,
+            bytes: *const u8,
+            bytes_length: usize,
+        ) -> Changed;
         pub fn lot_lookup(renumbering: *const u32, length: usize, slot: u32) -> Answer;
         pub fn lot_compose(
             first: *const u32,
@@ -261,11 +296,15 @@ mod others {
 }
 
 impl Memory {
-    pub fn lot_fresh(&self) -> Changed {
+    pub fn lot_fresh(&self, device: Device) -> Changed {
+        let entry = match device {
+            Device::Box => others::lot_fresh,
+            Device::Skid => others::lot_skid_fresh,
+        };
         let [outgoing, incoming] = &self.axes;
         // SAFETY: the slices are borrowed and as long as stated.
         unsafe {
-            others::lot_fresh(
+            entry(
                 self.nodes.as_ptr(),
                 self.nodes.len(),
                 self.lows.as_ptr(),
@@ -348,12 +387,16 @@ impl Memory {
         }
     }
 
-    pub fn lot_read_image(&mut self, bytes: &[u8]) -> Changed {
+    pub fn lot_read_image(&mut self, device: Device, bytes: &[u8]) -> Changed {
+        let entry = match device {
+            Device::Box => others::lot_read_image,
+            Device::Skid => others::lot_skid_read_image,
+        };
         let [outgoing, incoming] = &mut self.axes;
         // SAFETY: the slices are borrowed, all but `bytes` mutably, and as long as
         // stated.
         unsafe {
-            others::lot_read_image(
+            entry(
                 self.counts,
                 self.nodes.as_mut_ptr(),
                 self.nodes.len(),

@@ -158,6 +158,27 @@ impl Operation {
     }
 }
 
+/// Where a book stands. Making a store and reading an image ask for it; no other call
+/// does.
+#[derive(Debug, Clone, Copy, PartialEq, Eq)]
+pub enum Device {
+    /// At most 32,768 lots and as many transfers: more is refused with 13.
+    Box,
+    /// The skid that washes tanks, at most 64 lots and 128 transfers: more is refused
+    /// with 15.
+    Skid,
+}
+
+impl Device {
+    /// The most lots and transfers, and the number that refuses more.
+    const fn limits(self) -> ([usize; 2], u32) {
+        match self {
+            Self::Box => ([32_768; 2], 13),
+            Self::Skid => ([64, 128], 15),
+        }
+    }
+}
+
 /// The memory of a store: counts and seven slices (`docs/ENTRIES.md` has the lengths
 /// and `crates/shape` the columns). It may hold anything: the check judges it.
 #[derive(Debug, Clone, PartialEq, Eq)]
@@ -204,9 +225,10 @@ fn narrow(value: u64) -> u32 {
     u32::try_from(value).expect("promised: a slot, a payload or a count of slots")
 }
 
-/// A store and its memory.
+/// A store and its memory, on a device.
 #[derive(Debug, Clone, PartialEq, Eq)]
 pub struct LotBook {
+    device: Device,
     memory: Memory,
 }
 
@@ -216,15 +238,29 @@ impl LotBook {
     /// # Errors
     /// 13 above that, with the capacity.
     pub fn new(nodes: usize, edges: usize) -> Result<Self, Refused> {
+        Self::on(Device::Box, nodes, edges)
+    }
+
+    /// A fresh store on the skid, with room for so many nodes and edges, at most 64 and
+    /// 128.
+    ///
+    /// # Errors
+    /// 15 above that, with the capacity.
+    pub fn skid(nodes: usize, edges: usize) -> Result<Self, Refused> {
+        Self::on(Device::Skid, nodes, edges)
+    }
+
+    fn on(device: Device, nodes: usize, edges: usize) -> Result<Self, Refused> {
         // Refused before any memory is taken for it.
-        const LIMIT: usize = 32_768;
-        if let Some(above) = [nodes, edges].into_iter().find(|&slots| LIMIT < slots) {
+        let (limits, number) = device.limits();
+        let mut asked = [nodes, edges].into_iter().zip(limits);
+        if let Some((above, _)) = asked.find(|(slots, limit)| limit < slots) {
             return Err(Refused {
-                number: 13,
+                number,
                 value: above as u64,
             });
         }
-        let mut book = Self::from_memory(Memory::zeros(nodes, edges));
+        let mut book = Self::from_memory_on(device, Memory::zeros(nodes, edges));
         book.fresh()?;
         Ok(book)
     }
@@ -232,7 +268,16 @@ impl LotBook {
     /// A store in memory that came from elsewhere. It may hold anything: each call
     /// answers 1 with the first broken rule where it is no store.
     pub const fn from_memory(memory: Memory) -> Self {
-        Self { memory }
+        Self::from_memory_on(Device::Box, memory)
+    }
+
+    /// The same on another device.
+    pub const fn from_memory_on(device: Device, memory: Memory) -> Self {
+        Self { device, memory }
+    }
+
+    pub const fn device(&self) -> Device {
+        self.device
     }
 
     pub const fn memory(&self) -> &Memory {
@@ -247,9 +292,9 @@ impl LotBook {
     /// slot all the same.
     ///
     /// # Errors
-    /// 13 (a capacity), then 2 (the length needed).
+    /// 13 (a capacity; 15 on the skid), then 2 (the length needed).
     pub fn fresh(&mut self) -> Result<(), Refused> {
-        let changed = self.memory.lot_fresh();
+        let changed = self.memory.lot_fresh(self.device);
         self.changed(changed)
     }
 
@@ -341,9 +386,10 @@ impl LotBook {
     /// What was there need not be a store.
     ///
     /// # Errors
-    /// 13 (a capacity), 12 (the first broken rule of images), 2 (the length needed).
+    /// 13 (a capacity; 15 on the skid), 12 (the first broken rule of images), on the skid
+    /// 15 (a count of the image), 2 (the length needed).
     pub fn read_image(&mut self, bytes: &[u8]) -> Result<(), Refused> {
-        let changed = self.memory.lot_read_image(bytes);
+        let changed = self.memory.lot_read_image(self.device, bytes);
         self.changed(changed)
     }
 

@@ -1,6 +1,6 @@
 //! Each entry once through the wrapper, with a refusal of each call that has one.
 
-use lots::{EdgePayload, EdgeRecord, LotBook, Memory, Operation, Refused, Total, maps};
+use lots::{Device, EdgePayload, EdgeRecord, LotBook, Memory, Operation, Refused, Total, maps};
 
 const NONE: u64 = lots::NONE as u64;
 
@@ -436,4 +436,71 @@ fn composed() {
     );
     assert!(maps::is_identity(&[0, 1], &[0]));
     assert!(!maps::is_identity(&[1, 0], &[0]));
+}
+
+/// An image of so many lots, and transfers from the first lot to itself.
+fn image_of(lots: usize, transfers: usize) -> Vec<u8> {
+    let mut book = LotBook::new(lots, transfers).unwrap();
+    let nodes = vec![Operation::AddNode { payload: 7 }; lots];
+    let edges = vec![add_edge([0, 0], 5, 6); transfers];
+    assert!(book.strip(&[nodes, edges].concat()).is_ok());
+    book.compact().unwrap();
+    book.image().unwrap()
+}
+
+/// Request 7: 64 lots and 128 transfers are taken; more is 15 with the value asked
+/// for, lots before transfers.
+#[test]
+fn skid_capacities() {
+    assert!(LotBook::skid(64, 128).is_ok());
+    assert!(LotBook::skid(0, 0).is_ok());
+    assert_eq!(LotBook::skid(65, 128), Err(refused(15, 65)));
+    assert_eq!(LotBook::skid(64, 129), Err(refused(15, 129)));
+    assert_eq!(LotBook::skid(65, 129), Err(refused(15, 65)));
+    assert_eq!(LotBook::skid(64, 40_000), Err(refused(15, 40_000)));
+    let on_skid = |memory| LotBook::from_memory_on(Device::Skid, memory);
+    for ([nodes, edges], above) in [([65, 129], 65), ([64, 129], 129), ([40_000, 0], 40_000)] {
+        let mut book = on_skid(Memory::zeros(nodes, edges));
+        assert_eq!(book.fresh(), Err(refused(15, above)));
+        // In place of 13, so before 12.
+        assert_eq!(book.read_image(&[0; 3]), Err(refused(15, above)));
+    }
+    let mut memory = Memory::zeros(64, 128);
+    memory.highs.pop();
+    assert_eq!(on_skid(memory).fresh(), Err(refused(2, 128)));
+    // The check keeps 32,768, and so does every other call.
+    let mut book = on_skid(Memory::zeros(65, 129));
+    assert_eq!(book.check(), Ok(()));
+    assert_eq!(book.operation(Operation::AddNode { payload: 7 }), Ok(0));
+}
+
+/// Reading on the skid: 15 for the memory, 12, 15 for the image, 2; refused, every
+/// word stays.
+#[test]
+fn skid_images() {
+    let mut book = LotBook::skid(64, 128).unwrap();
+    let before = book.clone();
+    assert_eq!(book.read_image(&image_of(65, 0)), Err(refused(15, 65)));
+    assert_eq!(book.read_image(&image_of(64, 129)), Err(refused(15, 129)));
+    assert_eq!(book.read_image(&image_of(65, 129)), Err(refused(15, 65)));
+    // A broken image of 65 lots: 12 first.
+    let image = image_of(65, 0);
+    let short = &image[..image.len() - 1];
+    assert_eq!(book.read_image(short), Err(refused(12, 3)));
+    assert_eq!(book, before);
+    // 2 comes after 15.
+    let mut small = LotBook::skid(8, 8).unwrap();
+    assert_eq!(small.read_image(&image), Err(refused(15, 65)));
+    assert_eq!(small.read_image(&image_of(64, 9)), Err(refused(2, 64)));
+    assert_eq!(small.read_image(&image_of(8, 9)), Err(refused(2, 9)));
+    // What is taken goes on as on a box.
+    let image = image_of(64, 128);
+    assert_eq!(book.read_image(&image), Ok(()));
+    assert_eq!(book.image(), Ok(image.clone()));
+    let full = Err(refused(10, NONE));
+    assert_eq!(book.operation(Operation::AddNode { payload: 7 }), full);
+    assert_eq!(book.operation(add_edge([0, 1], 1, 1)), full);
+    let mut copy = LotBook::new(64, 128).unwrap();
+    assert_eq!(copy.read_image(&image), Ok(()));
+    assert_eq!(copy.memory(), book.memory());
 }

@@ -137,6 +137,22 @@ int main(void) {
     counts = changed.counts;
     ANSWERS(lot_in_degree(counts, STORE, 1), 0, 2);
 
+    /* The skid reads it too, and refuses 65 lots: bytes that are no image first, then 15. */
+    changed = lot_skid_read_image(counts, STORE, SLICE(image));
+    expect("reading on the skid", changed.number, changed.value, 0, 0);
+    static const uint8_t many[4 + 4 * (LOT_SKID_NODES + 1)] = {0, LOT_SKID_NODES + 1};
+    changed = lot_skid_read_image(counts, STORE, many, 4);
+    expect("a broken image of 65 lots", changed.number, changed.value, 12, 3);
+    changed = lot_skid_read_image(counts, STORE, SLICE(many));
+    expect("65 lots", changed.number, changed.value, 15, 65);
+    changed = lot_read_image(counts, STORE, SLICE(many));
+    expect("65 lots on a box", changed.number, changed.value, 2, 65);
+    changed = lot_skid_fresh(STORE);
+    expect("fresh on the skid", changed.number, changed.value, 0, 0);
+    static uint32_t more[LOT_SKID_EDGES + 1];
+    changed = lot_skid_fresh(SLICE(nodes), SLICE(more), SLICE(more), SLICE(live_nodes), SLICE(live_edges), SLICE(outgoing), SLICE(incoming));
+    expect("129 transfers", changed.number, changed.value, 15, 129);
+
     /* A low above its high: rule 3. */
     lows[1] = 9;
     ANSWERS(lot_check(counts, STORE), 1, 3);

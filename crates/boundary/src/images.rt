@@ -3,6 +3,7 @@
 use plain::Answer;
 use plain::Changed;
 use plain::Counts;
+ghost use Rattle.plain.specs.Devices.{box};
 ghost use Rattle.shape.specs.Lent.{at-entry, at-exit};
 ghost use Rattle.image.specs.Calls.{WriteOf, ReadOf};
 
@@ -49,7 +50,7 @@ pub extern "C" fn lot_read_image(
     incoming: &mut [u32],
     bytes: &[u8],
 ) -> Changed
-    ensures { λ r. ⌜ ReadOf
+    ensures { λ r. ⌜ ReadOf box
         (at-entry counts nodes lows highs «live_nodes» «live_edges» outgoing incoming)
         (now (bytes .entry)) (r .number) (r .value)
         (at-exit (r .counts) nodes lows highs «live_nodes» «live_edges» outgoing incoming) ⌝ }

@@ -5,6 +5,7 @@ use plain::Changed;
 use plain::Counts;
 ghost use mathlib.Core.Path.{_≡_};
 ghost use Rattle.plain.specs.Calls.{check as check-answer};
+ghost use Rattle.plain.specs.Devices.{box};
 ghost use Rattle.shape.specs.Lent.{at-entry, at-exit};
 ghost use Rattle.shape.specs.Rules.{broken};
 ghost use Rattle.strip.specs.Fresh.{FreshOf};
@@ -21,7 +22,7 @@ pub extern "C" fn lot_fresh(
     outgoing: &[u32],
     incoming: &[u32],
 ) -> Changed
-    ensures { λ r. ⌜ FreshOf
+    ensures { λ r. ⌜ FreshOf box
         (at-entry (r .counts) nodes lows highs «live_nodes» «live_edges» outgoing incoming)
         (r .number) (r .value) ⌝ }
 {

@@ -9,10 +9,13 @@
 -- every word, field or not.
 -- "an identity map holds i at each i below the bound": `node-map` and `edge-map` of `NothingMore`.
 -- "Order and image equality are measured on the plain lists, never on the port's own walks": `images`, by the survivors of the history's plain lists.
+-- Document 02, No. 7: "Whatever is proved of a store is proved over the capacity, with no copy for the skid." Each run is on a device of its own, a box or the skid; two boxes
+-- are one case.
 use mathlib.Core.Path.{_≡_, refl, sym, ap, subst, subst₂, _∙_}
 use mathlib.Core.Logic.{_↔_}
 use mathlib.Core.List.{List, map}
 use Rattle.plain.specs.Step.{State}
+use Rattle.plain.specs.Devices.{Device, Proper}
 use Rattle.plain.specs.Compaction.{survivors}
 use Rattle.plain.specs.Image.{image}
 use Rattle.plain.specs.History.{history-from, history}
@@ -25,25 +28,26 @@ use Rattle.histories.specs.Closing.{Closing, Done, image-of, Closes}
 use Rattle.histories.specs.Laws.Following.{run-follows}
 use Rattle.histories.specs.Laws.Closing.{checked-closes, left-sound}
 
--- the history of requests in memory w: of the origin, the capacities and the calls, of no count and no word
-abbrev pub history-of : Origin → Words → List Request → State
-history-of origin w requests = history-from (capacities w) (first-state origin) (map call-of requests)
+-- the history of requests in memory w: of the device, the origin, the capacities and the calls, of no count and no word
+abbrev pub history-of : Device → Origin → Words → List Request → State
+history-of device origin w requests = history-from device (capacities w) (first-state origin) (map call-of requests)
 
 -- from a fresh store on it is the `history` of the definitions
-pub history-of-fresh : (w : Words) (requests : List Request) → history-of FreshStore w requests ≡ history (capacities w) (map call-of requests)
+pub history-of-fresh : (device : Device) (w : Words) (requests : List Request)
+    → history-of device FreshStore w requests ≡ history device (capacities w) (map call-of requests)
 unfolding history
-history-of-fresh w requests = refl
+history-of-fresh device w requests = refl
 
 -- What holds of two runs, each closed by a compaction and an image writing: "It is one claim about two whole lists of calls, not one for each call."
-pub record Demand3 (origin₁ origin₂ : Origin) (w₁ w₂ : Words) (requests₁ requests₂ : List Request) (turns₁ turns₂ : List Turn)
+pub record Demand3 (device₁ device₂ : Device) (origin₁ origin₂ : Origin) (w₁ w₂ : Words) (requests₁ requests₂ : List Request) (turns₁ turns₂ : List Turn)
     (c₁ : Closing (final w₁ turns₁)) (c₂ : Closing (final w₂ turns₂)) : Type 0 where
-  pub first : Follows (capacities w₁) (first-state origin₁) w₁ requests₁ turns₁
-  pub second : Follows (capacities w₂) (first-state origin₂) w₂ requests₂ turns₂
-  pub first-closes : Closes (history-of origin₁ w₁ requests₁) c₁
-  pub second-closes : Closes (history-of origin₂ w₂ requests₂) c₂
+  pub first : Follows device₁ (capacities w₁) (first-state origin₁) w₁ requests₁ turns₁
+  pub second : Follows device₂ (capacities w₂) (first-state origin₂) w₂ requests₂ turns₂
+  pub first-closes : Closes (history-of device₁ origin₁ w₁ requests₁) c₁
+  pub second-closes : Closes (history-of device₂ origin₂ w₂ requests₂) c₂
   -- where the closing calls answer 0, the images are equal, length and bytes, exactly when the survivors are equal: payloads, ends, and both lists of each lot
   pub images : Done c₁ → Done c₂
-      → (image-of c₁ ≡ image-of c₂) ↔ (survivors (history-of origin₁ w₁ requests₁ .lists) ≡ survivors (history-of origin₂ w₂ requests₂ .lists))
+      → (image-of c₁ ≡ image-of c₂) ↔ (survivors (history-of device₁ origin₁ w₁ requests₁ .lists) ≡ survivors (history-of device₂ origin₂ w₂ requests₂ .lists))
 
 -- The image half, of any two checked stores, wherever they come from. Document 02, No. 9: "compaction, joining and the image keep every walk of every store that
 -- passes the check, ring order included. So equality of images now covers all checked stores and not only those built by operations." Where the closing calls answer 0,
@@ -57,13 +61,13 @@ checked-images {w₁} {w₂} k₁ k₂ c₁ c₂ d₁ d₂ =
       λ same. i₁ ∙ ap image same ∙ sym i₂,
     )
 
--- every two runs, closed in any way
-pub demand-3 : {origin₁ origin₂ : Origin} {w₁ w₂ : Words} {requests₁ requests₂ : List Request} {turns₁ turns₂ : List Turn}
-    → Ran origin₁ w₁ requests₁ turns₁ → Ran origin₂ w₂ requests₂ turns₂ → (c₁ : Closing (final w₁ turns₁)) (c₂ : Closing (final w₂ turns₂))
-    → Demand3 origin₁ origin₂ w₁ w₂ requests₁ requests₂ turns₁ turns₂ c₁ c₂
-demand-3 ran₁ ran₂ c₁ c₂ =
-    let f₁ = run-follows ran₁ in
-    let f₂ = run-follows ran₂ in
+-- every two runs, each on its device and closed in any way
+pub demand-3 : {device₁ device₂ : Device} → Proper device₁ → Proper device₂ → {origin₁ origin₂ : Origin} {w₁ w₂ : Words} {requests₁ requests₂ : List Request} {turns₁ turns₂ : List Turn}
+    → Ran device₁ origin₁ w₁ requests₁ turns₁ → Ran device₂ origin₂ w₂ requests₂ turns₂ → (c₁ : Closing (final w₁ turns₁)) (c₂ : Closing (final w₂ turns₂))
+    → Demand3 device₁ device₂ origin₁ origin₂ w₁ w₂ requests₁ requests₂ turns₁ turns₂ c₁ c₂
+demand-3 p₁ p₂ ran₁ ran₂ c₁ c₂ =
+    let f₁ = run-follows p₁ ran₁ in
+    let f₂ = run-follows p₂ ran₂ in
     record {
       first = f₁;
       second = f₂;

@@ -7,6 +7,7 @@ use Rattle.plain.specs.Lists.{written}
 use Rattle.plain.specs.Plain.{Plain, node-bound, edge-bound}
 use Rattle.plain.specs.Operations.{operation-words, operations}
 use Rattle.plain.specs.Step.{Capacities, State}
+use Rattle.plain.specs.Devices.{Device}
 use Rattle.plain.specs.Reads.{live-edges}
 use Rattle.plain.specs.Image.{broken-image, nodes-in, edges-in}
 use Rattle.plain.specs.History.{Call, Strip, Compaction, Reading, Called, call, called-from, history-from}
@@ -32,27 +33,31 @@ all-told [] requests = []
 all-told (c ∷ called) [] = []
 all-told (c ∷ called) (request ∷ requests) = told c request ∷ all-told called requests
 
--- The numbers that a call of a history can answer where it meets the plain lists p: never 1, "words are no store", never 13, and 2 never for want of words in the
--- store's own memory, but only where the answer slice, a map or the work slice is too short or an image has more nodes or edges than there is capacity.
-pub data CanAnswer (caps : Capacities) (p : Plain) : Call → ℕ → Type 0 where
-  strip-done : {words : List ℕ} {room : ℕ} → CanAnswer caps p (Strip words room) 0
-  strip-ragged : {words : List ℕ} {room : ℕ} → (length words % operation-words ≡ 0 → ⊥) → CanAnswer caps p (Strip words room) 3
-  strip-short : {words : List ℕ} {room : ℕ} → room < 2 * length (operations words) → CanAnswer caps p (Strip words room) 2
-  compaction-done : {node-map edge-map work : ℕ} → CanAnswer caps p (Compaction node-map edge-map work) 0
+-- The numbers that a call of a history can answer where it meets the plain lists p: never 1, "words are no store", and 2 never for want of words in the store's own
+-- memory, but only where the answer slice, a map or the work slice is too short or an image has more nodes or edges than there is capacity. The device's number is
+-- answered only where an image has more than the device takes; a box never answers 13 (law `never-13`).
+pub data CanAnswer (device : Device) (caps : Capacities) (p : Plain) : Call → ℕ → Type 0 where
+  strip-done : {words : List ℕ} {room : ℕ} → CanAnswer device caps p (Strip words room) 0
+  strip-ragged : {words : List ℕ} {room : ℕ} → (length words % operation-words ≡ 0 → ⊥) → CanAnswer device caps p (Strip words room) 3
+  strip-short : {words : List ℕ} {room : ℕ} → room < 2 * length (operations words) → CanAnswer device caps p (Strip words room) 2
+  compaction-done : {node-map edge-map work : ℕ} → CanAnswer device caps p (Compaction node-map edge-map work) 0
   -- "a node map and an edge map, as long as the bounds before, and a work slice of twice the live edge count"
-  compaction-nodes : {node-map edge-map work : ℕ} → node-map < node-bound p → CanAnswer caps p (Compaction node-map edge-map work) 2
-  compaction-edges : {node-map edge-map work : ℕ} → edge-map < edge-bound p → CanAnswer caps p (Compaction node-map edge-map work) 2
-  compaction-work : {node-map edge-map work : ℕ} → work < 2 * live-edges p → CanAnswer caps p (Compaction node-map edge-map work) 2
-  reading-done : {bytes : List ℕ} → CanAnswer caps p (Reading bytes) 0
-  reading-broken : {bytes : List ℕ} → (broken-image bytes ≡ 0 → ⊥) → CanAnswer caps p (Reading bytes) 12
-  reading-nodes : {bytes : List ℕ} → caps .nodes < nodes-in bytes → CanAnswer caps p (Reading bytes) 2
-  reading-edges : {bytes : List ℕ} → caps .edges < edges-in bytes → CanAnswer caps p (Reading bytes) 2
+  compaction-nodes : {node-map edge-map work : ℕ} → node-map < node-bound p → CanAnswer device caps p (Compaction node-map edge-map work) 2
+  compaction-edges : {node-map edge-map work : ℕ} → edge-map < edge-bound p → CanAnswer device caps p (Compaction node-map edge-map work) 2
+  compaction-work : {node-map edge-map work : ℕ} → work < 2 * live-edges p → CanAnswer device caps p (Compaction node-map edge-map work) 2
+  reading-done : {bytes : List ℕ} → CanAnswer device caps p (Reading bytes) 0
+  reading-broken : {bytes : List ℕ} → (broken-image bytes ≡ 0 → ⊥) → CanAnswer device caps p (Reading bytes) 12
+  -- "right after 12 when an image does"
+  reading-many-nodes : {bytes : List ℕ} → broken-image bytes ≡ 0 → device .limits .nodes < nodes-in bytes → CanAnswer device caps p (Reading bytes) (device .number)
+  reading-many-edges : {bytes : List ℕ} → broken-image bytes ≡ 0 → device .limits .edges < edges-in bytes → CanAnswer device caps p (Reading bytes) (device .number)
+  reading-nodes : {bytes : List ℕ} → caps .nodes < nodes-in bytes → CanAnswer device caps p (Reading bytes) 2
+  reading-edges : {bytes : List ℕ} → caps .edges < edges-in bytes → CanAnswer device caps p (Reading bytes) 2
 
 -- the numbers of calls made one after the other, the first in state s: each meets the lists that the one before left
-pub data EachCanAnswer (caps : Capacities) : State → List Call → List ℕ → Type 0 where
-  no-answer : {s : State} → EachCanAnswer caps s [] []
-  one-answer : {s : State} {c : Call} {number : ℕ} {calls : List Call} {numbers : List ℕ} → CanAnswer caps (s .lists) c number
-      → EachCanAnswer caps (call caps s c .after) calls numbers → EachCanAnswer caps s (c ∷ calls) (number ∷ numbers)
+pub data EachCanAnswer (device : Device) (caps : Capacities) : State → List Call → List ℕ → Type 0 where
+  no-answer : {s : State} → EachCanAnswer device caps s [] []
+  one-answer : {s : State} {c : Call} {number : ℕ} {calls : List Call} {numbers : List ℕ} → CanAnswer device caps (s .lists) c number
+      → EachCanAnswer device caps (call device caps s c .after) calls numbers → EachCanAnswer device caps s (c ∷ calls) (number ∷ numbers)
 
 -- the operations of a strip, done in turn from store w to store v; the other calls have none
 abbrev pub OperationsDone : Words → Request → Words → Type 0
@@ -72,15 +77,15 @@ pub data RefusalsKeep : Words → List Request → List Turn → Type 0 where
   one-kept : {w : Words} {request : Request} {t : Turn} {requests : List Request} {turns : List Turn} → RefusalKeeps w request t
       → RefusalsKeep (t .store) requests turns → RefusalsKeep w (request ∷ requests) (t ∷ turns)
 
--- Requests to a store w of capacities caps and state s, and what they came to, follow the history from s on.
-pub record Follows (caps : Capacities) (s : State) (w : Words) (requests : List Request) (turns : List Turn) : Type 0 where
+-- Requests to a store w of capacities caps and state s on a device, and what they came to, follow the history from s on.
+pub record Follows (device : Device) (caps : Capacities) (s : State) (w : Words) (requests : List Request) (turns : List Turn) : Type 0 where
   -- "Every number answered in them follows from the plain lists and the calls' arguments, lengths included, never from the store's counts or words": number, value
   -- and the slices lent for answers
-  pub answers : map (λ (t : Turn). t .heard) turns ≡ all-told (called-from caps s (map call-of requests)) requests
-  pub numbers : EachCanAnswer caps s (map call-of requests) (map (λ (t : Turn). t .heard .number) turns)
+  pub answers : map (λ (t : Turn). t .heard) turns ≡ all-told (called-from device caps s (map call-of requests)) requests
+  pub numbers : EachCanAnswer device caps s (map call-of requests) (map (λ (t : Turn). t .heard .number) turns)
   -- the plain lists after each call, and whether the store is compact then
-  pub states : map (λ (t : Turn). state-of (shape-of (t .store))) turns ≡ map (λ (c : Called). c .after) (called-from caps s (map call-of requests))
-  pub ends : state-of (shape-of (final w turns)) ≡ history-from caps s (map call-of requests)
+  pub states : map (λ (t : Turn). state-of (shape-of (t .store))) turns ≡ map (λ (c : Called). c .after) (called-from device caps s (map call-of requests))
+  pub ends : state-of (shape-of (final w turns)) ≡ history-from device caps s (map call-of requests)
   pub refusals : RefusalsKeep w requests turns
   -- in the end it is a store
   pub checked : Checked (final w turns)

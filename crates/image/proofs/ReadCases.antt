@@ -8,6 +8,7 @@ use Rattle.plain.specs.declared.TraversalDirection.{TraversalDirection}
 use Rattle.plain.specs.declared.TraversalDirection.the-variants.{Outgoing, Incoming}
 use Rattle.plain.specs.declared.Answer.{Answer}
 use Rattle.plain.specs.declared.Counts.{Counts}
+use Rattle.plain.specs.Devices.{Device, Proper}
 use Rattle.plain.specs.Calls.{read-image}
 use Rattle.shape.specs.Shape.{Words, store, lengths-of, axis-words, node-capacity, edge-capacity}
 use Rattle.shape.specs.Kept.{AxisRenewed, Renewed, nothing-spared, renewed-none, renewed-spared, same-nodes, same-edges}
@@ -16,9 +17,9 @@ use Rattle.image.specs.Reading.{Accepted, placed-holding, placed-renewed
 use Rattle.image.proofs.Answering.{read-accepted}
 use Rattle.image.specs.Calls.{ReadOf}
 
-module _ (w : Words) (bytes : List ℕ) (answer : Answer) (told : answer ≡ read-image (lengths-of w) bytes) where
+module _ {device : Device} (w : Words) (bytes : List ℕ) (answer : Answer) (told : answer ≡ read-image device (lengths-of w) bytes) where
   -- "refused": not a word and not a count
-  pub read-refused : (answer .number ≡ 0 → ⊥) → ReadOf w bytes (answer .number) (answer .value) w
+  pub read-refused : (answer .number ≡ 0 → ⊥) → ReadOf device w bytes (answer .number) (answer .value) w
   read-refused refused = record {
     answered = told;
     state = λ h. absurd (refused h);
@@ -32,13 +33,13 @@ module _ (w : Words) (bytes : List ℕ) (answer : Answer) (told : answer ≡ rea
     leaves = λ p out. inl refl;
   }
 
-  module _ (done : answer .number ≡ 0) where
+  module _ (p : Proper device) (done : answer .number ≡ 0) where
     pub accepted : Accepted (lengths-of w) bytes
-    accepted = read-accepted (lengths-of w) bytes (ap (λ (a : Answer). a .number) (sym told) ∙ done)
+    accepted = read-accepted p (lengths-of w) bytes (ap (λ (a : Answer). a .number) (sym told) ∙ done)
 
     -- "the result equals what compaction leaves"
     pub read-done : (counts : Counts) {v : Words} → ImagePlaced (store counts (w .nodes) (w .lows) (w .highs) (w .live-nodes) (w .live-edges) (w .outgoing) (w .incoming)) bytes v
-        → ReadOf w bytes (answer .number) (answer .value) v
+        → ReadOf device w bytes (answer .number) (answer .value) v
     read-done counts {v} placed =
         let holding = placed-holding accepted placed in
         let same = placed .lengths in

@@ -5,6 +5,7 @@ use mathlib.Core.List.{List}
 use lib.Dec.{eqb}
 use borrow.Author.Tests.{eqb-true, eqb-false}
 use Rattle.plain.specs.declared.Answer.{Answer}
+use Rattle.plain.specs.Devices.{Device}
 use Rattle.plain.specs.Laws.Booleans.{by-test}
 use Rattle.shape.specs.Shape.{Words}
 use Rattle.shape.specs.Fields.{SameFields}
@@ -13,7 +14,7 @@ use Rattle.compact.specs.Agreeing.{canonical-fields}
 use Rattle.image.specs.Calls.{ReadOf}
 
 -- A refused reading leaves every word; of one that is done the shape is fixed, and the store is canonical.
-pub reading-outcomes-agree : {w v u : Words} {bytes : List ℕ} {number value number' value' : ℕ} → ReadOf w bytes number value v → ReadOf w bytes number' value' u
+pub reading-outcomes-agree : {device : Device} {w v u : Words} {bytes : List ℕ} {number value number' value' : ℕ} → ReadOf device w bytes number value v → ReadOf device w bytes number' value' u
     → SameFields v u
 reading-outcomes-agree {number = number} {number' = number'} a b =
     by-test (eqb number 0)

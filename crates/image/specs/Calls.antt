@@ -1,4 +1,4 @@
--- What writing an image comes to, on any store and any lent slices, and reading one, on any memory and any bytes.
+-- What writing an image comes to, on any store and any lent slices, and reading one on a device, with any memory and any bytes.
 use Prim.Native.Nat.{ℕ, _*_}
 use mathlib.Core.Path.{_≡_}
 use mathlib.Core.List.{List}
@@ -6,6 +6,7 @@ use lib.ListN.{length, drop}
 use Rattle.plain.specs.declared.Answer.{Answer}
 use Rattle.plain.specs.Reads.{Reply, live-edges}
 use Rattle.plain.specs.Image.{parsed}
+use Rattle.plain.specs.Devices.{Device}
 use Rattle.plain.specs.Calls.{read-image, read-state, write-image}
 use Rattle.shape.specs.Shape.{Words, lengths-of, shape-of, lists}
 use Rattle.shape.specs.Checked.{Checked}
@@ -36,8 +37,8 @@ pub record WriteOf (w : Words) (work bytes : List ℕ) (answer : Answer) (work' 
   pub work-free : WorkFree (2 * live-edges (lists w)) work answer work'
 
 -- Reading bytes into a store's memory: w is what was there, v is what is there then.
-pub record ReadOf (w : Words) (bytes : List ℕ) (number value : ℕ) (v : Words) : Type 0 where
-  pub answered : _≡_ {A = Answer} (record { number = number; value = value }) (read-image (lengths-of w) bytes)
+pub record ReadOf (device : Device) (w : Words) (bytes : List ℕ) (number value : ℕ) (v : Words) : Type 0 where
+  pub answered : _≡_ {A = Answer} (record { number = number; value = value }) (read-image device (lengths-of w) bytes)
   pub state : number ≡ 0 → state-of (shape-of v) ≡ read-state bytes
   -- all is in the base: "the result equals what compaction leaves"
   pub shape : number ≡ 0 → shape-of v ≡ shape-of-survivors (parsed bytes)

@@ -14,7 +14,7 @@ use Rattle.plain.specs.Bits.{fields-at, least-width}
 use Rattle.plain.specs.Compaction.{EdgeRecord, source-of, target-of}
 use Rattle.plain.specs.Image.{count-width, node-payload-width, weight-width, edge-payload-width, record-width, nodes-in, edges-in, nodes-start, edges-start, outs-start, ins-start, image-size, cut, list-lengths, parsed, broken-image}
 use Rattle.plain.specs.Memory.{Lengths, axis-length}
-use Rattle.plain.specs.Calls.{limits}
+use Rattle.plain.specs.Devices.{box, Takes}
 use Rattle.plain.specs.WellFormed.{Fitted, Sound}
 use Rattle.plain.specs.Laws.Bits.{length-fields-at}
 use Rattle.plain.specs.Laws.Below.{below-of}
@@ -39,9 +39,10 @@ use Rattle.image.specs.Directions.{AxisReadable, AxisRead, base-readable
 
 -- ---- what is asked
 
--- None of the refusals of a reading holds: 13, 12, 2.
+-- None of the refusals of a reading holds, on whatever device: 13, 12, 2.
 pub record Accepted (l : Lengths) (bytes : List ℕ) : Type 0 where
-  pub roomy : Roomy limits l
+  pub few : Takes box (l .capacities)
+  pub roomy : Roomy l
   pub image : broken-image bytes ≡ 0
   pub nodes-room : nodes-in bytes ≤ l .capacities .nodes
   pub edges-room : edges-in bytes ≤ l .capacities .edges
@@ -151,7 +152,7 @@ module _ {l : Lengths} {bytes : List ℕ} (a : Accepted l bytes) where
   payloads-readable nodes lows highs nodes-room lows-room highs-room = record {
     nodes-there = spread-in nodes-start 0 nodes-start node-payload-width node-payload-width n refl (omega arith) (omega arith) (omega (arith, whole)) (omega (arith, small)) (omega arith);
     weights-there = record {
-      few = omega (arith, a .nodes-room, a .roomy .few-nodes);
+      few = omega (arith, a .nodes-room, a .few .nodes);
       lows-there = weights-fit lows (least-width n + least-width n) (omega arith) lows-room;
       highs-there = subst (λ (p : ℕ). SpreadFits bytes p (record-width (least-width n)) weight-width highs 0 m) (omega arith)
           (weights-fit highs (least-width n + least-width n + weight-width) (omega arith) highs-room);
@@ -167,7 +168,7 @@ module _ {l : Lengths} {bytes : List ℕ} (a : Accepted l bytes) where
       → lists + least-width m * m ≤ image-size n m → ((e : ℕ) → e < m → spread bytes ends (record-width (least-width n)) (least-width n) e < n)
       → AxisReadable ws (l .capacities .edges) (l .capacities .nodes) n m bytes ends lists
   axis-readable ws k ends lists room is low inside below = record {
-    sized = record { edges-within = a .roomy .few-edges; nodes-within = a .roomy .few-nodes; room = room };
+    sized = record { edges-within = a .few .edges; nodes-within = a .few .nodes; room = room };
     nodes-fit = a .nodes-room;
     edges-fit = a .edges-room;
     ends-there = spread-in (edges-start n) k ends (record-width (least-width n)) (least-width n) m is (omega arith) (width-most n) (omega (arith, whole))

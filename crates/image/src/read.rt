@@ -15,8 +15,9 @@ use plain::NONE;
 ghost use mathlib.Core.Path.{_≡_};
 ghost use lib.ListN.{length};
 ghost use Rattle.plain.specs.Bits.{fields-at};
+ghost use Rattle.plain.specs.Devices.{box, skid, Proper};
 ghost use Rattle.plain.specs.Calls.{read-image};
-ghost use Rattle.memory.specs.Lengths.{lengths, measured};
+ghost use Rattle.memory.specs.Lengths.{lengths, measured, device-of};
 ghost use Rattle.shape.specs.Lent.{at-entry, at-exit};
 ghost use Rattle.shape.specs.Index.{Rewritten};
 ghost use Rattle.compact.specs.Bases.{Rebuilt};
@@ -233,21 +234,22 @@ fn place(
     }
 }
 
-// The answer of a reading, by the lengths of the memory and the bytes: "13, 12, 2".
-fn answer(lengths: Lengths, bytes: &[u8]) -> Answer
-    ensures { λ r. ⌜ r ≡ read-image (measured lengths) (now (bytes .entry)) ⌝ }
+// The answer of a reading, by a device's limits, the lengths of the memory and the bytes: "13, 12, 2", and on the skid 15 "in place of 13" and "right after 12".
+fn answer(limits: Limits, lengths: Lengths, bytes: &[u8]) -> Answer
+    ensures { λ r. ⌜ r ≡ read-image (device-of limits) (measured lengths) (now (bytes .entry)) ⌝ }
 {
     let rule = check::first_broken(bytes);
     if rule != 0 {
-        return memory::reading_answer(Limits::BOX, lengths, rule, 0, 0);
+        return memory::reading_answer(limits, lengths, rule, 0, 0);
     }
     let count_nodes = bits::read_field(bytes, 0, places::COUNT_WIDTH);
     let count_edges = bits::read_field(bytes, places::EDGE_COUNT_START, places::COUNT_WIDTH);
-    memory::reading_answer(Limits::BOX, lengths, rule, count_nodes, count_edges)
+    memory::reading_answer(limits, lengths, rule, count_nodes, count_edges)
 }
 
-// Reads an image into a store's memory, whatever stands there. Refused, nothing is written.
-pub fn read_image(
+// Reads an image into a store's memory, whatever stands there, on a device of these limits. Refused, nothing is written. Internal.
+fn read_within(
+    limits: Limits,
     counts: Counts,
     nodes: &mut [u32],
     lows: &mut [u32],
@@ -258,12 +260,14 @@ pub fn read_image(
     incoming: &mut [u32],
     bytes: &[u8],
 ) -> Changed
-    ensures { λ r. ⌜ ReadOf
+    requires { ⌜ Proper (device-of limits) ⌝ }
+    ensures { λ r. ⌜ ReadOf (device-of limits)
         (at-entry counts nodes lows highs «live_nodes» «live_edges» outgoing incoming)
         (now (bytes .entry)) (r .number) (r .value)
         (at-exit (r .counts) nodes lows highs «live_nodes» «live_edges» outgoing incoming) ⌝ }
 {
     let told = answer(
+        limits,
         Lengths {
             nodes: nodes.len(),
             lows: lows.len(),
@@ -299,4 +303,66 @@ pub fn read_image(
         value,
         counts: after,
     }
+}
+
+// Reads an image into a box's memory, whatever stands there: "13, 12, 2".
+pub fn read_image(
+    counts: Counts,
+    nodes: &mut [u32],
+    lows: &mut [u32],
+    highs: &mut [u32],
+    live_nodes: &mut [u64],
+    live_edges: &mut [u64],
+    outgoing: &mut [u32],
+    incoming: &mut [u32],
+    bytes: &[u8],
+) -> Changed
+    ensures { λ r. ⌜ ReadOf box
+        (at-entry counts nodes lows highs «live_nodes» «live_edges» outgoing incoming)
+        (now (bytes .entry)) (r .number) (r .value)
+        (at-exit (r .counts) nodes lows highs «live_nodes» «live_edges» outgoing incoming) ⌝ }
+{
+    read_within(
+        Limits::BOX,
+        counts,
+        nodes,
+        lows,
+        highs,
+        live_nodes,
+        live_edges,
+        outgoing,
+        incoming,
+        bytes,
+    )
+}
+
+// Reads an image into the skid's memory, whatever stands there: 15 for the memory, 12, 15 for the image, 2.
+pub fn skid_read_image(
+    counts: Counts,
+    nodes: &mut [u32],
+    lows: &mut [u32],
+    highs: &mut [u32],
+    live_nodes: &mut [u64],
+    live_edges: &mut [u64],
+    outgoing: &mut [u32],
+    incoming: &mut [u32],
+    bytes: &[u8],
+) -> Changed
+    ensures { λ r. ⌜ ReadOf skid
+        (at-entry counts nodes lows highs «live_nodes» «live_edges» outgoing incoming)
+        (now (bytes .entry)) (r .number) (r .value)
+        (at-exit (r .counts) nodes lows highs «live_nodes» «live_edges» outgoing incoming) ⌝ }
+{
+    read_within(
+        Limits::SKID,
+        counts,
+        nodes,
+        lows,
+        highs,
+        live_nodes,
+        live_edges,
+        outgoing,
+        incoming,
+        bytes,
+    )
 }

@@ -16,7 +16,8 @@ use Rattle.plain.specs.Compaction.{survivors}
 use Rattle.plain.specs.Bits.{least-width}
 use Rattle.plain.specs.Image.{image, record-width, edges-start}
 use Rattle.plain.specs.Memory.{Lengths, first-short, live-words, axis-length, exact}
-use Rattle.plain.specs.Calls.{Stripped, strip, judged-strip, judged-reply, fresh-state, within, fresh-within, fresh}
+use Rattle.plain.specs.Devices.{box}
+use Rattle.plain.specs.Calls.{Stripped, strip, judged-strip, judged-reply, fresh-state, within, fresh}
 use Rattle.plain.specs.Lotstrip.{lotstrip-capacities}
 use Rattle.plain.specs.WellFormed.{WellFormed}
 use Rattle.plain.specs.Laws.Width.{width-least}
@@ -94,18 +95,18 @@ module _ {nodes lows highs live-nodes live-edges outgoing incoming words entry :
     incoming = b .incoming-long i;
   }
 
-  fresh-done : fresh (exact lotstrip-capacities) ≡ record { number = 0; value = 0 }
-  unfolding fresh fresh-within within first-short
+  fresh-done : fresh box (exact lotstrip-capacities) ≡ record { number = 0; value = 0 }
+  unfolding fresh within first-short
   fresh-done = refl
 
   pub booking : {counts : Counts} {number value number' value' : ℕ} {v : Words} {exit : List ℕ}
-      → FreshOf (store counts nodes lows highs live-nodes live-edges outgoing incoming) number value
+      → FreshOf box (store counts nodes lows highs live-nodes live-edges outgoing incoming) number value
       → StripOf (store counts nodes lows highs live-nodes live-edges outgoing incoming) words entry number' value' v exit
       → Booked words entry v exit
   booking {counts} made done =
       let w = store counts nodes lows highs live-nodes live-edges outgoing incoming in
       let s = state-of (shape-of w) in
-      let checked = made .checked (ap (λ (a : Answer). a .number) (made .answered ∙ ap fresh (memory counts) ∙ fresh-done)) in
+      let checked = made .checked (ap (λ (a : Answer). a .number) (made .answered ∙ ap (fresh box) (memory counts) ∙ fresh-done)) in
       let caps = ap (λ (l : Lengths). l .capacities) (memory counts) in
       let room : 2 * length (operations words) ≤ length entry = rw length-operations (omega arith) in
       let is : stripped w words (length entry) ≡ record { number = 0; value = 0; words = booking-answers words; after = booked words } =

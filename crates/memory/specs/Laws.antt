@@ -5,29 +5,30 @@ use mathlib.Core.Logic.{⊎-elim}
 use mathlib.Core.List.{List, [], _∷_}
 use native.Mathlib.Omega.{arith}
 use lib.Dec.{leb}
-use borrow.Author.Tests.{le-leb}
+use borrow.Author.Tests.{le-leb, lt-leb, lt-ltb, le-ltb}
 use Rattle.plain.specs.declared.Answer.{Answer}
-use Rattle.plain.specs.Step.{Capacities}
+use Rattle.plain.specs.Numbers.{too-short}
 use Rattle.plain.specs.Image.{broken-image, nodes-in, edges-in}
 use Rattle.plain.specs.Memory.{Slice, Lengths, first-short, other-slices, live-words, axis-length}
-use Rattle.plain.specs.Calls.{short-answer, readable, reading-slices, fresh-within, read-within}
+use Rattle.plain.specs.Devices.{Device, Takes, Proper}
+use Rattle.plain.specs.Calls.{short-answer, within, fresh, readable, reading-slices, asked, reading, read-image}
 use Rattle.plain.specs.Laws.Booleans.{by-test, below-or-not}
-use Rattle.plain.specs.Laws.CallCases.{LongEnough, slice-fits, no-slice, FirstShort, one-short, long-or-short, nodes-above, edges-above, within-limits}
-use Rattle.memory.specs.Lengths.{lacking, reading-within}
+use Rattle.plain.specs.Laws.CallCases.{LongEnough, slice-fits, no-slice, one-short, long-or-short, nodes-above, edges-above, within-limits}
+use Rattle.memory.specs.Lengths.{lacking}
 
 -- ---- on the way to the answer
 
 -- a slice is judged after those that follow it
-then-lacking : (needs has : ℕ) (slices : List Slice) {rest answer : Answer} → rest ≡ short-answer (first-short slices) → answer ≡ lacking needs has rest
+then-lacking : (needs has : ℕ) (slices : List Slice) {rest answer : Answer} → rest ≡ short-answer (first-short slices) → answer ≡ lacking too-short needs has rest
     → answer ≡ short-answer (first-short (record { needs = needs; has = has } ∷ slices))
 unfolding lacking first-short
 then-lacking needs has slices is judged = judged ∙ by-test (leb needs has) (λ q. rw (q, is)) (λ q. rw q)
 
 -- every slice but those whose lengths are the capacities
 pub others-lacking : (l : Lengths) {axis edge-words node-words : ℕ} {incoming outgoing live-edges live-nodes highs : Answer} → axis ≡ axis-length (l .capacities)
-    → edge-words ≡ live-words (l .capacities .edges) → node-words ≡ live-words (l .capacities .nodes) → incoming ≡ lacking axis (l .incoming) (record { number = 0; value = 0 })
-    → outgoing ≡ lacking axis (l .outgoing) incoming → live-edges ≡ lacking edge-words (l .live-edges) outgoing → live-nodes ≡ lacking node-words (l .live-nodes) live-edges
-    → highs ≡ lacking (l .capacities .edges) (l .highs) live-nodes → highs ≡ short-answer (first-short (other-slices l))
+    → edge-words ≡ live-words (l .capacities .edges) → node-words ≡ live-words (l .capacities .nodes) → incoming ≡ lacking too-short axis (l .incoming) (record { number = 0; value = 0 })
+    → outgoing ≡ lacking too-short axis (l .outgoing) incoming → live-edges ≡ lacking too-short edge-words (l .live-edges) outgoing → live-nodes ≡ lacking too-short node-words (l .live-nodes) live-edges
+    → highs ≡ lacking too-short (l .capacities .edges) (l .highs) live-nodes → highs ≡ short-answer (first-short (other-slices l))
 unfolding first-short
 others-lacking l {incoming = incoming} {outgoing} {live-edges} axis-is edges-are nodes-are a b c d e =
     let ins : List Slice = record { needs = axis-length (l .capacities); has = l .incoming } ∷ [] in
@@ -37,111 +38,136 @@ others-lacking l {incoming = incoming} {outgoing} {live-edges} axis-is edges-are
     then-lacking (l .capacities .edges) (l .highs) nodes
     (then-lacking (live-words (l .capacities .nodes)) (l .live-nodes) edges
     (then-lacking (live-words (l .capacities .edges)) (l .live-edges) outs
-    (then-lacking (axis-length (l .capacities)) (l .outgoing) ins (then-lacking (axis-length (l .capacities)) (l .incoming) [] refl (a ∙ ap (λ (n : ℕ). lacking n (l .incoming) (record { number = 0; value = 0 })) axis-is))
-    (b ∙ ap (λ (n : ℕ). lacking n (l .outgoing) incoming) axis-is))
-    (c ∙ ap (λ (n : ℕ). lacking n (l .live-edges) outgoing) edges-are))
-    (d ∙ ap (λ (n : ℕ). lacking n (l .live-nodes) live-edges) nodes-are))
+    (then-lacking (axis-length (l .capacities)) (l .outgoing) ins (then-lacking (axis-length (l .capacities)) (l .incoming) [] refl (a ∙ ap (λ (n : ℕ). lacking too-short n (l .incoming) (record { number = 0; value = 0 })) axis-is))
+    (b ∙ ap (λ (n : ℕ). lacking too-short n (l .outgoing) incoming) axis-is))
+    (c ∙ ap (λ (n : ℕ). lacking too-short n (l .live-edges) outgoing) edges-are))
+    (d ∙ ap (λ (n : ℕ). lacking too-short n (l .live-nodes) live-edges) nodes-are))
     e
 
-module _ (most : Capacities) (number : ℕ) (l : Lengths) (rule n m : ℕ) where
-  pub read-nodes-above : most .nodes < l .capacities .nodes → record { number = number; value = l .capacities .nodes } ≡ reading-within most number l rule n m
-  unfolding reading-within
-  read-nodes-above h = sym (nodes-above most number (l .capacities) _ h)
+-- what a device takes is judged after the rest
+then-within : (device : Device) (n m : ℕ) (rest : Answer) {edges answer : Answer} → edges ≡ lacking (device .number) m (device .limits .edges) rest
+    → answer ≡ lacking (device .number) n (device .limits .nodes) edges → answer ≡ within device (asked n m) rest
+unfolding lacking within
+then-within device n m rest is judged =
+    judged ∙ ap (lacking (device .number) n (device .limits .nodes)) is
+    ∙ ⊎-elim (λ h. rw (lt-leb n (device .limits .nodes) h, lt-ltb (device .limits .nodes) n h))
+    (λ h. ⊎-elim
+    (λ k. rw (le-leb n (device .limits .nodes) h, le-ltb (device .limits .nodes) n h, lt-leb m (device .limits .edges) k, lt-ltb (device .limits .edges) m k))
+    (λ k. rw (le-leb n (device .limits .nodes) h, le-ltb (device .limits .nodes) n h, le-leb m (device .limits .edges) k, le-ltb (device .limits .edges) m k))
+    (below-or-not (device .limits .edges) m))
+    (below-or-not (device .limits .nodes) n)
 
-  module _ (few-nodes : l .capacities .nodes ≤ most .nodes) where
-    pub read-edges-above : most .edges < l .capacities .edges → record { number = number; value = l .capacities .edges } ≡ reading-within most number l rule n m
-    unfolding reading-within
-    read-edges-above h = sym (edges-above most number (l .capacities) _ few-nodes h)
+module _ (device : Device) (l : Lengths) (rule n m : ℕ) where
+  pub read-nodes-above : device .limits .nodes < l .capacities .nodes → record { number = device .number; value = l .capacities .nodes } ≡ reading device l rule n m
+  unfolding reading
+  read-nodes-above h = sym (nodes-above device (l .capacities) _ h)
 
-    module _ (few-edges : l .capacities .edges ≤ most .edges) where
-      pub read-broken : (rule ≡ 0 → ⊥) → record { number = 12; value = rule } ≡ reading-within most number l rule n m
-      unfolding reading-within
-      read-broken broke = sym (within-limits most number (l .capacities) _ few-nodes few-edges ∙ by-rule rule broke)
-        where
-          by-rule : (k : ℕ) → (k ≡ 0 → ⊥) → readable k (short-answer (first-short (reading-slices n m l))) ≡ record { number = 12; value = k }
-          by-rule zero z = absurd (z refl)
-          by-rule (suc k) z = refl
+  pub read-edges-above : l .capacities .nodes ≤ device .limits .nodes → device .limits .edges < l .capacities .edges
+      → record { number = device .number; value = l .capacities .edges } ≡ reading device l rule n m
+  unfolding reading
+  read-edges-above few h = sym (edges-above device (l .capacities) _ few h)
 
-      pub read-answered : {others edges answer : Answer} → rule ≡ 0 → others ≡ short-answer (first-short (other-slices l)) → edges ≡ lacking m (l .capacities .edges) others
-          → answer ≡ lacking n (l .capacities .nodes) edges → answer ≡ reading-within most number l rule n m
-      unfolding reading-within
-      read-answered none a b c =
-          then-lacking n (l .capacities .nodes) (record { needs = m; has = l .capacities .edges } ∷ other-slices l)
-          (then-lacking m (l .capacities .edges) (other-slices l) a b) c
-          ∙ sym (within-limits most number (l .capacities) _ few-nodes few-edges ∙ rw none)
+  module _ (takes : Takes device (l .capacities)) where
+    pub read-broken : (rule ≡ 0 → ⊥) → record { number = 12; value = rule } ≡ reading device l rule n m
+    unfolding reading
+    read-broken broke = sym (within-limits device (l .capacities) _ takes ∙ by-rule rule _ broke)
+      where
+        by-rule : (k : ℕ) (rest : Answer) → (k ≡ 0 → ⊥) → readable k rest ≡ record { number = 12; value = k }
+        by-rule zero rest z = absurd (z refl)
+        by-rule (suc k) rest z = refl
+
+    pub read-answered : {others edges nodes edges-taken answer : Answer} → rule ≡ 0 → others ≡ short-answer (first-short (other-slices l))
+        → edges ≡ lacking too-short m (l .capacities .edges) others → nodes ≡ lacking too-short n (l .capacities .nodes) edges
+        → edges-taken ≡ lacking (device .number) m (device .limits .edges) nodes → answer ≡ lacking (device .number) n (device .limits .nodes) edges-taken
+        → answer ≡ reading device l rule n m
+    unfolding reading
+    read-answered {nodes = nodes} none a b c d e =
+        let there = then-lacking n (l .capacities .nodes) (record { needs = m; has = l .capacities .edges } ∷ other-slices l)
+        (then-lacking m (l .capacities .edges) (other-slices l) a b) c in
+        then-within device n m nodes d e ∙ ap (within device (asked n m)) there
+        ∙ sym (within-limits device (l .capacities) _ takes ∙ rw none)
 
 -- making a store is reading an image of nothing
-pub fresh-reads : (most : Capacities) (number : ℕ) (l : Lengths) → reading-within most number l 0 0 0 ≡ fresh-within most number l
-unfolding reading-within fresh-within first-short
-fresh-reads most number l = rw (le-leb 0 (l .capacities .nodes) (omega arith), le-leb 0 (l .capacities .edges) (omega arith))
-
--- and a reading is by the image's first broken rule and its counts
-pub bytes-read : (most : Capacities) (number : ℕ) (l : Lengths) (bytes : List ℕ)
-    → reading-within most number l (broken-image bytes) (nodes-in bytes) (edges-in bytes) ≡ read-within most number l bytes
-unfolding reading-within read-within
-bytes-read most number l bytes = refl
+pub fresh-reads : (device : Device) (l : Lengths) → reading device l 0 0 0 ≡ fresh device l
+unfolding reading fresh first-short
+fresh-reads device l =
+    ap (within device (l .capacities)) (within-limits device (asked 0 0) _ (record { nodes = omega arith; edges = omega arith })
+    ∙ rw (le-leb 0 (l .capacities .nodes) (omega arith), le-leb 0 (l .capacities .edges) (omega arith)))
 
 -- of an image that is broken the counts are not looked at
-pub broken-read : (most : Capacities) (number : ℕ) (l : Lengths) (rule n m n' m' : ℕ) → (rule ≡ 0 → ⊥)
-    → reading-within most number l rule n m ≡ reading-within most number l rule n' m'
-unfolding reading-within
-broken-read most number l zero n m n' m' broke = absurd (broke refl)
-broken-read most number l (suc rule) n m n' m' broke = refl
+pub broken-read : (device : Device) (l : Lengths) (rule n m n' m' : ℕ) → (rule ≡ 0 → ⊥) → reading device l rule n m ≡ reading device l rule n' m'
+unfolding reading
+broken-read device l zero n m n' m' broke = absurd (broke refl)
+broken-read device l (suc rule) n m n' m' broke = refl
 
 -- ---- where the answer is 0
 
--- The capacities are within the limits, and every other slice is long enough.
-pub record Roomy (most : Capacities) (l : Lengths) : Type 0 where
-  pub few-nodes : l .capacities .nodes ≤ most .nodes
-  pub few-edges : l .capacities .edges ≤ most .edges
+-- Every slice whose length is no capacity is long enough.
+pub record Roomy (l : Lengths) : Type 0 where
   pub highs-room : l .capacities .edges ≤ l .highs
   pub live-nodes-room : live-words (l .capacities .nodes) ≤ l .live-nodes
   pub live-edges-room : live-words (l .capacities .edges) ≤ l .live-edges
   pub outgoing-room : axis-length (l .capacities) ≤ l .outgoing
   pub incoming-room : axis-length (l .capacities) ≤ l .incoming
 
--- The same for an image that is not broken, whose counts are within the capacities.
-pub record RoomyFor (most : Capacities) (l : Lengths) (rule n m : ℕ) : Type 0 where
-  pub roomy : Roomy most l
+-- Besides, the device takes the capacities, and these have room for an image that is not broken.
+pub record RoomyFor (device : Device) (l : Lengths) (rule n m : ℕ) : Type 0 where
+  pub takes : Takes device (l .capacities)
+  pub roomy : Roomy l
   pub unbroken : rule ≡ 0
   pub nodes-room : n ≤ l .capacities .nodes
   pub edges-room : m ≤ l .capacities .edges
 
-module _ (most : Capacities) (number : ℕ) (some-number : number ≡ 0 → ⊥) (l : Lengths) (rule n m : ℕ) (done : reading-within most number l rule n m .number ≡ 0) where
+module _ {device : Device} (p : Proper device) (l : Lengths) (rule n m : ℕ) (done : reading device l rule n m .number ≡ 0) where
   -- an answer of another number is none
-  other : (a : Answer) → a ≡ reading-within most number l rule n m → (a .number ≡ 0 → ⊥) → ⊥
+  other : (a : Answer) → a ≡ reading device l rule n m → (a .number ≡ 0 → ⊥) → ⊥
   other a is refused = refused (ap (λ (a : Answer). a .number) is ∙ done)
 
-  few-nodes : l .capacities .nodes ≤ most .nodes
-  few-nodes = ⊎-elim (λ h. absurd (other _ (read-nodes-above most number l rule n m h) some-number)) (λ h. h) (below-or-not (most .nodes) (l .capacities .nodes))
+  few-nodes : l .capacities .nodes ≤ device .limits .nodes
+  few-nodes = ⊎-elim (λ h. absurd (other _ (read-nodes-above device l rule n m h) (p .refuses))) (λ h. h) (below-or-not (device .limits .nodes) (l .capacities .nodes))
 
-  few-edges : l .capacities .edges ≤ most .edges
-  few-edges = ⊎-elim (λ h. absurd (other _ (read-edges-above most number l rule n m few-nodes h) some-number)) (λ h. h) (below-or-not (most .edges) (l .capacities .edges))
+  few-edges : l .capacities .edges ≤ device .limits .edges
+  few-edges =
+      ⊎-elim (λ h. absurd (other _ (read-edges-above device l rule n m few-nodes h) (p .refuses))) (λ h. h) (below-or-not (device .limits .edges) (l .capacities .edges))
+
+  taken : Takes device (l .capacities)
+  taken = record { nodes = few-nodes; edges = few-edges }
 
   unbroken : rule ≡ 0
   unbroken = by-rule rule refl
     where
       by-rule : (k : ℕ) → k ≡ rule → rule ≡ 0
       by-rule zero is = sym is
-      by-rule (suc k) is = absurd (other _ (read-broken most number l rule n m few-nodes few-edges (λ q. omega arith)) (λ q. omega arith))
+      by-rule (suc k) is = absurd (other _ (read-broken device l rule n m taken (λ q. omega arith)) (λ q. omega arith))
 
-  short-told : (needed : ℕ) → FirstShort (reading-slices n m l) needed → record { number = 2; value = needed } ≡ reading-within most number l rule n m
-  unfolding reading-within
-  short-told needed s = sym (within-limits most number (l .capacities) _ few-nodes few-edges ∙ rw (unbroken, one-short s))
+  -- what is said of an image that is not broken
+  image-told : {answer : Answer} → within device (asked n m) (short-answer (first-short (reading-slices n m l))) ≡ answer → answer ≡ reading device l rule n m
+  unfolding reading
+  image-told is = sym (within-limits device (l .capacities) _ taken ∙ rw unbroken is)
+
+  asked-nodes : n ≤ device .limits .nodes
+  asked-nodes =
+      ⊎-elim (λ h. absurd (other _ (image-told (nodes-above device (asked n m) _ h)) (p .refuses))) (λ h. h) (below-or-not (device .limits .nodes) n)
+
+  asked-edges : m ≤ device .limits .edges
+  asked-edges =
+      ⊎-elim (λ h. absurd (other _ (image-told (edges-above device (asked n m) _ asked-nodes h)) (p .refuses))) (λ h. h) (below-or-not (device .limits .edges) m)
 
   long : LongEnough (reading-slices n m l)
   long =
-      ⊎-elim (λ h. h) (λ short. absurd (other _ (short-told (short .0) (short .1)) (λ q. omega arith)))
+      ⊎-elim (λ h. h)
+      (λ short. absurd (other (record { number = 2; value = short .0 })
+      (image-told (within-limits device (asked n m) _ (record { nodes = asked-nodes; edges = asked-edges }) ∙ ap short-answer (one-short (short .1))))
+      (λ q. omega arith)))
       (long-or-short (reading-slices n m l))
 
-  pub roomy-for : RoomyFor most l rule n m
+  pub roomy-for : RoomyFor device l rule n m
   roomy-for = each long
     where
-      each : LongEnough (reading-slices n m l) → RoomyFor most l rule n m
+      each : LongEnough (reading-slices n m l) → RoomyFor device l rule n m
       each (slice-fits nodes (slice-fits edges (slice-fits highs (slice-fits live-nodes (slice-fits live-edges (slice-fits outgoing (slice-fits incoming no-slice))))))) = record {
+        takes = taken;
         roomy = record {
-          few-nodes = few-nodes;
-          few-edges = few-edges;
           highs-room = highs;
           live-nodes-room = live-nodes;
           live-edges-room = live-edges;
@@ -152,3 +178,13 @@ module _ (most : Capacities) (number : ℕ) (some-number : number ≡ 0 → ⊥)
         nodes-room = nodes;
         edges-room = edges;
       }
+
+-- of making a store
+pub fresh-roomy : {device : Device} → Proper device → (l : Lengths) → fresh device l .number ≡ 0 → RoomyFor device l 0 0 0
+fresh-roomy {device} p l done = roomy-for p l 0 0 0 (ap (λ (a : Answer). a .number) (fresh-reads device l) ∙ done)
+
+-- and of reading bytes
+pub read-roomy : {device : Device} → Proper device → (l : Lengths) (bytes : List ℕ) → read-image device l bytes .number ≡ 0
+    → RoomyFor device l (broken-image bytes) (nodes-in bytes) (edges-in bytes)
+unfolding read-image
+read-roomy p l bytes done = roomy-for p l (broken-image bytes) (nodes-in bytes) (edges-in bytes) done

@@ -1,12 +1,11 @@
--- What the functions on lengths promise: the lengths and limits of the program as those of the definitions, and the answer of a reading by numbers alone.
+-- What the functions on lengths promise: the lengths and limits of the program as the lengths and the device of the definitions.
 use Prim.Native.Nat.{ℕ, _^_, _<_}
 use mathlib.Core.Bool.{cond}
 use lib.Dec.{leb}
 use Rattle.plain.specs.declared.Answer.{Answer}
-use Rattle.plain.specs.Numbers.{too-short}
 use Rattle.plain.specs.Step.{Capacities}
-use Rattle.plain.specs.Memory.{Lengths, first-short}
-use Rattle.plain.specs.Calls.{within, short-answer, readable, reading-slices}
+use Rattle.plain.specs.Memory.{Lengths}
+use Rattle.plain.specs.Devices.{Device}
 use Rattle.memory.specs.declared.Lengths.{Lengths as Measures}
 use Rattle.memory.specs.declared.Limits.{Limits}
 
@@ -27,8 +26,9 @@ lengths nodes lows highs live-nodes live-edges outgoing incoming = record {
 abbrev pub measured : Measures → Lengths
 measured l = lengths (l .nodes) (l .lows) (l .highs) (l .«live_nodes») (l .«live_edges») (l .outgoing) (l .incoming)
 
-abbrev pub limits-of : Limits → Capacities
-limits-of l = caps (l .nodes) (l .edges)
+-- the device of these limits
+abbrev pub device-of : Limits → Device
+device-of l = record { limits = caps (l .nodes) (l .edges); number = l .number }
 
 -- Slots of 32 bits: no length needed wraps.
 pub record FewSlots (slots : ℕ) : Type 0 where
@@ -38,10 +38,6 @@ pub record Few (nodes edges : ℕ) : Type 0 where
   pub nodes-few : FewSlots nodes
   pub edges-few : FewSlots edges
 
--- 2 where a slice is shorter than it needs to be, else as it goes on
-unfoldable pub lacking : ℕ → ℕ → Answer → Answer
-lacking needs has rest = cond (leb needs has) rest (record { number = too-short; value = needs })
-
--- the answer of a reading, by the image's first broken rule and its two counts
-unfoldable pub reading-within : Capacities → ℕ → Lengths → ℕ → ℕ → ℕ → Answer
-reading-within limits number l rule n m = within limits number (l .capacities) (readable rule (short-answer (first-short (reading-slices n m l))))
+-- refused with the number where there is less than is needed, else as it goes on
+unfoldable pub lacking : ℕ → ℕ → ℕ → Answer → Answer
+lacking number needs has rest = cond (leb needs has) rest (record { number = number; value = needs })

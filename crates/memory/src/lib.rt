@@ -6,8 +6,8 @@ use plain::LIMIT;
 use plain::numbers;
 ghost use mathlib.Core.Path.{_≡_};
 ghost use Rattle.plain.specs.Memory.{first-short, other-slices, live-words, axis-length};
-ghost use Rattle.plain.specs.Calls.{fresh-within, short-answer};
-ghost use Rattle.memory.specs.Lengths.{caps, measured, limits-of, lacking as lacking-of, Few, FewSlots, reading-within};
+ghost use Rattle.plain.specs.Calls.{fresh, short-answer, reading};
+ghost use Rattle.memory.specs.Lengths.{caps, measured, device-of, lacking as lacking-of, Few, FewSlots};
 
 // The lengths of a store's slices, in parameter order. Those of the nodes' payloads and of the edges' lows are the capacities.
 pub struct Lengths {
@@ -34,6 +34,13 @@ impl Limits {
         edges: LIMIT,
         number: numbers::ABOVE_LIMIT,
     };
+
+    // "64 lots and 128 transfers", "It refuses with 15"
+    pub const SKID: Limits = Limits {
+        nodes: 64,
+        edges: 128,
+        number: numbers::ABOVE_SKID,
+    };
 }
 
 // The live words of so many slots.
@@ -52,15 +59,15 @@ pub fn axis_length(nodes: usize, edges: usize) -> usize
     4 * edges + 6 * nodes + 1
 }
 
-// The answer, or "a lent slice too short | 2 | length needed".
-fn lacking(needs: usize, has: usize, rest: Answer) -> Answer
-    ensures { λ r. ⌜ r ≡ lacking-of needs has rest ⌝ }
+// The answer, or the refusal of a need above what there is, with the value asked for: a slice too short, or more than a device takes.
+fn lacking(number: u32, needs: usize, has: usize, rest: Answer) -> Answer
+    ensures { λ r. ⌜ r ≡ lacking-of number needs has rest ⌝ }
 {
     if needs <= has {
         return rest;
     }
     Answer {
-        number: numbers::TOO_SHORT,
+        number,
         value: needs as u64,
     }
 }
@@ -75,14 +82,25 @@ fn others(lengths: Lengths) -> Answer
         value: 0,
     };
     let axis = axis_length(lengths.nodes, lengths.lows);
-    let incoming = lacking(axis, lengths.incoming, done);
-    let outgoing = lacking(axis, lengths.outgoing, incoming);
-    let live_edges = lacking(live_words(lengths.lows), lengths.live_edges, outgoing);
-    let live_nodes = lacking(live_words(lengths.nodes), lengths.live_nodes, live_edges);
-    lacking(lengths.lows, lengths.highs, live_nodes)
+    let incoming = lacking(numbers::TOO_SHORT, axis, lengths.incoming, done);
+    let outgoing = lacking(numbers::TOO_SHORT, axis, lengths.outgoing, incoming);
+    let live_edges = lacking(
+        numbers::TOO_SHORT,
+        live_words(lengths.lows),
+        lengths.live_edges,
+        outgoing,
+    );
+    let live_nodes = lacking(
+        numbers::TOO_SHORT,
+        live_words(lengths.nodes),
+        lengths.live_nodes,
+        live_edges,
+    );
+    lacking(numbers::TOO_SHORT, lengths.lows, lengths.highs, live_nodes)
 }
 
-// The answer of reading an image into memory of these lengths, by the image's first broken rule, 0 for none, and its two counts: the limits, 12, 2.
+// The answer of reading an image into memory of these lengths, by the image's first broken rule, 0 for none, and its two counts: the limits of the memory, 12, the limits
+// of the image, 2.
 pub fn reading_answer(
     limits: Limits,
     lengths: Lengths,
@@ -90,17 +108,19 @@ pub fn reading_answer(
     count_nodes: u32,
     count_edges: u32,
 ) -> Answer
-    ensures { λ r. ⌜ r ≡ reading-within (limits-of limits) (limits .number) (measured lengths) rule «count_nodes» «count_edges» ⌝ }
+    ensures { λ r. ⌜ r ≡ reading (device-of limits) (measured lengths) rule «count_nodes» «count_edges» ⌝ }
 {
     let nodes = lengths.nodes;
     let edges = lengths.lows;
-    if (limits.nodes as usize) < nodes {
+    let most_nodes = limits.nodes as usize;
+    let most_edges = limits.edges as usize;
+    if most_nodes < nodes {
         return Answer {
             number: limits.number,
             value: nodes as u64,
         };
     }
-    if (limits.edges as usize) < edges {
+    if most_edges < edges {
         return Answer {
             number: limits.number,
             value: edges as u64,
@@ -112,14 +132,18 @@ pub fn reading_answer(
             value: rule as u64,
         };
     }
+    let asked_nodes = count_nodes as usize;
+    let asked_edges = count_edges as usize;
     let rest = others(lengths);
-    let edges_there = lacking(count_edges as usize, edges, rest);
-    lacking(count_nodes as usize, nodes, edges_there)
+    let edges_there = lacking(numbers::TOO_SHORT, asked_edges, edges, rest);
+    let nodes_there = lacking(numbers::TOO_SHORT, asked_nodes, nodes, edges_there);
+    let edges_taken = lacking(limits.number, asked_edges, most_edges, nodes_there);
+    lacking(limits.number, asked_nodes, most_nodes, edges_taken)
 }
 
 // The answer of making a store in memory of these lengths: the limits, then 2. It is that of an image of nothing.
 pub fn fresh_answer(limits: Limits, lengths: Lengths) -> Answer
-    ensures { λ r. ⌜ r ≡ fresh-within (limits-of limits) (limits .number) (measured lengths) ⌝ }
+    ensures { λ r. ⌜ r ≡ fresh (device-of limits) (measured lengths) ⌝ }
 {
     reading_answer(limits, lengths, 0, 0, 0)
 }

@@ -9,7 +9,7 @@ use lib.Dec.{eqb, ltb}
 use Rattle.plain.specs.declared.Answer.{Answer}
 use Rattle.plain.specs.declared.Record.{Record}
 use Rattle.plain.specs.declared.Total.{Total}
-use Rattle.plain.specs.Numbers.{LIMIT, done, no-store, too-short, ragged, unreadable, above-limit}
+use Rattle.plain.specs.Numbers.{done, no-store, too-short, ragged, unreadable}
 use Rattle.plain.specs.Plain.{Plain, empty, node-bound, edge-bound, node-flags, edge-flags}
 use Rattle.plain.specs.Operations.{operations, operation-words}
 use Rattle.plain.specs.Step.{Capacities, State, run, answers}
@@ -17,6 +17,7 @@ use Rattle.plain.specs.Reads.{Reply, lent, live-edges, no-record, no-tot
 use Rattle.plain.specs.Compaction.{survivors, of-survivors, compacted, renumbering, adjacency}
 use Rattle.plain.specs.Image.{image, parsed, broken-image, nodes-in, edges-in}
 use Rattle.plain.specs.Memory.{Slice, first-short, Lengths, other-slices}
+use Rattle.plain.specs.Devices.{Device}
 
 -- ---- number 1
 
@@ -74,22 +75,15 @@ abbrev pub short-answer : Option ℕ → Answer
 short-answer none = record { number = done; value = 0 }
 short-answer (some needed) = record { number = too-short; value = needed }
 
--- refused with `number` where a capacity is above its limit, "nodes before edges"; else as it goes on
-unfoldable pub within : Capacities → ℕ → Capacities → Answer → Answer
-within limits number caps answer =
-    cond (ltb (limits .nodes) (caps .nodes)) (record { number = number; value = caps .nodes })
-    (cond (ltb (limits .edges) (caps .edges)) (record { number = number; value = caps .edges }) answer)
+-- refused with the device's number where more nodes or edges are asked for than it takes, "nodes before edges"; else as it goes on
+unfoldable pub within : Device → Capacities → Answer → Answer
+within device caps answer =
+    cond (ltb (device .limits .nodes) (caps .nodes)) (record { number = device .number; value = caps .nodes })
+    (cond (ltb (device .limits .edges) (caps .edges)) (record { number = device .number; value = caps .edges }) answer)
 
--- "Fresh: 13, nodes before edges, then 2." Done, the state is `fresh-state`.
-unfoldable pub fresh-within : Capacities → ℕ → Lengths → Answer
-fresh-within limits number l = within limits number (l .capacities) (short-answer (first-short (other-slices l)))
-
--- "capacity above 32,768 | 13 | that capacity | everything"
-abbrev pub limits : Capacities
-limits = record { nodes = LIMIT; edges = LIMIT }
-
-unfoldable pub fresh : Lengths → Answer
-fresh l = fresh-within limits above-limit l
+-- "Fresh: 13, nodes before edges, then 2"; on the skid 15 "in place of 13 when lent memory exceeds its limits". Done, the state is `fresh-state`.
+unfoldable pub fresh : Device → Lengths → Answer
+fresh device l = within device (l .capacities) (short-answer (first-short (other-slices l)))
 
 -- ---- compaction
 
@@ -152,14 +146,21 @@ abbrev pub reading-slices : ℕ → ℕ → Lengths → List Slice
 reading-slices n m l =
     record { needs = n; has = l .capacities .nodes } ∷ record { needs = m; has = l .capacities .edges } ∷ other-slices l
 
--- "Reading: 13, 12, 2 (13 and 2 nodes before edges ..)."
-unfoldable pub read-within : Capacities → ℕ → Lengths → List ℕ → Answer
-read-within limits number l bytes =
-    within limits number (l .capacities)
-    (readable (broken-image bytes) (short-answer (first-short (reading-slices (nodes-in bytes) (edges-in bytes) l))))
+-- what an image of these counts asks of a device
+abbrev pub asked : ℕ → ℕ → Capacities
+asked n m = record { nodes = n; edges = m }
 
-unfoldable pub read-image : Lengths → List ℕ → Answer
-read-image l bytes = read-within limits above-limit l bytes
+-- "Reading: 13, 12, 2 (13 and 2 nodes before edges ..)", by the image's first broken rule and its two counts. On the skid it is 15 "and the value asked for, lots before
+-- transfers, in place of 13 when lent memory exceeds its limits, and right after 12 when an image does". A box refuses no image so: rule 2 of 12 has (law `boxes-read`).
+unfoldable pub reading : Device → Lengths → ℕ → ℕ → ℕ → Answer
+reading device l rule n m =
+    within device (l .capacities)
+    (readable rule
+    (within device (asked n m)
+    (short-answer (first-short (reading-slices n m l)))))
+
+unfoldable pub read-image : Device → Lengths → List ℕ → Answer
+read-image device l bytes = reading device l (broken-image bytes) (nodes-in bytes) (edges-in bytes)
 
 -- the state that reading leaves where it is done: "image reading puts the image's nodes, edges and lists in place of all, the bounds being its two counts",
 -- "and the result equals what compaction leaves"

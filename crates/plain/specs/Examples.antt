@@ -1,7 +1,8 @@
 -- Document 01, "Proof by example": M1 to M12 in a single list, proved by computation from the definitions; those after them are of document 02.
-use Prim.Native.Nat.{ℕ}
+use Prim.Native.Nat.{ℕ, _*_}
 use mathlib.Core.Path.{_≡_, refl}
 use mathlib.Core.List.{List, [], _∷_, _++_}
+use lib.ListN.{replicate}
 use Rattle.plain.specs.declared.TraversalDirection.the-variants.{Outgoing, Incoming}
 use Rattle.plain.specs.Numbers.{NONE}
 use Rattle.plain.specs.Lists.{member, without, distinct, sum, from, keep, all, count, joined, append-at, delete-at, set-all}
@@ -13,16 +14,21 @@ use Rattle.plain.specs.Renumbering.{lookup, composed, compose}
 use Rattle.plain.specs.Compaction.{rank, renumbering-from, survivors, of-survivors, compacted, adjacency}
 use Rattle.plain.specs.Bits.{bits-of, value-of, bits, field-at, fields-at, row, bytes-of, pack, least-from, least-width}
 use Rattle.plain.specs.Image.{edge-bits, image-bits, image, records-at, cut, parsed, at-their-nodes, lists-right, broken-image}
-use Rattle.plain.specs.Memory.{first-short, exact}
-use Rattle.plain.specs.Calls.{strip, fresh-state, within, fresh-within, fresh, compaction, write-image, read-within, read-image}
+use Rattle.plain.specs.Memory.{Lengths, first-short, exact}
+use Rattle.plain.specs.Devices.{box, skid}
+use Rattle.plain.specs.Calls.{strip, fresh-state, within, fresh, compaction, write-image, reading, read-image}
 use Rattle.plain.specs.Lotstrip.{words-of, codes, digits-before, hexadecimal, answer-lines, lotstrip-run, lotstrip}
-use Rattle.plain.specs.History.{Call, Strip, Compaction, history-from, history, call}
+use Rattle.plain.specs.History.{Call, Strip, Compaction, history-from, history as history-on, call}
 
 abbrev capacities : ℕ → ℕ → Capacities
 capacities nodes edges = record { nodes = nodes; edges = edges }
 
 abbrev small : Capacities
 small = capacities 8 8
+
+-- the history of calls on a box
+abbrev history : Capacities → List Call → State
+history caps calls = history-on box caps calls
 
 -- an operation's five words, and its twenty bytes where each word is below 256
 abbrev op : ℕ → ℕ → ℕ → ℕ → ℕ → List ℕ
@@ -70,6 +76,14 @@ weights = op 1 0 0 7 0 ++ (op 1 0 0 9 0 ++ (op 2 0 1 5 8 ++ (op 2 0 1 100 200 ++
 abbrev one-range : List Call
 one-range = booked (op 1 0 0 7 0 ++ op 2 0 0 5 8) ∷ Compaction 1 1 2 ∷ []
 
+-- an image of n lots without a transfer, n below 256
+abbrev lots : ℕ → List ℕ
+lots n = 0 ∷ n ∷ 0 ∷ 0 ∷ replicate {A = ℕ} (4 * n) 0
+
+-- memory for all that the skid takes
+abbrev whole-skid : Lengths
+whole-skid = exact (capacities 64 128)
+
 -- M12's input
 abbrev sample : List ℕ
 sample = input 1 0 0 7 0 ++ (input 1 0 0 9 0 ++ (input 2 0 1 5 5 ++ (input 2 0 1 6 6 ++ (input 5 0 1 0 0 ++ input 5 0 0 0 0))))
@@ -104,15 +118,15 @@ pub record Examples : Type 0 where
   -- M10 walk of two into one word: 2, value 2.
   pub m10 : walk Outgoing (after first-removed .lists) 0 1 ≡ record { number = 2; value = 2; words = [] }
   -- M11 image 00 00 00 01: 12, rule 3; with eight more zero bytes rule 5. Capacity 32,768 is taken, 32,769 gives 13.
-  pub m11 : (read-image (exact small) (0 ∷ 0 ∷ 0 ∷ 1 ∷ []) ≡ record { number = 12; value = 3 })
-      × (read-image (exact small) (0 ∷ 0 ∷ 0 ∷ 1 ∷ 0 ∷ 0 ∷ 0 ∷ 0 ∷ 0 ∷ 0 ∷ 0 ∷ 0 ∷ []) ≡ record { number = 12; value = 5 })
-      × (fresh (exact (capacities 32_768 32_768)) ≡ record { number = 0; value = 0 })
-      × (fresh (exact (capacities 32_769 32_768)) ≡ record { number = 13; value = 32_769 })
-      × (fresh (exact (capacities 32_768 32_769)) ≡ record { number = 13; value = 32_769 })
+  pub m11 : (read-image box (exact small) (0 ∷ 0 ∷ 0 ∷ 1 ∷ []) ≡ record { number = 12; value = 3 })
+      × (read-image box (exact small) (0 ∷ 0 ∷ 0 ∷ 1 ∷ 0 ∷ 0 ∷ 0 ∷ 0 ∷ 0 ∷ 0 ∷ 0 ∷ 0 ∷ []) ≡ record { number = 12; value = 5 })
+      × (fresh box (exact (capacities 32_768 32_768)) ≡ record { number = 0; value = 0 })
+      × (fresh box (exact (capacities 32_769 32_768)) ≡ record { number = 13; value = 32_769 })
+      × (fresh box (exact (capacities 32_768 32_769)) ≡ record { number = 13; value = 32_769 })
       -- likewise for reading, where 13 comes before 12
-      × (read-image (exact (capacities 32_768 32_768)) (0 ∷ 0 ∷ 0 ∷ 0 ∷ []) ≡ record { number = 0; value = 0 })
-      × (read-image (exact (capacities 32_769 32_768)) (0 ∷ 0 ∷ 0 ∷ 1 ∷ []) ≡ record { number = 13; value = 32_769 })
-      × (read-image (exact (capacities 32_768 32_769)) (0 ∷ 0 ∷ 0 ∷ 1 ∷ []) ≡ record { number = 13; value = 32_769 })
+      × (read-image box (exact (capacities 32_768 32_768)) (0 ∷ 0 ∷ 0 ∷ 0 ∷ []) ≡ record { number = 0; value = 0 })
+      × (read-image box (exact (capacities 32_769 32_768)) (0 ∷ 0 ∷ 0 ∷ 1 ∷ []) ≡ record { number = 13; value = 32_769 })
+      × (read-image box (exact (capacities 32_768 32_769)) (0 ∷ 0 ∷ 0 ∷ 1 ∷ []) ≡ record { number = 13; value = 32_769 })
   -- M12: the program `lotstrip`.
   pub m12 : lotstrip sample
       ≡ codes "0 0 0\n1 0 1\n2 0 0\n3 0 1\n4 0 0\n5 0 1\n0002000200000007000000094000000140000001500000006000000069\n"
@@ -141,10 +155,34 @@ pub record Examples : Type 0 where
       })
       × (write-image (history small (booked first-removed ∷ Compaction 1 3 4 ∷ []) .lists) 4 25 ≡ write-image (after first-removed .lists) 4 25)
   -- Of the slices whose lengths are no capacities that of the highs comes first.
-  pub highs-first : fresh (record { capacities = capacities 8 9; highs = 8; live-nodes = 0; live-edges = 1; outgoing = 85; incoming = 85 }) ≡ record { number = 2; value = 9 }
+  pub highs-first : fresh box (record { capacities = capacities 8 9; highs = 8; live-nodes = 0; live-edges = 1; outgoing = 85; incoming = 85 }) ≡ record { number = 2; value = 9 }
+  -- Document 02, No. 7: the skid takes 64 lots and 128 transfers; 65 or 129 it refuses with 15 and the value asked for, lots before transfers.
+  pub skid-fresh : (fresh skid (exact (capacities 64 128)) ≡ record { number = 0; value = 0 })
+      × (fresh skid (exact (capacities 65 128)) ≡ record { number = 15; value = 65 })
+      × (fresh skid (exact (capacities 64 129)) ≡ record { number = 15; value = 129 })
+      × (fresh skid (exact (capacities 65 129)) ≡ record { number = 15; value = 65 })
+      × (fresh skid (record { capacities = capacities 64 129; highs = 0; live-nodes = 0; live-edges = 0; outgoing = 0; incoming = 0 }) ≡ record { number = 15; value = 129 })
+      × (fresh skid (record { capacities = capacities 64 128; highs = 0; live-nodes = 0; live-edges = 0; outgoing = 0; incoming = 0 }) ≡ record { number = 2; value = 128 })
+  -- Reading on it: 64 lots are taken, 65 refused; of transfers likewise, by the rule 0 and the counts of an image (of an image's bytes
+  -- `skid-refuses-129` of Laws/Devices), lots before transfers.
+  pub skid-reading : (read-image skid whole-skid (lots 64) ≡ record { number = 0; value = 0 })
+      × (read-image skid whole-skid (lots 65) ≡ record { number = 15; value = 65 })
+      × (reading skid whole-skid 0 64 128 ≡ record { number = 0; value = 0 })
+      × (reading skid whole-skid 0 64 129 ≡ record { number = 15; value = 129 })
+      × (reading skid whole-skid 0 65 129 ≡ record { number = 15; value = 65 })
+      -- right after 12: 65 lots, and no byte of theirs
+      × (read-image skid whole-skid (0 ∷ 65 ∷ 0 ∷ 0 ∷ []) ≡ record { number = 12; value = 3 })
+      -- before 2
+      × (read-image skid (exact small) (lots 65) ≡ record { number = 15; value = 65 })
+      × (read-image skid (exact small) (lots 64) ≡ record { number = 2; value = 64 })
+      -- the lent memory before 12, "in place of 13"
+      × (read-image skid (exact (capacities 65 129)) (0 ∷ 65 ∷ 0 ∷ 0 ∷ []) ≡ record { number = 15; value = 65 })
+      × (read-image skid (exact (capacities 64 129)) (0 ∷ 65 ∷ 0 ∷ 0 ∷ []) ≡ record { number = 15; value = 129 })
+      -- a box takes it
+      × (read-image box (exact (capacities 65 8)) (lots 65) ≡ record { number = 0; value = 0 })
 
 pub examples : Examples
-unfolding member without distinct sum from keep all count joined append-at delete-at set-all node-added edge-added edge-removed edges-removed node-removed redirected moved payload-set unused decoded operations step run answers walk is-compact node-bound-answer edge-bound-answer contains-node contains-edge live-from find total lookup composed compose rank renumbering-from survivors of-survivors compacted adjacency bits-of value-of bits field-at fields-at row bytes-of pack least-from least-width edge-bits image-bits image records-at cut parsed at-their-nodes lists-right broken-image first-short strip within fresh-within fresh compaction write-image read-within read-image words-of codes digits-before hexadecimal answer-lines lotstrip-run lotstrip history-from history call
+unfolding member without distinct sum from keep all count joined append-at delete-at set-all node-added edge-added edge-removed edges-removed node-removed redirected moved payload-set unused decoded operations step run answers walk is-compact node-bound-answer edge-bound-answer contains-node contains-edge live-from find total lookup composed compose rank renumbering-from survivors of-survivors compacted adjacency bits-of value-of bits field-at fields-at row bytes-of pack least-from least-width edge-bits image-bits image records-at cut parsed at-their-nodes lists-right broken-image first-short strip within fresh compaction write-image reading read-image words-of codes digits-before hexadecimal answer-lines lotstrip-run lotstrip history-from history-on call
 examples = record {
   m1 = (refl, refl, refl);
   m2 = refl;
@@ -164,4 +202,6 @@ examples = record {
   low-then-high = refl;
   working-image = (refl, refl, refl, refl);
   highs-first = refl;
+  skid-fresh = (refl, refl, refl, refl, refl, refl);
+  skid-reading = (refl, refl, refl, refl, refl, refl, refl, refl, refl, refl, refl);
 }

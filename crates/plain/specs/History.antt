@@ -1,12 +1,14 @@
 -- Whole histories: a list of strips, compactions and image readings from a fresh store. Document 01, "Demand 3": "It is one claim about two whole lists of
 -- calls, not one for each call. Every number answered in them follows from the plain lists and the calls' arguments, lengths included, never from the store's
--- counts or words; a refused call or operation leaves the plain lists and the store as they were." What a field is stands with the store's shape.
+-- counts or words; a refused call or operation leaves the plain lists and the store as they were." What a field is stands with the store's shape. A history is one on a
+-- device, which readings ask for.
 use Prim.Native.Nat.{ℕ}
 use mathlib.Core.Bool.{cond}
 use mathlib.Core.List.{List, [], _∷_}
 use lib.Dec.{eqb}
 use Rattle.plain.specs.Step.{Capacities, State}
 use Rattle.plain.specs.Memory.{exact}
+use Rattle.plain.specs.Devices.{Device}
 use Rattle.plain.specs.Reads.{Reply}
 use Rattle.plain.specs.Calls.{strip, compaction, read-image, read-state, write-image, fresh-state}
 
@@ -26,30 +28,30 @@ pub record Called : Type 0 where
   pub written : List (List ℕ)
   pub after : State
 
-unfoldable pub call : Capacities → State → Call → Called
-call caps s (Strip words room) =
+unfoldable pub call : Device → Capacities → State → Call → Called
+call device caps s (Strip words room) =
     let r = strip caps s words room in
     record { number = r .number; value = r .value; written = r .words ∷ []; after = r .after }
-call caps s (Compaction node-map edge-map work) =
+call device caps s (Compaction node-map edge-map work) =
     let r = compaction s node-map edge-map work in
     record { number = r .number; value = r .value; written = r .node-map ∷ r .edge-map ∷ r .work ∷ []; after = r .after }
-call caps s (Reading bytes) =
-    let r = read-image (exact caps) bytes in
+call device caps s (Reading bytes) =
+    let r = read-image device (exact caps) bytes in
     record { number = r .number; value = r .value; written = []; after = cond (eqb (r .number) 0) (read-state bytes) s }
 
 -- the store after a list of calls
-unfoldable pub history-from : Capacities → State → List Call → State
-history-from caps s [] = s
-history-from caps s (c ∷ calls) = history-from caps (call caps s c .after) calls
+unfoldable pub history-from : Device → Capacities → State → List Call → State
+history-from device caps s [] = s
+history-from device caps s (c ∷ calls) = history-from device caps (call device caps s c .after) calls
 
 -- what each call comes to
-unfoldable pub called-from : Capacities → State → List Call → List Called
-called-from caps s [] = []
-called-from caps s (c ∷ calls) = call caps s c ∷ called-from caps (call caps s c .after) calls
+unfoldable pub called-from : Device → Capacities → State → List Call → List Called
+called-from device caps s [] = []
+called-from device caps s (c ∷ calls) = call device caps s c ∷ called-from device caps (call device caps s c .after) calls
 
 -- from a fresh store
-unfoldable pub history : Capacities → List Call → State
-history caps calls = history-from caps fresh-state calls
+unfoldable pub history : Device → Capacities → List Call → State
+history device caps calls = history-from device caps fresh-state calls
 
 -- "The closing compactions and image writings are meant where they answer 0; the only other number they can give is 2": a compaction, of the lengths of its
 -- three lent slices, and the image of what it leaves, by the lengths of the writing's own work slice and of its bytes

@@ -23,6 +23,7 @@ pub mod Cutting
 pub mod ImageBits
 pub mod Refusals
 pub mod ImageLaws
+pub mod Devices
 pub mod Ascending
 pub mod Histories
 pub mod Compactness

@@ -10,6 +10,7 @@ pub mod Bits
 pub mod Image
 pub mod WellFormed
 pub mod Memory
+pub mod Devices
 pub mod Calls
 pub mod Lotstrip
 pub mod History

@@ -36,5 +36,8 @@ pub const UNREADABLE: u32 = 12;
 // Capacity above 32,768.
 pub const ABOVE_LIMIT: u32 = 13;
 
+// More lots or transfers than the skid takes.
+pub const ABOVE_SKID: u32 = 15;
+
 // A low above its high.
 pub const INVERTED: u32 = 16;

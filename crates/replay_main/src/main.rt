@@ -5,9 +5,10 @@
 // words lent for the answers, lines that follow: the five words of an operation each), 2 and 3 walk out and in (node, words lent), 4 and 5 live nodes and edges
 // (0, words lent), 6 node payload, 7 and 8 record in both readings, 9 bounds, counts, empty and compact, 10 and 11 degree out and in, 12 compaction (words lent for
 // the node map, the edge map and the work), 13 finding (two nodes), 14 writing the image (words lent for the work, bytes lent), 15 reading an image (bytes, lines that follow: sixteen bytes
-// each, in the last four words), 16 and 17 total out and in.
+// each, in the last four words), 16 and 17 total out and in, 18 and 19 fresh and reading an image on the skid (as 0 and 15).
 
 use plain::Answer;
+use plain::Changed;
 use plain::Counts;
 use plain::Record;
 use plain::Slots;
@@ -151,6 +152,39 @@ fn within(length: u32, words: &[u32]) -> usize
     words.len()
 }
 
+// A fresh store, on a box or on the skid.
+fn made(
+    kind: u32,
+    nodes: &[u32],
+    lows: &[u32],
+    highs: &[u32],
+    live_nodes: &[u64],
+    live_edges: &[u64],
+    outgoing: &[u32],
+    incoming: &[u32],
+) -> Changed {
+    if kind == 18 {
+        return strip::skid_fresh(
+            nodes,
+            lows,
+            highs,
+            live_nodes,
+            live_edges,
+            outgoing,
+            incoming,
+        );
+    }
+    strip::fresh(
+        nodes,
+        lows,
+        highs,
+        live_nodes,
+        live_edges,
+        outgoing,
+        incoming,
+    )
+}
+
 // A fresh store of other capacities in the same memory.
 fn fresh(
     call: Call,
@@ -164,7 +198,8 @@ fn fresh(
 ) -> Held {
     let n = within(call.first, nodes);
     let e = within(call.second, lows);
-    let changed = strip::fresh(
+    let changed = made(
+        call.kind,
         &nodes[..n],
         &lows[..e],
         highs,
@@ -324,6 +359,45 @@ fn within_bytes(length: u32, bytes: &[u8]) -> usize
     bytes.len()
 }
 
+// An image read on a box or on the skid.
+fn read_by(
+    kind: u32,
+    counts: Counts,
+    nodes: &mut [u32],
+    lows: &mut [u32],
+    highs: &mut [u32],
+    live_nodes: &mut [u64],
+    live_edges: &mut [u64],
+    outgoing: &mut [u32],
+    incoming: &mut [u32],
+    bytes: &[u8],
+) -> Changed {
+    if kind == 19 {
+        return image::read::skid_read_image(
+            counts,
+            nodes,
+            lows,
+            highs,
+            live_nodes,
+            live_edges,
+            outgoing,
+            incoming,
+            bytes,
+        );
+    }
+    image::read::read_image(
+        counts,
+        nodes,
+        lows,
+        highs,
+        live_nodes,
+        live_edges,
+        outgoing,
+        incoming,
+        bytes,
+    )
+}
+
 // An image read in place of all.
 fn read_image(
     held: Held,
@@ -341,7 +415,8 @@ fn read_image(
     let n = within(held.nodes, nodes);
     let e = within(held.edges, lows);
     let length = within_bytes(call.first, &bytes);
-    let changed = image::read::read_image(
+    let changed = read_by(
+        call.kind,
         held.counts,
         &mut nodes[..n],
         &mut lows[..e],
@@ -934,7 +1009,7 @@ fn step(
     incoming: &mut [u32],
     call: Call,
 ) -> Held {
-    if call.kind == 0 {
+    if call.kind == 0 || call.kind == 18 {
         return fresh(
             call,
             nodes,
@@ -946,7 +1021,7 @@ fn step(
             incoming,
         );
     }
-    if call.kind == 1 || call.kind == 12 || call.kind == 15 {
+    if call.kind == 1 || call.kind == 12 || call.kind == 15 || call.kind == 19 {
         let counts = change(
             held,
             nodes,

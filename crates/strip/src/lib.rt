@@ -15,12 +15,16 @@ ghost use Prim.Native.Nat.{_+_, _*_, _≤_};
 ghost use lib.ListN.{length, getD, set};
 ghost use Rattle.plain.specs.declared.Operation.the-variants.{Unknown};
 ghost use Rattle.plain.specs.Operations.{operation-words, operations};
+ghost use Rattle.plain.specs.Devices.{box, skid, Proper};
+ghost use Rattle.memory.specs.Lengths.{device-of};
 ghost use Rattle.shape.specs.Lent.{lent, at-entry, at-exit};
 ghost use Rattle.strip.specs.Fresh.{FreshOf};
 ghost use Rattle.strip.specs.Strip.{Runnable, Ran, StripOf};
 
-// A fresh store in the memory lent: "13, nodes before edges, then 2". It is empty with bounds 0, so that no word of it is a field, and none is written.
-pub fn fresh(
+// A fresh store in the memory lent, on a device of these limits: its number, nodes before edges, then 2. It is empty with bounds 0, so that no word of it is a field, and
+// none is written. Internal.
+fn fresh_within(
+    limits: Limits,
     nodes: &[u32],
     lows: &[u32],
     highs: &[u32],
@@ -29,12 +33,13 @@ pub fn fresh(
     outgoing: &[u32],
     incoming: &[u32],
 ) -> Changed
-    ensures { λ r. ⌜ FreshOf
+    requires { ⌜ Proper (device-of limits) ⌝ }
+    ensures { λ r. ⌜ FreshOf (device-of limits)
         (at-entry (r .counts) nodes lows highs «live_nodes» «live_edges» outgoing incoming)
         (r .number) (r .value) ⌝ }
 {
     let told = memory::fresh_answer(
-        Limits::BOX,
+        limits,
         Lengths {
             nodes: nodes.len(),
             lows: lows.len(),
@@ -58,6 +63,58 @@ pub fn fresh(
             edges: slots,
         },
     }
+}
+
+// A fresh store in a box's memory: "13, nodes before edges, then 2".
+pub fn fresh(
+    nodes: &[u32],
+    lows: &[u32],
+    highs: &[u32],
+    live_nodes: &[u64],
+    live_edges: &[u64],
+    outgoing: &[u32],
+    incoming: &[u32],
+) -> Changed
+    ensures { λ r. ⌜ FreshOf box
+        (at-entry (r .counts) nodes lows highs «live_nodes» «live_edges» outgoing incoming)
+        (r .number) (r .value) ⌝ }
+{
+    fresh_within(
+        Limits::BOX,
+        nodes,
+        lows,
+        highs,
+        live_nodes,
+        live_edges,
+        outgoing,
+        incoming,
+    )
+}
+
+// A fresh store in the skid's memory: 15 "in place of 13", then 2.
+pub fn skid_fresh(
+    nodes: &[u32],
+    lows: &[u32],
+    highs: &[u32],
+    live_nodes: &[u64],
+    live_edges: &[u64],
+    outgoing: &[u32],
+    incoming: &[u32],
+) -> Changed
+    ensures { λ r. ⌜ FreshOf skid
+        (at-entry (r .counts) nodes lows highs «live_nodes» «live_edges» outgoing incoming)
+        (r .number) (r .value) ⌝ }
+{
+    fresh_within(
+        Limits::SKID,
+        nodes,
+        lows,
+        highs,
+        live_nodes,
+        live_edges,
+        outgoing,
+        incoming,
+    )
 }
 
 // Operation i of a strip, from its words.

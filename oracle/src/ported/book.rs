@@ -11,15 +11,17 @@ use super::damaged::{damage, written};
 use super::memory::Memory;
 use super::ranges::{self, Ranged};
 use super::strips::operations;
-use super::words::Words;
+use super::words::{Words, judge};
 use super::{Port, compare_strip, kept, lent};
 use crate::calls::{self, Lots};
 use crate::checked::read;
-use crate::generate::{Generator, MEDIUM, MIXES, Mix, SHORT, Size, compact_lists, one_weight};
+use crate::generate::{
+    Generator, MEDIUM, MIXES, Mix, SHORT, Size, WHOLE_SKID, compact_lists, one_weight,
+};
 use crate::graph::store::Graph;
 use crate::graph::traverse::TraversalDirection;
 use crate::image;
-use crate::lots::{EdgePayload, EdgeRecord, LotBook, Refused, maps};
+use crate::lots::{Device, EdgePayload, EdgeRecord, LotBook, Refused, maps};
 use crate::model::{Answer, Capacities, DIRECTIONS, Model, NONE};
 use crate::record::spoiled_image;
 use crate::rng::Rng;
@@ -93,18 +95,20 @@ struct Shelf {
 }
 
 impl Shelf {
-    /// A fresh store over words that hold anything.
-    fn fresh(capacities: Capacities) -> Self {
+    /// A fresh store on a device, over words that hold anything.
+    fn fresh(device: Device, capacities: Capacities) -> Self {
+        let mut book = LotBook::from_memory_on(device, Memory::fresh(capacities).words());
+        book.fresh().expect("promised: capacities of the device");
         Self {
             model: Lots::fresh(capacities),
             shape: Shape::of(&Graph::new()),
             rust: RustStore::fresh(capacities),
-            book: LotBook::from_memory(Memory::fresh(capacities).words()),
+            book,
             foreign: false,
         }
     }
 
-    fn of(rust: RustStore, memory: Words) -> Self {
+    fn of(device: Device, rust: RustStore, memory: Words) -> Self {
         let model = Model {
             capacities: rust.capacities,
             plain: rust.plain(),
@@ -114,7 +118,7 @@ impl Shelf {
             model,
             shape: Shape::of(&rust.graph),
             rust,
-            book: LotBook::from_memory(memory),
+            book: LotBook::from_memory_on(device, memory),
             foreign: true,
         }
     }
@@ -187,14 +191,22 @@ impl Shelf {
     /// sides, then every read. Refused, every word stays.
     fn read(&mut self, rng: &mut Rng, tally: &mut Tally) -> Same {
         let place = || "reading an image".to_string();
-        let capacities = self.rust.capacities;
+        let device = self.book.device();
+        let Capacities { nodes, edges } = self.rust.capacities;
+        // On the skid also more than it takes.
+        let most = match device {
+            Device::Box => self.rust.capacities,
+            Device::Skid => Capacities {
+                nodes: nodes.max(72),
+                edges: edges.max(144),
+            },
+        };
         let bytes = match rng.below(3) {
             0 => self.rust.image(),
             1 => spoiled_image(rng, one_weight),
-            _ => image::write(&compact_lists(rng, capacities, one_weight)),
+            _ => image::write(&compact_lists(rng, most, one_weight)),
         };
-        let Capacities { nodes, edges } = capacities;
-        let read = calls::read_image(nodes.into(), edges.into(), &bytes);
+        let read = calls::read_image_on(judge(device), nodes.into(), edges.into(), &bytes);
         // Spoiled to a range: the Rust cannot hold it, `ranges.rs` has such images.
         if read
             .as_ref()
@@ -517,7 +529,7 @@ impl Found {
             self.ranged += 1;
             return Ranged::of(&rust, memory).compare_reads(rng, tally);
         }
-        let mut shelf = Shelf::of(rust, memory);
+        let mut shelf = Shelf::of(shelf.book.device(), rust, memory);
         shelf.compare_reads(rng, tally)?;
         for _ in 0..rng.between(1, 3) {
             let mut generator = Generator { rng, mix, size };
@@ -529,10 +541,16 @@ impl Found {
 
     /// Strips from a fresh store, a damaged copy after each, now and then a
     /// compaction or an image read.
-    fn sequence(&mut self, rng: &mut Rng, tally: &mut Tally) -> Same {
-        let size = rng.pick(&[SHORT, SHORT, MEDIUM]);
+    fn sequence(
+        &mut self,
+        device: Device,
+        sizes: &[Size],
+        rng: &mut Rng,
+        tally: &mut Tally,
+    ) -> Same {
+        let size = rng.pick(sizes);
         let mix = rng.pick(&MIXES);
-        let mut shelf = Shelf::fresh(size.capacities(rng));
+        let mut shelf = Shelf::fresh(device, size.capacities(rng));
         for _ in 0..rng.between(4, 24) {
             let most = rng.pick(&[1, 8, 64, 256]);
             let mut generator = Generator { rng, mix, size };
@@ -552,7 +570,7 @@ impl Found {
 /// Compaction of a store from elsewhere, and every read after it.
 pub fn compact_foreign(rust: RustStore, rng: &mut Rng, tally: &mut Tally) -> Same {
     let memory = Memory::of(&rust).words();
-    Shelf::of(rust, memory).compact(rng, tally)
+    Shelf::of(Device::Box, rust, memory).compact(rng, tally)
 }
 
 /// Sequences until there were so many operations on reached stores, and so many on
@@ -560,9 +578,22 @@ pub fn compact_foreign(rust: RustStore, rng: &mut Rng, tally: &mut Tally) -> Sam
 pub fn compare(reached: u64, foreign: u64, seed: u64, tally: &mut Tally) -> Same {
     let mut rng = Rng::new(seed);
     let mut found = Found::default();
+    let sizes = [SHORT, SHORT, MEDIUM];
     while found.reached < reached || found.foreign < foreign {
-        guarded(|| found.sequence(&mut rng, tally))?;
+        guarded(|| found.sequence(Device::Box, &sizes, &mut rng, tally))?;
     }
     println!("{found}");
+    Ok(())
+}
+
+/// The same on the skid, most of the time with all that it takes.
+pub fn compare_skid(reached: u64, seed: u64, tally: &mut Tally) -> Same {
+    let mut rng = Rng::new(seed);
+    let mut found = Found::default();
+    let sizes = [SHORT, MEDIUM, WHOLE_SKID, WHOLE_SKID];
+    while found.reached < reached {
+        guarded(|| found.sequence(Device::Skid, &sizes, &mut rng, tally))?;
+    }
+    println!("on the skid, {found}");
     Ok(())
 }

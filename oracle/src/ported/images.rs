@@ -2,40 +2,49 @@
 //! the number, what a refusal leaves, and the image written back.
 
 use super::strips::{Lengths, any_memory, others_fit};
+use super::words::{Words, judge};
+use crate::calls;
 use crate::generate::range;
-use crate::image;
-use crate::lots::LotBook;
-use crate::model::{self, Answer};
+use crate::lots::{Device, LotBook};
+use crate::model::Answer;
 use crate::record::spoiled_image;
 use crate::rng::Rng;
 use crate::sequences::Same;
-use crate::tally::{Tally, Thing};
+use crate::tally::{Difference, Tally, Thing};
 
 /// "Reading: 13, 12, 2 (13 and 2 nodes before edges, a payload slice shorter than
-/// its count being too short, then the other slices)."
-fn reading(lengths: Lengths, bytes: &[u8]) -> Answer {
-    let [nodes, edges, ..] = lengths;
-    if let Err(refused) = model::capacities(nodes as u64, edges as u64) {
-        return refused;
+/// its count being too short, then the other slices)"; on the skid as request 7 has
+/// it.
+fn reading(device: Device, lengths: Lengths, bytes: &[u8]) -> Answer {
+    let [nodes, edges, ..] = lengths.map(|length| length as u64);
+    match calls::read_image_on(judge(device), nodes, edges, bytes) {
+        Ok(_) => others_fit(lengths),
+        Err(refused) => refused,
     }
-    let plain = match image::read(bytes) {
-        Ok(plain) => plain,
-        Err(rule) => {
-            return Answer {
-                number: 12,
-                value: rule.into(),
-            };
-        }
-    };
-    let counts = [plain.nodes.len(), plain.edges.len()];
-    let short = counts
-        .into_iter()
-        .zip([nodes, edges])
-        .find(|(count, capacity)| capacity < count);
-    short.map_or_else(
-        || others_fit(lengths),
-        |(count, _)| Answer::too_short(count),
-    )
+}
+
+/// One reading; whether it is done.
+pub fn compare_one(
+    thing: Thing,
+    device: Device,
+    (lengths, memory): (Lengths, Words),
+    bytes: Vec<u8>,
+    tally: &mut Tally,
+) -> Result<bool, Difference> {
+    let place = || format!("reading {bytes:?}, lengths {lengths:?}, {device:?}");
+    let expected = reading(device, lengths, &bytes);
+    let mut book = LotBook::from_memory_on(device, memory);
+    let before = book.clone();
+    let given = book.read_image(&bytes);
+    let given = given.map_or_else(Answer::from, |()| Answer::done(0));
+    tally.same(thing, place, expected, given)?;
+    if given.number != 0 {
+        tally.same(thing, place, &before, &book)?;
+        return Ok(false);
+    }
+    let given = (book.check(), book.image());
+    tally.same(thing, place, (Ok(()), Ok(bytes.clone())), given)?;
+    Ok(true)
 }
 
 /// So many readings.
@@ -43,27 +52,10 @@ pub fn compare(readings: usize, seed: u64, tally: &mut Tally) -> Same {
     let mut rng = Rng::new(seed);
     let mut done = 0;
     for _ in 0..readings {
-        let (lengths, memory) = any_memory(&mut rng);
+        let memory = any_memory(&mut rng);
         let bytes = spoiled_image(&mut rng, range);
-        let place = || format!("reading {bytes:?}, lengths {lengths:?}");
-        let expected = reading(lengths, &bytes);
-        let mut book = LotBook::from_memory(memory);
-        let before = book.clone();
-        let given = book.read_image(&bytes);
-        let given = given.map_or_else(Answer::from, |()| Answer::done(0));
-        tally.same(Thing::BookReading, place, expected, given)?;
-        if given.number != 0 {
-            tally.same(Thing::BookReading, place, &before, &book)?;
-            continue;
-        }
-        done += 1;
-        let given = (book.check(), book.image());
-        tally.same(
-            Thing::BookReading,
-            place,
-            (Ok(()), Ok(bytes.clone())),
-            given,
-        )?;
+        let read = compare_one(Thing::BookReading, Device::Box, memory, bytes, tally)?;
+        done += usize::from(read);
     }
     println!("images read into any memory with the port: {readings}, of which {done} are done");
     Ok(())

@@ -10,6 +10,7 @@ use super::axis::{Axis, Readable};
 use super::exports::Counts;
 use super::live::Live;
 use super::words::Words;
+use crate::lots::Device;
 #[cfg(feature = "serde")]
 use crate::model::DIRECTIONS;
 use crate::model::{Answer, Capacities};
@@ -45,7 +46,7 @@ impl Memory {
             payloads: [nodes, edges, edges].map(|slots| (0..slots).map(|_| rng.word()).collect()),
         };
         assert_eq!(
-            memory.words().make_fresh(),
+            memory.words().make_fresh(Device::Box),
             Answer::done(0),
             "the memory is long enough"
         );

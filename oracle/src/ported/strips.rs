@@ -4,9 +4,10 @@
 use super::Ported;
 use super::columns::Layout;
 use super::exports::{Counts, Slots};
-use super::words::Words;
+use super::words::{Words, judge};
 use crate::generate::{Generator, MEDIUM, MIXES, SHORT, Step};
-use crate::model::{self, Answer, LIMIT, Model};
+use crate::lots::Device;
+use crate::model::{Answer, LIMIT, Model};
 use crate::rng::Rng;
 use crate::sequences::{Same, Sides};
 use crate::tally::{Tally, Thing};
@@ -75,10 +76,13 @@ pub fn others_fit([nodes, edges, others @ ..]: Lengths) -> Answer {
     short.map_or(Answer::done(0), |(needed, _)| Answer::too_short(needed))
 }
 
-/// "Fresh: 13, nodes before edges, then 2".
-fn fresh(lengths: Lengths) -> Answer {
-    let refused = model::capacities(lengths[0] as u64, lengths[1] as u64).err();
-    refused.unwrap_or_else(|| others_fit(lengths))
+/// "Fresh: 13, nodes before edges, then 2"; on the skid 15 "in place of 13".
+fn fresh(device: Device, lengths: Lengths) -> Answer {
+    let [nodes, edges, ..] = lengths.map(|length| length as u64);
+    match judge(device).within([nodes, edges]) {
+        Ok(_) => others_fit(lengths),
+        Err(refused) => refused,
+    }
 }
 
 /// Memory of lengths about those needed, with counts and words of any content, and
@@ -89,7 +93,12 @@ pub fn any_memory(rng: &mut Rng) -> (Lengths, Words) {
         1 => LIMIT as usize - rng.below(2),
         _ => rng.below(140),
     };
-    let (nodes, edges) = (capacity(), capacity());
+    let capacities = [capacity(), capacity()];
+    memory_of(capacities, rng)
+}
+
+/// The same of these capacities.
+pub fn memory_of([nodes, edges]: [usize; 2], rng: &mut Rng) -> (Lengths, Words) {
     let axis = Layout { edges, nodes }.length();
     let mut about = |needed: usize| match rng.below(4) {
         0 => needed.saturating_sub(1 + rng.below(2)),
@@ -123,19 +132,29 @@ pub fn any_memory(rng: &mut Rng) -> (Lengths, Words) {
     (lengths, words)
 }
 
-/// So many calls of fresh, with lengths about those needed: the answer, and counts
-/// that are all 0.
+/// One call of fresh: the answer, and counts that are all 0.
+pub fn compare_one_fresh(
+    thing: Thing,
+    device: Device,
+    (lengths, mut words): (Lengths, Words),
+    tally: &mut Tally,
+) -> Same {
+    let empty = Counts {
+        nodes: Slots::default(),
+        edges: Slots::default(),
+    };
+    let place = || format!("fresh, lengths {lengths:?}, {device:?}");
+    let expected = (fresh(device, lengths), empty);
+    let given = (words.make_fresh(device), words.counts);
+    tally.same(thing, place, expected, given)
+}
+
+/// So many calls of fresh, with lengths about those needed.
 pub fn compare_fresh(calls: usize, seed: u64, tally: &mut Tally) -> Same {
     let mut rng = Rng::new(seed);
     for _ in 0..calls {
-        let (lengths, mut words) = any_memory(&mut rng);
-        let empty = Counts {
-            nodes: Slots::default(),
-            edges: Slots::default(),
-        };
-        let place = || format!("fresh, lengths {lengths:?}");
-        let given = (words.make_fresh(), words.counts);
-        tally.same(Thing::PortFresh, place, (fresh(lengths), empty), given)?;
+        let memory = any_memory(&mut rng);
+        compare_one_fresh(Thing::PortFresh, Device::Box, memory, tally)?;
     }
     Ok(())
 }

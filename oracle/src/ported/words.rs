@@ -6,12 +6,20 @@ use std::mem::replace;
 #[cfg(feature = "serde")]
 use crate::graph::traverse::TraversalDirection;
 pub use crate::lots::Memory as Words;
-use crate::lots::{LotBook, Refused};
-use crate::model::Answer;
+use crate::lots::{Device, LotBook, Refused};
+use crate::model::{self, Answer};
 
 impl From<Refused> for Answer {
     fn from(Refused { number, value }: Refused) -> Self {
         Self { number, value }
+    }
+}
+
+/// What the model knows of a book's device.
+pub const fn judge(device: Device) -> model::Device {
+    match device {
+        Device::Box => model::BOX,
+        Device::Skid => model::SKID,
     }
 }
 
@@ -22,16 +30,21 @@ fn answer(result: Result<(), Refused>) -> Answer {
 
 impl Words {
     /// A call of the lot book in this memory, which goes out and comes back.
-    fn through(&mut self, call: impl FnOnce(&mut LotBook) -> Result<(), Refused>) -> Answer {
-        let mut book = LotBook::from_memory(replace(self, Self::zeros(0, 0)));
+    fn through(
+        &mut self,
+        device: Device,
+        call: impl FnOnce(&mut LotBook) -> Result<(), Refused>,
+    ) -> Answer {
+        let memory = replace(self, Self::zeros(0, 0));
+        let mut book = LotBook::from_memory_on(device, memory);
         let result = call(&mut book);
         *self = book.into_memory();
         answer(result)
     }
 
     /// Makes the store a fresh one.
-    pub fn make_fresh(&mut self) -> Answer {
-        self.through(LotBook::fresh)
+    pub fn make_fresh(&mut self, device: Device) -> Answer {
+        self.through(device, LotBook::fresh)
     }
 
     /// The answer of the check.
@@ -56,6 +69,6 @@ impl Words {
 
     /// Makes the operations of a strip, and gives the call's own answer.
     pub fn strip(&mut self, words: &[u32], answers: &mut [u32]) -> Answer {
-        self.through(|book| book.strip_words(words, answers))
+        self.through(Device::Box, |book| book.strip_words(words, answers))
     }
 }

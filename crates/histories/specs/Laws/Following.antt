@@ -11,6 +11,7 @@ use Rattle.plain.specs.declared.Answer.{Answer}
 use Rattle.plain.specs.Lists.{written}
 use Rattle.plain.specs.Step.{Capacities, State}
 use Rattle.plain.specs.Memory.{exact}
+use Rattle.plain.specs.Devices.{Device, Takes, Proper}
 use Rattle.plain.specs.Calls.{Stripped, strip, judged-strip, Compacted, compaction, judged-compaction, read-image, read-state}
 use Rattle.plain.specs.History.{Call, Strip, Compaction, Reading, call, called-from, history-from}
 use Rattle.plain.specs.Laws.Histories.{Within, call-refused}
@@ -19,6 +20,8 @@ use Rattle.shape.specs.Checked.{Checked}
 use Rattle.shape.specs.Kept.{same-capacities}
 use Rattle.shape.specs.Steps.{state-of}
 use Rattle.shape.specs.Laws.Judging.{checked-sound}
+use Rattle.memory.specs.Laws.{read-roomy}
+use Rattle.strip.specs.Fresh.{fresh-takes}
 use Rattle.strip.specs.Strip.{StripOf, stripped}
 use Rattle.compact.specs.Calls.{compacting-of, CompactOf}
 use Rattle.image.specs.Calls.{ReadOf}
@@ -41,30 +44,28 @@ compacting-is {w} k node-map edge-map work =
 
 -- ---- one call
 
--- A checked store of these capacities, of state s.
-record Stands (caps : Capacities) (s : State) (w : Words) : Type 0 where
+-- A checked store of these capacities, which the device takes, of state s.
+record Stands (device : Device) (caps : Capacities) (s : State) (w : Words) : Type 0 where
   pub checked : Checked w
   pub sized : capacities w ≡ caps
   pub state : state-of (shape-of w) ≡ s
+  pub takes : Takes device caps
 
 -- What one call comes to on it.
-record Followed (caps : Capacities) (s : State) (w : Words) (request : Request) (t : Turn) : Type 0 where
-  pub heard : t .heard ≡ told (call caps s (call-of request)) request
+record Followed (device : Device) (caps : Capacities) (s : State) (w : Words) (request : Request) (t : Turn) : Type 0 where
+  pub heard : t .heard ≡ told (call device caps s (call-of request)) request
   pub keeps : RefusalKeeps w request t
-  pub stands : Stands caps (call caps s (call-of request) .after) (t .store)
-
-stands-within : {caps : Capacities} {s : State} {w : Words} → Stands caps s w → Within caps
-stands-within at = subst Within (at .sized) (checked-within (at .checked))
+  pub stands : Stands device caps (call device caps s (call-of request) .after) (t .store)
 
 -- what is left: done, a store that stands; refused, the store as it was
-goes-on : {caps : Capacities} {s : State} {w v : Words} (c : Call) → Stands caps s w → (number : ℕ) → number ≡ call caps s c .number
-    → (number ≡ 0 → Stands caps (call caps s c .after) v) → ((number ≡ 0 → ⊥) → v ≡ w) → Stands caps (call caps s c .after) v
+goes-on : {device : Device} {caps : Capacities} {s : State} {w v : Words} (c : Call) → Stands device caps s w → (number : ℕ) → number ≡ call device caps s c .number
+    → (number ≡ 0 → Stands device caps (call device caps s c .after) v) → ((number ≡ 0 → ⊥) → v ≡ w) → Stands device caps (call device caps s c .after) v
 goes-on c at zero is done keeps = done refl
-goes-on {caps} {s} {w} {v} c at (suc number) is done keeps =
-    subst₂ (λ (t : State) (u : Words). Stands caps t u) (sym (call-refused caps (stands-within at) s c (λ q. let z = is ∙ q in omega arith)))
+goes-on {device} {caps} {s} {w} {v} c at (suc number) is done keeps =
+    subst₂ (λ (t : State) (u : Words). Stands device caps t u) (sym (call-refused device caps s c (λ q. let z = is ∙ q in omega arith)))
     (sym (keeps (λ q. omega arith))) at
 
-module _ {caps : Capacities} {s : State} {w : Words} (at : Stands caps s w) where
+module _ {device : Device} {caps : Capacities} {s : State} {w : Words} (at : Stands device caps s w) where
   -- what the contracts say of a call on it is what the definitions say of its state
   stripped-is : (words : List ℕ) (room : ℕ) → stripped w words room ≡ strip caps s words room
   stripped-is words room =
@@ -76,12 +77,12 @@ module _ {caps : Capacities} {s : State} {w : Words} (at : Stands caps s w) wher
       compacting-is (at .checked) node-map edge-map work
       ∙ ap (λ (t : State). compaction t node-map edge-map work) (at .state)
 
-  read-is : (bytes : List ℕ) → read-image (lengths-of w) bytes ≡ read-image (exact caps) bytes
-  read-is bytes = roomy-read (lengths-of w) (checked-long (at .checked)) bytes ∙ ap (λ (c : Capacities). read-image (exact c) bytes) (at .sized)
+  read-is : (bytes : List ℕ) → read-image device (lengths-of w) bytes ≡ read-image device (exact caps) bytes
+  read-is bytes = roomy-read device (lengths-of w) (checked-long (at .checked)) bytes ∙ ap (λ (c : Capacities). read-image device (exact c) bytes) (at .sized)
 
   -- so each call follows
   strip-follows : {words entry exit : List ℕ} {number value : ℕ} {v : Words} → StripOf w words entry number value v exit
-      → Followed caps s w (StripInto words entry) (record { heard = record { number = number; value = value; lent = exit ∷ [] }; store = v })
+      → Followed device caps s w (StripInto words entry) (record { heard = record { number = number; value = value; lent = exit ∷ [] }; store = v })
   unfolding call
   strip-follows {words} {entry} {number = number} of =
       let is = stripped-is words (length entry) in
@@ -96,12 +97,13 @@ module _ {caps : Capacities} {s : State} {w : Words} (at : Stands caps s w) wher
               checked = of .checked done;
               sized = same-capacities (of .lengths) ∙ at .sized;
               state = of .state ∙ ap (λ (r : Stripped). r .after) is;
+              takes = at .takes;
             }) (of .refused-keeps);
       }
 
   compaction-follows : {node-map edge-map work node-map' edge-map' work' : List ℕ} {number value : ℕ} {v : Words}
       → CompactOf w node-map edge-map work number value v node-map' edge-map' work'
-      → Followed caps s w (CompactionInto node-map edge-map work)
+      → Followed device caps s w (CompactionInto node-map edge-map work)
       (record { heard = record { number = number; value = value; lent = node-map' ∷ edge-map' ∷ work' ∷ [] }; store = v })
   unfolding call
   compaction-follows {node-map} {edge-map} {work} {number = number} of =
@@ -119,11 +121,12 @@ module _ {caps : Capacities} {s : State} {w : Words} (at : Stands caps s w) wher
               checked = of .checked done;
               sized = same-capacities (of .lengths) ∙ at .sized;
               state = of .state ∙ ap (λ (r : Compacted). r .after) is;
+              takes = at .takes;
             }) (of .refused-keeps);
       }
 
-  reading-follows : {bytes : List ℕ} {number value : ℕ} {v : Words} → ReadOf w bytes number value v
-      → Followed caps s w (ReadingOf bytes) (record { heard = record { number = number; value = value; lent = [] }; store = v })
+  reading-follows : {bytes : List ℕ} {number value : ℕ} {v : Words} → ReadOf device w bytes number value v
+      → Followed device caps s w (ReadingOf bytes) (record { heard = record { number = number; value = value; lent = [] }; store = v })
   unfolding call
   reading-follows {bytes} {number} of =
       let is = of .answered ∙ read-is bytes in
@@ -137,10 +140,11 @@ module _ {caps : Capacities} {s : State} {w : Words} (at : Stands caps s w) wher
               checked = of .checked done;
               sized = same-capacities (of .lengths) ∙ at .sized;
               state = of .state done ∙ sym (ap (λ (n : ℕ). cond (eqb n 0) (read-state bytes) s) (sym numbered ∙ done));
+              takes = at .takes;
             }) (of .refused-keeps);
       }
 
-  one-call : {request : Request} {t : Turn} → Turned w request t → Followed caps s w request t
+  one-call : {request : Request} {t : Turn} → Turned device w request t → Followed device caps s w request t
   one-call (by-strip of) = strip-follows of
   one-call (by-compaction of) = compaction-follows of
   one-call (by-reading of) = reading-follows of
@@ -148,18 +152,18 @@ module _ {caps : Capacities} {s : State} {w : Words} (at : Stands caps s w) wher
 -- ---- a whole run
 
 -- calls on a store that stands
-follows-from : {caps : Capacities} {s : State} {w : Words} {requests : List Request} {turns : List Turn} → Stands caps s w → Turns w requests turns
-    → Follows caps s w requests turns
+follows-from : {device : Device} {caps : Capacities} {s : State} {w : Words} {requests : List Request} {turns : List Turn} → Stands device caps s w
+    → Turns device w requests turns → Follows device caps s w requests turns
 unfolding called-from history-from
 follows-from at no-turn =
     record { answers = refl; numbers = no-answer; states = refl; ends = at .state; refusals = no-refusal; checked = at .checked }
-follows-from {caps} {s} at (turn {request = request} one rest) =
+follows-from {device} {caps} {s} at (turn {request = request} one rest) =
     let f = one-call at one in
     let more = follows-from (f .stands) rest in
     record {
       answers = ap₂ {C = List Heard} (λ (h : Heard) (l : List Heard). h ∷ l) (f .heard) (more .answers);
       numbers = one-answer
-          (subst (CanAnswer caps (s .lists) (call-of request)) (sym (ap (λ (h : Heard). h .number) (f .heard))) (call-numbers caps s (stands-within at) (call-of request)))
+          (subst (CanAnswer device caps (s .lists) (call-of request)) (sym (ap (λ (h : Heard). h .number) (f .heard))) (call-numbers device caps s (at .takes) (call-of request)))
           (more .numbers);
       states = ap₂ {C = List State} (λ (a : State) (l : List State). a ∷ l) (f .stands .state) (more .states);
       ends = more .ends;
@@ -168,11 +172,17 @@ follows-from {caps} {s} at (turn {request = request} one rest) =
     }
 
 -- a store that was made stands
-made-stands : {origin : Origin} {w : Words} → Made w origin → Stands (capacities w) (first-state origin) w
-made-stands (made-fresh of) = record { checked = of .checked refl; sized = refl; state = of .state }
-made-stands (made-by-reading of) = record { checked = of .checked refl; sized = refl; state = of .state refl }
-made-stands (made-elsewhere k) = record { checked = k; sized = refl; state = refl }
+made-stands : {device : Device} → Proper device → {origin : Origin} {w : Words} → Made device w origin → Stands device (capacities w) (first-state origin) w
+made-stands p (made-fresh of) = record { checked = of .checked refl; sized = refl; state = of .state; takes = fresh-takes p of }
+made-stands {device} p (made-by-reading {memory} {bytes} of) = record {
+  checked = of .checked refl;
+  sized = refl;
+  state = of .state refl;
+  takes = subst (Takes device) (sym (same-capacities (of .lengths)))
+      (read-roomy p (lengths-of memory) bytes (ap (λ (a : Answer). a .number) (sym (of .answered))) .takes);
+}
+made-stands p (made-elsewhere k takes) = record { checked = k; sized = refl; state = refl; takes = takes }
 
-pub run-follows : {origin : Origin} {w : Words} {requests : List Request} {turns : List Turn} → Ran origin w requests turns
-    → Follows (capacities w) (first-state origin) w requests turns
-run-follows ran = follows-from (made-stands (ran .made)) (ran .went)
+pub run-follows : {device : Device} → Proper device → {origin : Origin} {w : Words} {requests : List Request} {turns : List Turn} → Ran device origin w requests turns
+    → Follows device (capacities w) (first-state origin) w requests turns
+run-follows p ran = follows-from (made-stands p (ran .made)) (ran .went)

@@ -22,7 +22,8 @@ use Rattle.plain.specs.Reads.{lent, listing, answered, yes-or-no, no-rec
 use Rattle.plain.specs.Compaction.{survivors}
 use Rattle.plain.specs.Image.{image, broken-image, nodes-in, edges-in}
 use Rattle.plain.specs.Memory.{Slice, first-short, Lengths, other-slices}
-use Rattle.plain.specs.Calls.{strip, short-answer, within, fresh-within, compaction-slices, compacting, compaction, write-image, reading-slices, read-within}
+use Rattle.plain.specs.Devices.{Device, Takes}
+use Rattle.plain.specs.Calls.{strip, short-answer, within, fresh, compaction-slices, compacting, compaction, write-image, reading-slices, asked, reading, read-image}
 use Rattle.plain.specs.Laws.Booleans.{below-or-not}
 use Rattle.plain.specs.Laws.Operating.{edge-below}
 use Rattle.plain.specs.Laws.Cases.{Absent, Removed, Live, live, fault-absent, fault-below}
@@ -210,39 +211,52 @@ module _ (caps : Capacities) (s : State) (words : List ℕ) (room : ℕ) where
   unfolding strip
   strip-done h k = rw (eq-eqb (length words % operation-words) 0 h, le-ltb room (2 * length (operations words)) k)
 
--- ---- fresh and reading: a capacity above its limit, nodes before edges; an image that is none; a slice too short
+-- ---- fresh and reading: more than the device takes, nodes before edges; an image that is none; a slice too short
 
-module _ (limits : Capacities) (number : ℕ) (caps : Capacities) (answer : Answer) where
-  pub nodes-above : limits .nodes < caps .nodes → within limits number caps answer ≡ record { number = number; value = caps .nodes }
+module _ (device : Device) (caps : Capacities) (answer : Answer) where
+  pub nodes-above : device .limits .nodes < caps .nodes → within device caps answer ≡ record { number = device .number; value = caps .nodes }
   unfolding within
-  nodes-above h = rw (lt-ltb (limits .nodes) (caps .nodes) h)
+  nodes-above h = rw (lt-ltb (device .limits .nodes) (caps .nodes) h)
 
-  pub edges-above : caps .nodes ≤ limits .nodes → limits .edges < caps .edges → within limits number caps answer ≡ record { number = number; value = caps .edges }
+  pub edges-above : caps .nodes ≤ device .limits .nodes → device .limits .edges < caps .edges → within device caps answer ≡ record { number = device .number; value = caps .edges }
   unfolding within
-  edges-above h k = rw (le-ltb (limits .nodes) (caps .nodes) h, lt-ltb (limits .edges) (caps .edges) k)
+  edges-above h k = rw (le-ltb (device .limits .nodes) (caps .nodes) h, lt-ltb (device .limits .edges) (caps .edges) k)
 
-  pub within-limits : caps .nodes ≤ limits .nodes → caps .edges ≤ limits .edges → within limits number caps answer ≡ answer
+  pub within-limits : Takes device caps → within device caps answer ≡ answer
   unfolding within
-  within-limits h k = rw (le-ltb (limits .nodes) (caps .nodes) h, le-ltb (limits .edges) (caps .edges) k)
+  within-limits t = rw (le-ltb (device .limits .nodes) (caps .nodes) (t .nodes), le-ltb (device .limits .edges) (caps .edges) (t .edges))
 
-module _ (limits : Capacities) (number : ℕ) (l : Lengths) (h : l .capacities .nodes ≤ limits .nodes) (k : l .capacities .edges ≤ limits .edges) where
-  pub fresh-done : LongEnough (other-slices l) → fresh-within limits number l ≡ record { number = 0; value = 0 }
-  unfolding fresh-within
-  fresh-done s = within-limits limits number (l .capacities) _ h k ∙ ap short-answer (all-long s)
+module _ (device : Device) (l : Lengths) (takes : Takes device (l .capacities)) where
+  pub fresh-done : LongEnough (other-slices l) → fresh device l ≡ record { number = 0; value = 0 }
+  unfolding fresh
+  fresh-done s = within-limits device (l .capacities) _ takes ∙ ap short-answer (all-long s)
 
-  pub read-broken : (bytes : List ℕ) (rule : ℕ) → broken-image bytes ≡ suc rule → read-within limits number l bytes ≡ record { number = 12; value = suc rule }
-  unfolding read-within
-  read-broken bytes rule e = within-limits limits number (l .capacities) _ h k ∙ rw e
+  pub read-broken : (bytes : List ℕ) (rule : ℕ) → broken-image bytes ≡ suc rule → read-image device l bytes ≡ record { number = 12; value = suc rule }
+  unfolding read-image reading
+  read-broken bytes rule e = within-limits device (l .capacities) _ takes ∙ rw e
 
-  pub read-short : (bytes : List ℕ) (n : ℕ) → broken-image bytes ≡ 0 → FirstShort (reading-slices (nodes-in bytes) (edges-in bytes) l) n
-      → read-within limits number l bytes ≡ record { number = 2; value = n }
-  unfolding read-within
-  read-short bytes n e s = within-limits limits number (l .capacities) _ h k ∙ rw (e, one-short s)
+  -- "right after 12 when an image does"
+  pub image-nodes-above : (bytes : List ℕ) → broken-image bytes ≡ 0 → device .limits .nodes < nodes-in bytes
+      → read-image device l bytes ≡ record { number = device .number; value = nodes-in bytes }
+  unfolding read-image reading
+  image-nodes-above bytes e h = within-limits device (l .capacities) _ takes ∙ rw e (nodes-above device (asked (nodes-in bytes) (edges-in bytes)) _ h)
 
-  pub read-done : (bytes : List ℕ) → broken-image bytes ≡ 0 → LongEnough (reading-slices (nodes-in bytes) (edges-in bytes) l)
-      → read-within limits number l bytes ≡ record { number = 0; value = 0 }
-  unfolding read-within
-  read-done bytes e s = within-limits limits number (l .capacities) _ h k ∙ rw (e, all-long s)
+  pub image-edges-above : (bytes : List ℕ) → broken-image bytes ≡ 0 → nodes-in bytes ≤ device .limits .nodes → device .limits .edges < edges-in bytes
+      → read-image device l bytes ≡ record { number = device .number; value = edges-in bytes }
+  unfolding read-image reading
+  image-edges-above bytes e h k = within-limits device (l .capacities) _ takes ∙ rw e (edges-above device (asked (nodes-in bytes) (edges-in bytes)) _ h k)
+
+  pub read-short : (bytes : List ℕ) (n : ℕ) → broken-image bytes ≡ 0 → Takes device (asked (nodes-in bytes) (edges-in bytes))
+      → FirstShort (reading-slices (nodes-in bytes) (edges-in bytes) l) n → read-image device l bytes ≡ record { number = 2; value = n }
+  unfolding read-image reading
+  read-short bytes n e t s =
+      within-limits device (l .capacities) _ takes ∙ rw e (within-limits device (asked (nodes-in bytes) (edges-in bytes)) _ t ∙ ap short-answer (one-short s))
+
+  pub read-done : (bytes : List ℕ) → broken-image bytes ≡ 0 → Takes device (asked (nodes-in bytes) (edges-in bytes))
+      → LongEnough (reading-slices (nodes-in bytes) (edges-in bytes) l) → read-image device l bytes ≡ record { number = 0; value = 0 }
+  unfolding read-image reading
+  read-done bytes e t s =
+      within-limits device (l .capacities) _ takes ∙ rw e (within-limits device (asked (nodes-in bytes) (edges-in bytes)) _ t ∙ ap short-answer (all-long s))
 
 -- ---- compaction: 2 in the order of its slices
 

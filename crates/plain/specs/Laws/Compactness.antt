@@ -16,12 +16,14 @@ use Rattle.plain.specs.Compaction.{Survivors, survivors, of-survivors}
 use Rattle.plain.specs.Image.{image, parsed}
 use Rattle.plain.specs.Memory.{first-short, exact}
 use Rattle.plain.specs.Calls.{strip, fresh-state, compacting, compaction, compaction-slices, read-image, read-state}
+use Rattle.plain.specs.Devices.{Device, Takes, Proper}
 use Rattle.plain.specs.History.{Call, Strip, Compaction, Reading, call, history-from, history}
 use Rattle.plain.specs.Laws.Booleans.{by-test, and-left, and-right}
 use Rattle.plain.specs.Laws.Cases.{Case, case-of, add-node-full, add-node, add-edge-inverted, add-edge-source-absent, add-edge-source-removed, add-edge-target-absent, add-edge-target-removed, add-edge-full, add-edge, remove-edge-absent, remove-edge-removed, remove-edge, remove-node-absent, remove-node-removed, remove-node, redirect-edge-absent, redirect-edge-removed, redirect-node-absent, redirect-node-removed, redirect-same, redirect, move-onto-itself, move-old-absent, move-nothing, move-new-absent, move-new-removed, move, set-payload-inverted, set-payload-absent, set-payload, unknown}
 use Rattle.plain.specs.Laws.Compacting.{node-flags-of, edge-flags-of, node-bound-of, edge-bound-of, compacted-nodes-live, compacted-edges-live, compacted-node-bound, compacted-edge-bound}
 use Rattle.plain.specs.Laws.AllLive.{AllLive, lists-read-back}
-use Rattle.plain.specs.Laws.Histories.{Within, AllLegal, history-well-formed}
+use Rattle.plain.specs.Laws.Histories.{AllLegal, history-well-formed}
+use Rattle.plain.specs.Laws.Devices.{box-takes}
 
 -- the flag of a state is honest
 pub record Honest (s : State) : Type 0 where
@@ -105,25 +107,26 @@ strip-honest caps s words room h =
     by-test (eqb (length words % operation-words) 0) (λ q. rw q (by-test (ltb room (2 * length (operations words))) (λ r. rw r h) (λ r. rw r (run-honest caps s (operations words) h))))
     (λ q. rw q h)
 
-call-honest : (caps : Capacities) (s : State) (c : Call) → Honest s → Honest (call caps s c .after)
+call-honest : (device : Device) (caps : Capacities) (s : State) (c : Call) → Honest s → Honest (call device caps s c .after)
 unfolding call compaction
-call-honest caps s (Strip words room) h = strip-honest caps s words room h
-call-honest caps s (Compaction node-map edge-map work) h = compacting-honest (first-short (compaction-slices (s .lists) node-map edge-map work)) s h
-call-honest caps s (Reading bytes) h =
-    by-test (eqb (read-image (exact caps) bytes .number) 0) (λ q. rw q (record { all-live = λ c. survivors-live (parsed bytes) })) (λ q. rw q h)
+call-honest device caps s (Strip words room) h = strip-honest caps s words room h
+call-honest device caps s (Compaction node-map edge-map work) h = compacting-honest (first-short (compaction-slices (s .lists) node-map edge-map work)) s h
+call-honest device caps s (Reading bytes) h =
+    by-test (eqb (read-image device (exact caps) bytes .number) 0) (λ q. rw q (record { all-live = λ c. survivors-live (parsed bytes) })) (λ q. rw q h)
 
-history-from-honest : (caps : Capacities) (s : State) (calls : List Call) → Honest s → Honest (history-from caps s calls)
+history-from-honest : (device : Device) (caps : Capacities) (s : State) (calls : List Call) → Honest s → Honest (history-from device caps s calls)
 unfolding history-from
-history-from-honest caps s [] h = h
-history-from-honest caps s (c ∷ calls) h = history-from-honest caps (call caps s c .after) calls (call-honest caps s c h)
+history-from-honest device caps s [] h = h
+history-from-honest device caps s (c ∷ calls) h = history-from-honest device caps (call device caps s c .after) calls (call-honest device caps s c h)
 
 -- in every history a compact store has no dead slot
-pub compact-all-live : (caps : Capacities) (calls : List Call) → history caps calls .compact ≡ true → AllLive (history caps calls .lists)
+pub compact-all-live : (device : Device) (caps : Capacities) (calls : List Call) → history device caps calls .compact ≡ true → AllLive (history device caps calls .lists)
 unfolding history
-compact-all-live caps calls = history-from-honest caps fresh-state calls (record { all-live = λ c. record { nodes = refl; edges = refl } }) .all-live
+compact-all-live device caps calls = history-from-honest device caps fresh-state calls (record { all-live = λ c. record { nodes = refl; edges = refl } }) .all-live
 
 -- reading the image that a compact store of a history writes gives its lists back
-pub compact-read-back : (caps : Capacities) → Within caps → {calls : List Call} → AllLegal calls → history caps calls .compact ≡ true
-    → read-state (image (survivors (history caps calls .lists))) .lists ≡ history caps calls .lists
-compact-read-back caps w {calls} l c =
-    lists-read-back caps (history caps calls .lists) (history-well-formed caps w l) (compact-all-live caps calls c) (w .nodes) (w .edges)
+pub compact-read-back : {device : Device} → Proper device → (caps : Capacities) → Takes device caps → {calls : List Call} → AllLegal calls → history device caps calls .compact ≡ true
+    → read-state (image (survivors (history device caps calls .lists))) .lists ≡ history device caps calls .lists
+compact-read-back {device} p caps t {calls} l c =
+    let few = box-takes p t in
+    lists-read-back caps (history device caps calls .lists) (history-well-formed p caps t l) (compact-all-live device caps calls c) (few .nodes) (few .edges)

@@ -1,6 +1,6 @@
 -- Whole histories on the definitions: they keep the lists well formed, what is refused leaves the store, and what the closing calls answer. Demand 3 itself is
 -- the theorem of crate histories.
-use Prim.Native.Nat.{ℕ, zero, suc, _*_, _%_, _≤_}
+use Prim.Native.Nat.{ℕ, zero, suc, _*_, _%_, _<_}
 use mathlib.Core.Path.{_≡_, refl, sym, ap, _∙_}
 use mathlib.Core.Bool.{true, cond}
 use mathlib.Core.Logic.{_⊎_, inl, inr, ⊎-elim}
@@ -9,7 +9,9 @@ use mathlib.Core.List.{List, [], _∷_}
 use native.Mathlib.Omega.{arith}
 use lib.ListN.{length}
 use lib.Dec.{eqb, ltb}
-use Rattle.plain.specs.Numbers.{LIMIT, NONE}
+use borrow.Author.Tests.{ne-eqb}
+use Rattle.plain.specs.declared.Answer.{Answer}
+use Rattle.plain.specs.Numbers.{NONE}
 use Rattle.plain.specs.Operations.{operation-words, operations}
 use Rattle.plain.specs.Step.{Capacities, State}
 use Rattle.plain.specs.Plain.{Plain}
@@ -17,20 +19,21 @@ use Rattle.plain.specs.Reads.{Reply, lent, listing, live-edges}
 use Rattle.plain.specs.Compaction.{Survivors, survivors, compacted}
 use Rattle.plain.specs.Image.{image, broken-image, nodes-in, edges-in, parsed}
 use Rattle.plain.specs.Memory.{first-short, exact}
-use Rattle.plain.specs.Calls.{strip, fresh-state, limits, compacting, compaction, compaction-slices, reading-slices, read-image, read-state, write-image}
+use Rattle.plain.specs.Devices.{Device, box, Takes, Proper}
+use Rattle.plain.specs.Calls.{strip, fresh-state, compacting, compaction, compaction-slices, reading-slices, asked, read-image, read-state, write-image}
 use Rattle.plain.specs.History.{Call, Strip, Compaction, Reading, call, history-from, history, closing-image}
 use Rattle.plain.specs.WellFormed.{WellFormed}
 use Rattle.plain.specs.Laws.Booleans.{by-test, below-or-not}
 use Rattle.plain.specs.Laws.Operating.{empty-well-formed}
 use Rattle.plain.specs.Laws.Stepping.{run-well-formed, Words, operations-fitting}
-use Rattle.plain.specs.Laws.CallCases.{LongEnough, FirstShort, slice-fits, long-or-short, read-broken, read-short, read-done, write-short, write-lent, lent-short, lent-done}
+use Rattle.plain.specs.Laws.CallCases.{LongEnough, FirstShort, slice-fits, long-or-short, read-broken, image-nodes-above, image-edges-above, read-short, read-done, write-short, write-lent, lent-short, lent-done}
 use Rattle.plain.specs.Laws.Compacting.{survivors-sound, of-survivors-well-formed, survivors-of, compacted-well-formed, length-surviving-edges}
 use Rattle.plain.specs.Laws.ImageLaws.{parsed-sound, nodes-length, edges-length}
+use Rattle.plain.specs.Laws.Devices.{box-takes}
 
--- capacities that a fresh store takes
-pub record Within (caps : Capacities) : Type 0 where
-  pub nodes : caps .nodes ≤ LIMIT
-  pub edges : caps .edges ≤ LIMIT
+-- capacities that a box takes
+abbrev pub Within : Capacities → Type 0
+Within caps = Takes box caps
 
 -- a call whose words are words
 abbrev pub Legal : Call → Type 0
@@ -44,22 +47,34 @@ pub data AllLegal : List Call → Type 0 where
 
 -- ---- one call
 
--- reading into a store's own memory: unreadable, too short or done
-pub data ReadCase (caps : Capacities) (bytes : List ℕ) : ℕ → ℕ → Type 0 where
-  unreadable : {rule : ℕ} → broken-image bytes ≡ suc rule → ReadCase caps bytes 12 (suc rule)
-  read-too-short : {n : ℕ} → broken-image bytes ≡ 0 → FirstShort (reading-slices (nodes-in bytes) (edges-in bytes) (exact caps)) n → ReadCase caps bytes 2 n
-  read-fits : broken-image bytes ≡ 0 → LongEnough (reading-slices (nodes-in bytes) (edges-in bytes) (exact caps)) → ReadCase caps bytes 0 0
+-- reading into a store's own memory: unreadable, more than the device takes, too short or done
+pub data ReadCase (device : Device) (caps : Capacities) (bytes : List ℕ) : ℕ → ℕ → Type 0 where
+  unreadable : {rule : ℕ} → broken-image bytes ≡ suc rule → ReadCase device caps bytes 12 (suc rule)
+  many-nodes : broken-image bytes ≡ 0 → device .limits .nodes < nodes-in bytes → ReadCase device caps bytes (device .number) (nodes-in bytes)
+  many-edges : broken-image bytes ≡ 0 → device .limits .edges < edges-in bytes → ReadCase device caps bytes (device .number) (edges-in bytes)
+  read-too-short : {n : ℕ} → broken-image bytes ≡ 0 → FirstShort (reading-slices (nodes-in bytes) (edges-in bytes) (exact caps)) n → ReadCase device caps bytes 2 n
+  read-fits : broken-image bytes ≡ 0 → LongEnough (reading-slices (nodes-in bytes) (edges-in bytes) (exact caps)) → ReadCase device caps bytes 0 0
 
-module _ (caps : Capacities) (w : Within caps) (bytes : List ℕ) where
-  read-case-of : (rule : ℕ) → broken-image bytes ≡ rule → ReadCase caps bytes (read-image (exact caps) bytes .number) (read-image (exact caps) bytes .value)
-  unfolding read-image
-  read-case-of (suc rule) e = rw (read-broken limits 13 (exact caps) (w .nodes) (w .edges) bytes rule e) (unreadable e)
-  read-case-of zero e =
-      ⊎-elim (λ l. rw (read-done limits 13 (exact caps) (w .nodes) (w .edges) bytes e l) (read-fits e l))
-      (λ s. rw (read-short limits 13 (exact caps) (w .nodes) (w .edges) bytes (s .0) e (s .1)) (read-too-short e (s .1)))
+module _ (device : Device) (caps : Capacities) (takes : Takes device caps) (bytes : List ℕ) where
+  -- the case of an answer
+  abbrev Case : Answer → Type 0
+  Case answer = ReadCase device caps bytes (answer .number) (answer .value)
+
+  taken-case : broken-image bytes ≡ 0 → Takes device (asked (nodes-in bytes) (edges-in bytes)) → Case (read-image device (exact caps) bytes)
+  taken-case e t =
+      ⊎-elim (λ l. rw (read-done device (exact caps) takes bytes e t l) (read-fits e l))
+      (λ s. rw (read-short device (exact caps) takes bytes (s .0) e t (s .1)) (read-too-short e (s .1)))
       (long-or-short (reading-slices (nodes-in bytes) (edges-in bytes) (exact caps)))
 
-  pub read-case : ReadCase caps bytes (read-image (exact caps) bytes .number) (read-image (exact caps) bytes .value)
+  read-case-of : (rule : ℕ) → broken-image bytes ≡ rule → Case (read-image device (exact caps) bytes)
+  read-case-of (suc rule) e = rw (read-broken device (exact caps) takes bytes rule e) (unreadable e)
+  read-case-of zero e =
+      ⊎-elim (λ h. rw (image-nodes-above device (exact caps) takes bytes e h) (many-nodes e h))
+      (λ n. ⊎-elim (λ h. rw (image-edges-above device (exact caps) takes bytes e n h) (many-edges e h)) (λ m. taken-case e (record { nodes = n; edges = m }))
+      (below-or-not (device .limits .edges) (edges-in bytes)))
+      (below-or-not (device .limits .nodes) (nodes-in bytes))
+
+  pub read-case : Case (read-image device (exact caps) bytes)
   read-case = read-case-of (broken-image bytes) refl
 
 -- the lists that an accepted image leaves
@@ -68,11 +83,13 @@ read-well-formed : (caps : Capacities) (bytes : List ℕ) → broken-image bytes
 read-well-formed caps bytes e (slice-fits h (slice-fits k rest)) =
     of-survivors-well-formed caps (parsed bytes) (parsed-sound bytes e) (rw nodes-length h) (rw edges-length k)
 
-reading-well-formed : (caps : Capacities) (bytes : List ℕ) (s : State) {number value : ℕ} → ReadCase caps bytes number value → WellFormed caps (s .lists)
-    → WellFormed caps (cond (eqb number 0) (read-state bytes) s .lists)
-reading-well-formed caps bytes s (unreadable e) h = h
-reading-well-formed caps bytes s (read-too-short e f) h = h
-reading-well-formed caps bytes s (read-fits e f) h = read-well-formed caps bytes e f
+reading-well-formed : {device : Device} → Proper device → (caps : Capacities) (bytes : List ℕ) (s : State) {number value : ℕ} → ReadCase device caps bytes number value
+    → WellFormed caps (s .lists) → WellFormed caps (cond (eqb number 0) (read-state bytes) s .lists)
+reading-well-formed p caps bytes s (unreadable e) h = h
+reading-well-formed {device} p caps bytes s (many-nodes e k) h = rw (ne-eqb (device .number) 0 (p .refuses)) h
+reading-well-formed {device} p caps bytes s (many-edges e k) h = rw (ne-eqb (device .number) 0 (p .refuses)) h
+reading-well-formed p caps bytes s (read-too-short e f) h = h
+reading-well-formed p caps bytes s (read-fits e f) h = read-well-formed caps bytes e f
 
 compacting-well-formed : (caps : Capacities) → Within caps → (short : Option ℕ) (s : State) → WellFormed caps (s .lists)
     → WellFormed caps (compacting short s .after .lists)
@@ -88,20 +105,15 @@ strip-well-formed caps s words room fits h =
     (λ q. rw q h)
 
 -- a call keeps the lists well formed
-pub call-well-formed : (caps : Capacities) → Within caps → (s : State) (c : Call) → Legal c → WellFormed caps (s .lists) → WellFormed caps (call caps s c .after .lists)
+pub call-well-formed : {device : Device} → Proper device → (caps : Capacities) → Takes device caps → (s : State) (c : Call) → Legal c → WellFormed caps (s .lists)
+    → WellFormed caps (call device caps s c .after .lists)
 unfolding call compaction
-call-well-formed caps w s (Strip words room) l h = strip-well-formed caps s words room l h
-call-well-formed caps w s (Compaction node-map edge-map work) l h =
-    compacting-well-formed caps w (first-short (compaction-slices (s .lists) node-map edge-map work)) s h
-call-well-formed caps w s (Reading bytes) l h = reading-well-formed caps bytes s (read-case caps w bytes) h
+call-well-formed p caps t s (Strip words room) l h = strip-well-formed caps s words room l h
+call-well-formed p caps t s (Compaction node-map edge-map work) l h =
+    compacting-well-formed caps (box-takes p t) (first-short (compaction-slices (s .lists) node-map edge-map work)) s h
+call-well-formed {device} p caps t s (Reading bytes) l h = reading-well-formed p caps bytes s (read-case device caps t bytes) h
 
 -- "a refused call or operation leaves the plain lists and the store as they were": a call
-reading-refused : (caps : Capacities) (bytes : List ℕ) (s : State) {number value : ℕ} → ReadCase caps bytes number value → (number ≡ 0 → ⊥)
-    → cond (eqb number 0) (read-state bytes) s ≡ s
-reading-refused caps bytes s (unreadable e) h = refl
-reading-refused caps bytes s (read-too-short e f) h = refl
-reading-refused caps bytes s (read-fits e f) h = absurd (h refl)
-
 compacting-refused : (short : Option ℕ) (s : State) → (compacting short s .number ≡ 0 → ⊥) → compacting short s .after ≡ s
 compacting-refused none s h = absurd (h refl)
 compacting-refused (some needed) s h = refl
@@ -112,25 +124,27 @@ strip-refused caps s words room =
     by-test (eqb (length words % operation-words) 0) (λ q. rw q (by-test (ltb room (2 * length (operations words))) (λ r. rw r (λ h. refl)) (λ r. rw r (λ h. absurd (h refl)))))
     (λ q. rw q (λ h. refl))
 
-pub call-refused : (caps : Capacities) → Within caps → (s : State) (c : Call) → (call caps s c .number ≡ 0 → ⊥) → call caps s c .after ≡ s
+pub call-refused : (device : Device) (caps : Capacities) (s : State) (c : Call) → (call device caps s c .number ≡ 0 → ⊥) → call device caps s c .after ≡ s
 unfolding call compaction
-call-refused caps w s (Strip words room) h = strip-refused caps s words room h
-call-refused caps w s (Compaction node-map edge-map work) h =
+call-refused device caps s (Strip words room) h = strip-refused caps s words room h
+call-refused device caps s (Compaction node-map edge-map work) h =
     compacting-refused (first-short (compaction-slices (s .lists) node-map edge-map work)) s h
-call-refused caps w s (Reading bytes) h = reading-refused caps bytes s (read-case caps w bytes) h
+call-refused device caps s (Reading bytes) h = rw (ne-eqb (read-image device (exact caps) bytes .number) 0 h)
 
 -- ---- whole histories
 
-history-from-well-formed : (caps : Capacities) → Within caps → (s : State) {calls : List Call} → AllLegal calls → WellFormed caps (s .lists)
-    → WellFormed caps (history-from caps s calls .lists)
+history-from-well-formed : {device : Device} → Proper device → (caps : Capacities) → Takes device caps → (s : State) {calls : List Call} → AllLegal calls
+    → WellFormed caps (s .lists) → WellFormed caps (history-from device caps s calls .lists)
 unfolding history-from
-history-from-well-formed caps w s no-call h = h
-history-from-well-formed caps w s (one-call {c} l ls) h = history-from-well-formed caps w (call caps s c .after) ls (call-well-formed caps w s c l h)
+history-from-well-formed p caps t s no-call h = h
+history-from-well-formed {device} p caps t s (one-call {c} l ls) h =
+    history-from-well-formed p caps t (call device caps s c .after) ls (call-well-formed p caps t s c l h)
 
 -- every history leaves well-formed lists
-pub history-well-formed : (caps : Capacities) → Within caps → {calls : List Call} → AllLegal calls → WellFormed caps (history caps calls .lists)
+pub history-well-formed : {device : Device} → Proper device → (caps : Capacities) → Takes device caps → {calls : List Call} → AllLegal calls
+    → WellFormed caps (history device caps calls .lists)
 unfolding history
-history-well-formed caps w l = history-from-well-formed caps w fresh-state l (empty-well-formed caps)
+history-well-formed p caps t l = history-from-well-formed p caps t fresh-state l (empty-well-formed caps)
 
 -- ---- the closing compaction and image writing
 

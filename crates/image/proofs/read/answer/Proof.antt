@@ -11,7 +11,7 @@ use Rattle.image.proofs.read.answer.Tie as tie
 returns : tie.Need-returns
 returns c =
     let checked = c .before in
-    broken-told _ _ (checked .before .first-broken .ensures) (checked .if1 .taken) (c .reading-answer .ensures)
+    broken-told _ _ _ (checked .before .first-broken .ensures) (checked .if1 .taken) (c .reading-answer .ensures)
 
 -- the bytes are an image
 image : (c : tie.Else1) → broken-image (c .before .before .before .args .bytes .now) ≡ 0
@@ -28,7 +28,7 @@ returns-2 c =
     let edges = c .before in
     let nodes = edges .before in
     let checked = nodes .before .before in
-    whole-told _ _ (checked .first-broken .ensures) (nodes .read-field .ensures) (edges .read-field2 .ensures) (c .reading-answer2 .ensures)
+    whole-told _ _ _ (checked .first-broken .ensures) (nodes .read-field .ensures) (edges .read-field2 .ensures) (c .reading-answer2 .ensures)
 
 pub answer-spec : {M : Type 1} → statement M
 answer-spec =

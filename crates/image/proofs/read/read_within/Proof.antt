@@ -1,9 +1,9 @@
--- `read::read_image` meets its contract: the answer, then the store.
+-- `read::read_within` meets its contract: the answer, then the store.
 use borrow.Author.Needs.{needs}
 use Rattle.shape.specs.Shape.{store}
 use Rattle.image.proofs.ReadCases.{read-refused, accepted, read-done}
-use Rattle.image.proofs.read.read_image.Statement.{statement}
-use Rattle.image.proofs.read.read_image.Tie as tie
+use Rattle.image.proofs.read.read_within.Statement.{statement}
+use Rattle.image.proofs.read.read_within.Tie as tie
 
 -- the places on the way, each from the next one
 abbrev asked : tie.After-place-arg7 → tie.Else1
@@ -18,16 +18,17 @@ place-requires c κs =
     let s = done .before .before .before .before .before .before .before .before .before .before in
     let a = s .args in
     accepted (store (a .counts) (a .nodes .now) (a .lows .now) (a .highs .now) (a .live-nodes .now) (a .live-edges .now) (a .outgoing .now) (a .incoming .now)) _
-    (done .before .answer .result) (done .before .answer .ensures) (done .if1 .left)
+    (done .before .answer .result) (done .before .answer .ensures) (s .pre) (done .if1 .left)
 
 returns-2 : tie.Need-returns-2
 returns-2 c =
     let call = c .before .before .before .before .before .before .before .before .before .before .before .before .before .before in
     let done = asked (call .before) in
-    read-done _ _ (done .before .answer .result) (done .before .answer .ensures) (done .if1 .left) (call .place .result) (call .place .ensures)
+    let s = done .before .before .before .before .before .before .before .before .before .before in
+    read-done _ _ (done .before .answer .result) (done .before .answer .ensures) (s .pre) (done .if1 .left) (call .place .result) (call .place .ensures)
 
-pub read-image-spec : {M : Type 1} → statement M
-read-image-spec =
+pub read-within-spec : {M : Type 1} → statement M
+read-within-spec =
     tie.close
     (tie.spec
     (λ c κs. search needs)
