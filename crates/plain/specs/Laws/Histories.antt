@@ -1,6 +1,6 @@
 -- Whole histories on the definitions: they keep the lists well formed, what is refused leaves the store, and what the closing calls answer. Demand 3 itself is
 -- the theorem of crate histories.
-use Prim.Native.Nat.{ℕ, zero, suc, _*_, _%_, _<_}
+use Prim.Native.Nat.{ℕ, zero, suc, _*_, _%_, _≤_, _<_}
 use mathlib.Core.Path.{_≡_, refl, sym, ap, _∙_}
 use mathlib.Core.Bool.{true, cond}
 use mathlib.Core.Logic.{_⊎_, inl, inr, ⊎-elim}
