@@ -1,5 +1,6 @@
-//! Images of two stores against their survivors: after compaction the images are
-//! equal exactly when the survivors were, in the model and in the Rust.
+//! Images of two stores against their survivors: the images are equal exactly when
+//! the survivors are, in the model and in the Rust, written directly and after a
+//! compaction.
 
 use crate::calls::Lots;
 use crate::compare::Trio;
@@ -8,19 +9,25 @@ use crate::model::{Capacities, Survivors};
 use crate::rng::Rng;
 use crate::tally::{Difference, Tally, Thing};
 
-/// Survivors, then the images that the model and the Rust close with.
+/// Survivors, then the images of the model and the Rust, written directly, and those
+/// that they close with.
 fn closing(
     capacities: Capacities,
     steps: &[Step],
     tally: &mut Tally,
-) -> Result<(Survivors, [Vec<u8>; 2]), Difference> {
+) -> Result<(Survivors, [Vec<u8>; 4]), Difference> {
     let mut trio = Trio::fresh(capacities);
     for step in steps {
         trio.step(step, tally)?;
     }
     let survivors = trio.model.plain.survivors();
+    let direct = [trio.model.image(), trio.rust.image()];
     trio.compact(tally)?;
-    Ok((survivors, [trio.model.image(), trio.rust.image()]))
+    let [model, rust] = direct;
+    Ok((
+        survivors,
+        [model, rust, trio.model.image(), trio.rust.image()],
+    ))
 }
 
 /// Pairs of short sequences that differ in one step, so that many of them leave

@@ -355,11 +355,7 @@ impl<L: Lots> Reads<'_, L> {
             }
             let expected = expected.map(|image| image.len() as u32);
             let expected = (expected, vec![77; work_lent - free], whole);
-            let given = (
-                given.map_err(Answer::from),
-                work.split_off(free),
-                bytes,
-            );
+            let given = (given.map_err(Answer::from), work.split_off(free), bytes);
             tally.same(Thing::BookImage, place, expected, given)?;
         }
         if !self.lots.is_compact() {
