@@ -72,10 +72,10 @@ pub struct Total {
     pub high: u64,
 }
 
-/// Declares reads of a store, each with its own arguments and whether it is lent a
-/// slice, and a method of [`Memory`] for each.
+/// Declares reads of a store, each with its own arguments and the slices that it is
+/// lent, if any, and a method of [`Memory`] for each.
 macro_rules! reads {
-    ($($name:ident($($argument:ident),* $(; $slots:ident: $word:ty)?) -> $answer:ty;)*) => {
+    ($($name:ident($($argument:ident),* $(; $($slots:ident: $word:ty),+)?) -> $answer:ty;)*) => {
         mod reads {
             use super::{Answer, Counts, Record, Total};
 
@@ -97,13 +97,13 @@ macro_rules! reads {
                     incoming: *const u32,
                     incoming_length: usize,
                     $($argument: u32,)*
-                    $($slots: *mut $word, length: usize,)?
+                    $($($slots: *mut $word, _: usize,)+)?
                 ) -> $answer;)*
             }
         }
 
         impl Memory {
-            $(pub fn $name(&self, $($argument: u32,)* $($slots: &mut [$word])?) -> $answer {
+            $(pub fn $name(&self, $($argument: u32,)* $($($slots: &mut [$word]),+)?) -> $answer {
                 let [outgoing, incoming] = &self.axes;
                 // SAFETY: the slices are borrowed and as long as stated.
                 unsafe {
@@ -124,7 +124,7 @@ macro_rules! reads {
                         incoming.as_ptr(),
                         incoming.len(),
                         $($argument,)*
-                        $($slots.as_mut_ptr(), $slots.len(),)?
+                        $($($slots.as_mut_ptr(), $slots.len(),)+)?
                     )
                 }
             })*
@@ -143,6 +143,7 @@ reads! {
     lot_out_total(node) -> Total;
     lot_in_total(node) -> Total;
     lot_find(first, second) -> Answer;
+    lot_nearest(first, second; work: u32, chain: u32) -> Answer;
     lot_node_payload(node) -> Answer;
     lot_edge_record(edge) -> Record;
     lot_live_edge_record(edge) -> Record;

@@ -18,13 +18,13 @@ use Rattle.shape.specs.Index.{Rewritten}
 use Rattle.shape.specs.Shape.{Words, node-capacity, lists}
 use Rattle.nearest.specs.Chains.{nearest}
 use Rattle.nearest.specs.Calls.{Searched, cleared, chain-answer}
-use Rattle.nearest.specs.CallLaws.{chain-short, chain-fits}
+use Rattle.nearest.specs.CallLaws.{chain-short, chain-fits, chain-clears}
 use Rattle.nearest.specs.Search.{Distance}
 use Rattle.nearest.specs.Frontier.{dist-in}
 use Rattle.nearest.specs.Stores.{Asked}
 use Rattle.nearest.specs.Backwards.{Sought}
 use Rattle.nearest.specs.Forwards.{way-in, Forward}
-use Rattle.nearest.specs.Answers.{search-of, Answered}
+use Rattle.nearest.specs.Answers.{search-of, Found, Answered}
 use Rattle.nearest.proofs.SearchLaws.{word-distance}
 use Rattle.nearest.proofs.Stores.{few, consistent, lot-within, nearest-by-words}
 use Rattle.nearest.proofs.Downhill.{search-labelled, length-downhill}
@@ -54,44 +54,27 @@ cleared-words k entry exit low same clear rest =
         ap (λ (n : ℕ). getD (zeros ++ drop (length zeros) entry) n 0) split ∙ getD-append-add zeros (drop (length zeros) entry) (x - k) 0
         ∙ getD-drop (length zeros) entry (x - k) 0 ∙ ap (λ (n : ℕ). getD entry n 0) (sym split)
 
--- ---- the ways out
+-- ---- the ways out of the search
 
 module _ {w : Words} {first goal : ℕ} {work₀ : List ℕ} (h : Asked w first goal work₀) {work : List ℕ} {word : ℕ} (s : Sought w first goal work₀ work word) where
-  -- the borrowed words clear, and those past them as before
-  module _ {exit : List ℕ} (filled : Rewritten work exit 0 (2 * node-capacity w) (λ _. 0)) where
-    past-same : (x : ℕ) → 2 * node-capacity w ≤ x → getD work x 0 ≡ getD work₀ x 0
-    past-same x high =
-        let n = 2 * node-capacity w in
-        let split : x ≡ n + (x - n) = omega arith in
-        ap (λ (i : ℕ). getD work i 0) split ∙ sym (getD-drop n work (x - n) 0) ∙ ap (λ (l : List ℕ). getD l (x - n) 0) (s .drained .kept .held .beyond)
-        ∙ getD-drop n work₀ (x - n) 0 ∙ ap (λ (i : ℕ). getD work₀ i 0) (sym split)
-
-    borrowed : exit ≡ written (cleared (node-capacity w)) work₀
-    borrowed =
-        cleared-words (2 * node-capacity w) work₀ exit (h .long) (filled .long ∙ s .drained .kept .same-length)
-        (λ x low. ap (λ (i : ℕ). getD exit i 0) (zero-off x) ∙ filled .within x low) (λ x high. filled .above x (omega arith) ∙ past-same x high)
-      where
-        zero-off : (x : ℕ) → x ≡ 0 + x
-        zero-off x = omega arith
-
-  -- what the definition comes to is answered and written
-  answers : {exit chain chain′ : List ℕ} (searched : Searched) → search-of w first goal (length chain) ≡ searched → exit ≡ written (searched .work) work₀
-      → chain′ ≡ written (searched .chain) chain → Answered w first goal work₀ chain (record { number = searched .number; value = searched .value }) exit chain′
-  answers {exit} {chain} {chain′} searched is worked wrote = record {
+  -- what the definition comes to is answered, and its chain is written
+  finds : {chain chain′ : List ℕ} (searched : Searched) → search-of w first goal (length chain) ≡ searched → chain′ ≡ written (searched .chain) chain
+      → Found w first goal work₀ chain (record { number = searched .number; value = searched .value }) work chain′
+  finds {chain} {chain′} searched is wrote = record {
     numbered = sym (ap (λ (r : Searched). r .number) is);
     valued = sym (ap (λ (r : Searched). r .value) is);
-    worked = worked ∙ sym (ap (λ (r : Searched). written (r .work) work₀) is);
     wrote = wrote ∙ sym (ap (λ (r : Searched). written (r .chain) chain) is);
+    same-length = s .drained .kept .same-length;
+    beyond = s .drained .kept .held .beyond;
   }
 
   -- no chain
-  pub answered-denied : {exit chain : List ℕ} → word ≡ 0 → Rewritten work exit 0 (2 * node-capacity w) (λ _. 0)
-      → Answered w first goal work₀ chain (record { number = 14; value = NONE }) exit chain
-  answered-denied {exit} {chain} none-word filled =
-      answers (record { number = 14; value = NONE; work = cleared (node-capacity w); chain = [] })
+  pub found-none : {chain : List ℕ} → word ≡ 0 → Found w first goal work₀ chain (record { number = 14; value = NONE }) work chain
+  found-none {chain} none-word =
+      finds (record { number = 14; value = NONE; work = cleared (node-capacity w); chain = [] })
       (ap (chain-answer (node-capacity w) (length chain))
       (nearest-by-words (h .checked) (node-capacity w) first goal ∙ drained-denied h (s .drained) (sym (s .is-word) ∙ none-word)))
-      (borrowed filled) refl
+      refl
 
   -- a chain, of one edge less than the word
   module _ (some-word : word ≡ 0 → ⊥) where
@@ -126,19 +109,49 @@ module _ {w : Words} {first goal : ℕ} {work₀ : List ℕ} (h : Asked w first 
     }
 
     -- the chain's slice is too short
-    pub answered-short : {exit chain : List ℕ} → Rewritten work exit 0 (2 * node-capacity w) (λ _. 0) → length chain < word - 1
-        → Answered w first goal work₀ chain (record { number = 2; value = word - 1 }) exit chain
-    answered-short {exit} {chain} filled short =
-        subst (λ (v : ℕ). Answered w first goal work₀ chain (record { number = 2; value = v }) exit chain) way-long
-        (answers (record { number = 2; value = length way; work = cleared (node-capacity w); chain = [] })
-        (ap (chain-answer (node-capacity w) (length chain)) found ∙ chain-short (node-capacity w) (length chain) way (let l = way-long in omega arith))
-        (borrowed filled) refl)
+    pub found-short : {chain : List ℕ} → length chain < word - 1 → Found w first goal work₀ chain (record { number = 2; value = word - 1 }) work chain
+    found-short {chain} short =
+        subst (λ (v : ℕ). Found w first goal work₀ chain (record { number = 2; value = v }) work chain) way-long
+        (finds (record { number = 2; value = length way; work = cleared (node-capacity w); chain = [] })
+        (ap (chain-answer (node-capacity w) (length chain)) found ∙ chain-short (node-capacity w) (length chain) way (let l = way-long in omega arith)) refl)
 
     -- done
-    pub answered-done : {exit chain chain′ : List ℕ} → Rewritten work exit 0 (2 * node-capacity w) (λ _. 0) → word - 1 ≤ length chain → chain′ ≡ written way chain
-        → Answered w first goal work₀ chain (record { number = 0; value = word - 1 }) exit chain′
-    answered-done {exit} {chain} {chain′} filled fits wrote =
-        subst (λ (v : ℕ). Answered w first goal work₀ chain (record { number = 0; value = v }) exit chain′) way-long
-        (answers (record { number = 0; value = length way; work = cleared (node-capacity w); chain = way })
-        (ap (chain-answer (node-capacity w) (length chain)) found ∙ chain-fits (node-capacity w) (length chain) way (let l = way-long in omega arith))
-        (borrowed filled) wrote)
+    pub found-done : {chain chain′ : List ℕ} → word - 1 ≤ length chain → chain′ ≡ written way chain
+        → Found w first goal work₀ chain (record { number = 0; value = word - 1 }) work chain′
+    found-done {chain} {chain′} fits wrote =
+        subst (λ (v : ℕ). Found w first goal work₀ chain (record { number = 0; value = v }) work chain′) way-long
+        (finds (record { number = 0; value = length way; work = cleared (node-capacity w); chain = way })
+        (ap (chain-answer (node-capacity w) (length chain)) found ∙ chain-fits (node-capacity w) (length chain) way (let l = way-long in omega arith)) wrote)
+
+-- ---- the borrowed words clear
+
+module _ {w : Words} {first goal : ℕ} {work chain : List ℕ} (h : Asked w first goal work) {r : Answer} {work′ chain′ : List ℕ}
+    (f : Found w first goal work chain r work′ chain′) where
+  pub clear-fits : 0 + 2 * node-capacity w ≤ length work′
+  clear-fits = let l = h .long in let s = f .same-length in omega arith
+
+  module _ {exit : List ℕ} (filled : Rewritten work′ exit 0 (2 * node-capacity w) (λ _. 0)) where
+    -- words past them are as before
+    past-same : (x : ℕ) → 2 * node-capacity w ≤ x → getD work′ x 0 ≡ getD work x 0
+    past-same x high =
+        let n = 2 * node-capacity w in
+        let split : x ≡ n + (x - n) = omega arith in
+        ap (λ (i : ℕ). getD work′ i 0) split ∙ sym (getD-drop n work′ (x - n) 0) ∙ ap (λ (l : List ℕ). getD l (x - n) 0) (f .beyond)
+        ∙ getD-drop n work (x - n) 0 ∙ ap (λ (i : ℕ). getD work i 0) (sym split)
+
+    borrowed : exit ≡ written (cleared (node-capacity w)) work
+    borrowed =
+        cleared-words (2 * node-capacity w) work exit (h .long) (filled .long ∙ f .same-length)
+        (λ x low. ap (λ (i : ℕ). getD exit i 0) (zero-off x) ∙ filled .within x low) (λ x high. filled .above x (omega arith) ∙ past-same x high)
+      where
+        zero-off : (x : ℕ) → x ≡ 0 + x
+        zero-off x = omega arith
+
+    pub answered : Answered w first goal work chain r exit chain′
+    answered = record {
+      numbered = f .numbered;
+      valued = f .valued;
+      wrote = f .wrote;
+      worked = borrowed ∙ ap (λ (l : List ℕ). written l work)
+          (sym (chain-clears (node-capacity w) (length chain) (nearest (list-of Outgoing (lists w)) (end-of Incoming (lists w)) (node-capacity w) first goal)));
+    }

@@ -75,6 +75,13 @@ pub chain-fits : (capacity room : ℕ) (c : List ℕ) → length c ≤ room
     → chain-answer capacity room (some c) ≡ record { number = 0; value = length c; work = cleared capacity; chain = c }
 chain-fits capacity room c h = rw (le-ltb room (length c) h)
 
+-- the borrowed words are clear once the search was made, whatever it found
+pub chain-clears : (capacity room : ℕ) (found : Option (List ℕ)) → chain-answer capacity room found .work ≡ cleared capacity
+chain-clears capacity room none = refl
+chain-clears capacity room (some c) =
+    ⊎-elim (λ short. ap (λ (r : Searched). r .work) (chain-short capacity room c short)) (λ fits. ap (λ (r : Searched). r .work) (chain-fits capacity room c fits))
+    (below-or-not room (length c))
+
 -- ---- the sentences
 
 -- a chain of a store's live transfers

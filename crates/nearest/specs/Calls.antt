@@ -8,17 +8,13 @@ use lib.ListN.{length, replicate}
 use lib.Dec.{ltb}
 use Rattle.plain.specs.declared.TraversalDirection.the-variants.{Outgoing, Incoming}
 use Rattle.plain.specs.declared.Answer.{Answer}
-use Rattle.plain.specs.Numbers.{NONE, done, no-store, too-short}
+use Rattle.plain.specs.Numbers.{NONE, done, no-store, too-short, unreachable}
 use Rattle.plain.specs.Lists.{written}
 use Rattle.plain.specs.Plain.{Plain, list-of, end-of}
 use Rattle.plain.specs.Step.{node-fault}
 use Rattle.shape.specs.Shape.{Words, node-capacity, lists}
 use Rattle.shape.specs.Rules.{broken}
 use Rattle.nearest.specs.Chains.{nearest}
-
--- "It refuses with 14, value NONE, where no chain exists"
-abbrev pub unreachable : ℕ
-unreachable = 14
 
 -- What a call comes to: number and value, and the words that the work slice and the chain's slice then start with.
 pub record Searched : Type 0 where

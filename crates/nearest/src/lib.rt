@@ -13,16 +13,14 @@ use plain::numbers::DONE;
 use plain::numbers::OUT_OF_RANGE_NODE;
 use plain::numbers::REMOVED_NODE;
 use plain::numbers::TOO_SHORT;
+use plain::numbers::UNREACHABLE;
 use strip::step::fault;
 use validate::judging::judge;
 use validate::judging::no_store;
 ghost use Rattle.shape.specs.Lent.{lent, at-entry};
 ghost use Rattle.nearest.specs.Stores.{Asked};
-ghost use Rattle.nearest.specs.Answers.{Answered, Refused};
+ghost use Rattle.nearest.specs.Answers.{Found, Answered, Refused};
 ghost use Rattle.nearest.specs.Calls.{NearestOf};
-
-// There is no chain from the first lot to the second.
-pub const UNREACHABLE: u32 = 14;
 
 // What is refused before the search, where the work slice has `room` words: 1, first 5, 6, second 5, 6, 2; or nothing. Internal: it writes nothing.
 fn refusal(
@@ -95,8 +93,8 @@ fn refusal(
     }
 }
 
-// The nearest chain from one live lot to another, and the borrowed words clear. Internal: nothing is refused before the search.
-fn nearest_chain(
+// The search, and the way forward where there is one and room for it; the borrowed words are left as they come. Internal: nothing is refused before the search.
+fn find_chain(
     counts: Counts,
     nodes: &[u32],
     lows: &[u32],
@@ -111,7 +109,7 @@ fn nearest_chain(
     chain: &mut [u32],
 ) -> Answer
     requires { ⌜ Asked (lent counts nodes lows highs «live_nodes» «live_edges» outgoing incoming) first second (now work) ⌝ }
-    ensures { λ r. ⌜ Answered
+    ensures { λ r. ⌜ Found
         (at-entry counts nodes lows highs «live_nodes» «live_edges» outgoing incoming)
         first second (now (work .entry)) (now (chain .entry)) r (now (work .exit)) (now (chain .exit)) ⌝ }
 {
@@ -130,7 +128,6 @@ fn nearest_chain(
         work,
     );
     if word == 0 {
-        index::fill_words(work, 0, 2 * nodes.len(), 0);
         return Answer {
             number: UNREACHABLE,
             value: NONE as u64,
@@ -138,7 +135,6 @@ fn nearest_chain(
     }
     let left = (word - 1) as usize;
     if room < left {
-        index::fill_words(work, 0, 2 * nodes.len(), 0);
         return Answer {
             number: TOO_SHORT,
             value: left as u64,
@@ -159,11 +155,48 @@ fn nearest_chain(
         first,
         chain,
     );
-    index::fill_words(work, 0, 2 * nodes.len(), 0);
     Answer {
         number: DONE,
         value: left as u64,
     }
+}
+
+// The nearest chain from one live lot to another, and the borrowed words clear. Internal: nothing is refused before the search.
+fn nearest_chain(
+    counts: Counts,
+    nodes: &[u32],
+    lows: &[u32],
+    highs: &[u32],
+    live_nodes: &[u64],
+    live_edges: &[u64],
+    outgoing: &[u32],
+    incoming: &[u32],
+    first: u32,
+    second: u32,
+    work: &mut [u32],
+    chain: &mut [u32],
+) -> Answer
+    requires { ⌜ Asked (lent counts nodes lows highs «live_nodes» «live_edges» outgoing incoming) first second (now work) ⌝ }
+    ensures { λ r. ⌜ Answered
+        (at-entry counts nodes lows highs «live_nodes» «live_edges» outgoing incoming)
+        first second (now (work .entry)) (now (chain .entry)) r (now (work .exit)) (now (chain .exit)) ⌝ }
+{
+    let answer = find_chain(
+        counts,
+        nodes,
+        lows,
+        highs,
+        live_nodes,
+        live_edges,
+        outgoing,
+        incoming,
+        first,
+        second,
+        work,
+        chain,
+    );
+    index::fill_words(work, 0, 2 * nodes.len(), 0);
+    answer
 }
 
 // The nearest chain from lot `first` to lot `second` as edge slots into `chain`; the value is its length. 1, first 5, 6, second 5, 6, 2 for `work`, 14, 2 for `chain`.

@@ -39,5 +39,8 @@ pub const UNREADABLE: u32 = 12;
 // Capacity above 32,768.
 pub const ABOVE_LIMIT: u32 = 13;
 
+// No chain from one lot to another.
+pub const UNREACHABLE: u32 = 14;
+
 // A low above its high.
 pub const INVERTED: u32 = 16;
