@@ -5,7 +5,7 @@
  * What every function needs: each slice is a pointer, not NULL even where the length is 0, and a number of words that can be read there (and written where the
  * pointer is not const); no written slice overlaps another slice of the call. Nothing else: counts, words and lengths may be anything.
  *
- * What every function answers: number 0 and a value, or the number of a refusal. A call that refuses writes nothing.
+ * What every function answers: number 0 and a value, or the number of a refusal. A call that refuses writes nothing, but for the work slice of lot_nearest.
  * Words past the length that a slice needs (below, at LOT_STORE_READ) are never written, nor those past an answer's end.
  *
  *   number  cause                                        value
@@ -14,10 +14,12 @@
  *   2       a lent slice is too short                    the length needed
  *   3       a strip is not a multiple of five words      its length
  *   5       a node at or above the bound                 LOT_NONE
+ *   6       a removed node                               LOT_NONE
  *   7       an edge at or above the bound                LOT_NONE
  *   8       a removed edge                               LOT_NONE
  *   12      bytes that are no image                      the first broken rule, 1 to 6 (lot_read_image)
  *   13      a capacity above 32,768                      that capacity
+ *   14      no chain from one node to another            LOT_NONE
  *   15      more lots or transfers than the skid takes   that capacity, or the image's count (lot_skid_fresh, lot_skid_read_image)
  *
  * Operations of a strip are refused by themselves (lot_strip). docs/ENTRIES.md tells the same of the Rattle functions, with the definition that each is proved
@@ -43,6 +45,8 @@ extern "C" {
 /* The words of `outgoing` and of `incoming`, and of live bits, for so many slots. */
 #define LOT_AXIS_WORDS(nodes, edges) (4 * (size_t)(edges) + 6 * (size_t)(nodes) + 1)
 #define LOT_LIVE_WORDS(slots) (((size_t)(slots) + 63) / 64)
+/* The words that lot_nearest borrows. */
+#define LOT_NEAREST_WORDS(nodes) (2 * (size_t)(nodes))
 
 /* The counts of one kind of slot: all slots, those that the compressed base holds, those that are live. */
 typedef struct {
@@ -129,7 +133,7 @@ lot_changed lot_fresh(LOT_STORE_READ);
  *   8  move in-list       old, new, 0, 0             the edges moved                    4, 9, old 5; an empty list is done, 0; new 5, 6
  *   9  set edge payload   edge, 0, low, high         0                                  4, 16, 7
  *
- * 4 is an unknown code or an unused word that is not 0, 6 a removed node, 9 a move onto itself, 10 a bound that equals the capacity, 16 a low above its high; the
+ * 4 is an unknown code or an unused word that is not 0, 9 a move onto itself, 10 a bound that equals the capacity, 16 a low above its high; the
  * value of a refused operation is LOT_NONE. A refused operation changes nothing and the strip goes on.
  *
  * Answers 0, with the counts afterwards, which the next call takes. Refuses 1, then 3, then 2 (two words an operation); then the counts are those given. Leaves
@@ -187,6 +191,14 @@ lot_answer lot_predecessors(lot_counts counts, LOT_STORE_READ, uint32_t node, ui
 
 /* The first edge of the out-list of `first` that ends at `second`, or LOT_NONE where there is none and only then. Refuses 1, first 5, second 5. */
 lot_answer lot_find(lot_counts counts, LOT_STORE_READ, uint32_t first, uint32_t second);
+
+/* The shortest chain of live edges, following their direction, from `first` to `second`, at the start of `chain`; among equal lengths the one whose first
+ * edge stands earliest in the out-list, then its second, and so on. A node reaches itself by the empty chain. Answers its length. Refuses 1, first 5, 6,
+ * second 5, 6, 2 for `work` (LOT_NEAREST_WORDS(N)), 14 where there is no chain and only then, 2 for `chain` (its length). The words of `work` may hold anything;
+ * these first ones are 0 after 0, 14 and the last 2. Leaves the words of both slices past them, and where it refuses `chain` and, but for 14 and the last 2,
+ * `work`. */
+lot_answer lot_nearest(lot_counts counts, LOT_STORE_READ, uint32_t first, uint32_t second, uint32_t *work, size_t work_length, uint32_t *chain,
+                       size_t chain_length);
 
 /* ---- reads of a slot */
 

@@ -21,6 +21,9 @@ pub trait Lots {
     fn degree(&self, direction: TraversalDirection, node: u32) -> u32;
     /// The nodes at the other ends of the list.
     fn neighbors(&self, direction: TraversalDirection, node: u32) -> Vec<u32>;
+    /// The shortest chain of edges from one live node to another, the first among
+    /// equals; nothing where there is none.
+    fn nearest(&self, first: u32, second: u32) -> Option<Vec<u32>>;
     fn contains_node(&self, node: u32) -> bool;
     fn contains_edge(&self, edge: u32) -> bool;
     fn live_nodes(&self) -> Vec<u32>;
@@ -70,6 +73,10 @@ impl Lots for Model {
     fn neighbors(&self, direction: TraversalDirection, node: u32) -> Vec<u32> {
         let neighbors = self.plain.neighbors(direction, node);
         neighbors.expect("below the bound")
+    }
+
+    fn nearest(&self, first: u32, second: u32) -> Option<Vec<u32>> {
+        self.plain.chains().searched(first, second)
     }
 
     fn contains_node(&self, node: u32) -> bool {
@@ -202,6 +209,52 @@ pub fn find(lots: &impl Lots, source: u32, target: u32) -> Answer {
             .is_some_and(|(record, _)| record[1] == target)
     };
     Answer::done(walk.into_iter().find(reaches).unwrap_or(NONE).into())
+}
+
+/// What a search for the nearest lot comes to: its answer, whether the words that it
+/// borrows are then clear, and the chain that it writes.
+#[derive(Debug, Clone, PartialEq, Eq)]
+pub struct Searched {
+    pub answer: Answer,
+    pub clears: bool,
+    pub chain: Vec<u32>,
+}
+
+/// "a work slice of twice the lot capacity"
+pub fn nearest_needs(Capacities { nodes, .. }: Capacities) -> usize {
+    2 * nodes as usize
+}
+
+/// Request 4: "It refuses with 14, value NONE, where no chain exists: after 1, after
+/// 5 and 6 for the first lot and then for the second, after 2 for the work slice, and
+/// before 2 for the chain." Of the lengths of the work slice and the chain's.
+pub fn nearest(
+    lots: &impl Lots,
+    capacities: Capacities,
+    [first, second]: [u32; 2],
+    [work, room]: [usize; 2],
+) -> Searched {
+    let fault = |node| match lots.payload(node) {
+        None => Some(Answer::refused(5)),
+        Some(_) if !lots.contains_node(node) => Some(Answer::refused(6)),
+        Some(_) => None,
+    };
+    let needed = nearest_needs(capacities);
+    let short = (work < needed).then_some(Answer::too_short(needed));
+    let refused = fault(first).or_else(|| fault(second)).or(short);
+    let (answer, clears, chain) = match refused {
+        Some(refused) => (refused, false, Vec::new()),
+        None => match lots.nearest(first, second).map(|chain| fit(chain, room)) {
+            None => (Answer::refused(14), true, Vec::new()),
+            Some(Err(short)) => (short, true, Vec::new()),
+            Some(Ok(chain)) => (Answer::done(chain.len() as u64), true, chain),
+        },
+    };
+    Searched {
+        answer,
+        clears,
+        chain,
+    }
 }
 
 /// "The caller lends a node map and an edge map, as long as the bounds before,

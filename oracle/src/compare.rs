@@ -255,6 +255,7 @@ impl Trio {
         for slot in 0..plain.edges.len() as u32 {
             self.compare_edge(slot, tally)?;
         }
+        self.compare_nearest(tally)?;
         self.compare_whole(tally)?;
 
         let place = || "the store".to_string();
@@ -326,6 +327,21 @@ impl Trio {
         if live {
             let given = rust_store::live_record(graph, slot);
             tally.same(Thing::LiveRecord, place, expected, given)?;
+        }
+        Ok(())
+    }
+
+    /// The nearest chain from every live node to another.
+    fn compare_nearest(&self, tally: &mut Tally) -> Same {
+        let live = self.model.live_nodes();
+        for (at, &first) in live.iter().enumerate() {
+            let second = live[(5 * at + 2) % live.len()];
+            let place = || format!("from node {first} to node {second}");
+            let [expected, given] = [
+                self.model.nearest(first, second),
+                self.rust.nearest(first, second),
+            ];
+            tally.same(Thing::Nearest, place, expected, given)?;
         }
         Ok(())
     }

@@ -2,6 +2,7 @@
 //! lists, driven by the same operations and compared.
 
 mod calls;
+mod chains;
 #[cfg(feature = "serde")]
 mod checked;
 mod compare;

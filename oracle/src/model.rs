@@ -5,6 +5,7 @@
 //! Lengths of the store's own lent words are not spoken of here: they are the
 //! port's, not the plain lists'.
 
+use crate::chains::Lists;
 use crate::graph::traverse::TraversalDirection;
 
 /// "NONE = 4,294,967,295 for 'none'".
@@ -31,7 +32,7 @@ impl Answer {
         Self { number: 0, value }
     }
 
-    /// Numbers 4 to 10 and 16 have the value NONE.
+    /// Numbers 4 to 10, 14 and 16 have the value NONE.
     pub const fn refused(number: u32) -> Self {
         Self {
             number,
@@ -240,6 +241,14 @@ impl Plain {
     pub fn walk(&self, direction: TraversalDirection, node: u32) -> Option<&[u32]> {
         let list = self.incidence(direction).lists.get(node as usize)?;
         Some(list)
+    }
+
+    /// What chains of live edges go along.
+    pub fn chains(&self) -> Lists<'_> {
+        Lists {
+            out: &self.outgoing.lists,
+            targets: &self.incoming.ends,
+        }
     }
 
     /// The nodes at the other ends of a walk.

@@ -11,6 +11,8 @@ mod axis;
 pub mod benchmark;
 #[cfg(feature = "serde")]
 pub mod book;
+#[cfg(feature = "serde")]
+mod chains;
 mod columns;
 #[cfg(feature = "serde")]
 mod damaged;
@@ -381,6 +383,7 @@ pub fn compare(operations: u64, depth: usize, seed: u64, tally: &mut Tally) -> S
     #[cfg(feature = "serde")]
     {
         damaged::compare(60_000, seed, tally)?;
+        chains::compare(seed, tally)?;
         compare_books(operations, seed, tally)?;
     }
     Ok(())

@@ -251,6 +251,24 @@ impl Recorder<'_> {
         let given = calls::find(rust, slot, other);
         let Answer { number, value } = self.both(&call, expected, given)?;
         line!(self.text, "{call} {number} {value}");
+        let other = self.rng.below(rust.bounds()[0] + 1) as u32;
+        self.nearest(trio, [slot, other])
+    }
+
+    fn nearest(&mut self, trio: &Trio, lots: [u32; 2]) -> Result<(), Difference> {
+        let capacities = trio.rust.capacities;
+        let needed = calls::nearest_needs(capacities);
+        let unbounded = calls::nearest(&trio.rust, capacities, lots, [usize::MAX; 2]);
+        let lengths = [needed, unbounded.chain.len()].map(|needed| self.length(needed));
+        let ([first, second], [work, room]) = (lots, lengths);
+        let call = format!("nearest {first} {second} {work} {room}");
+        let expected = calls::nearest(&trio.model, capacities, lots, lengths);
+        let given = calls::nearest(&trio.rust, capacities, lots, lengths);
+        let given = self.both(&call, expected, given)?;
+        let Answer { number, value } = given.answer;
+        let clear = if given.clears { needed } else { 0 };
+        let chain = joined(&given.chain);
+        line!(self.text, "{call} {number} {value} {clear}{chain}");
         Ok(())
     }
 
@@ -563,6 +581,7 @@ fn replay(sequences: &str, images: &str) -> [String; 2] {
             "store" => replay.one(9, &[], &numbers),
             "compact" => replay.compaction(&numbers, &mut lines),
             "find" => replay.one(13, &numbers[..2], &numbers[2..]),
+            "nearest" => replay.one(20, &numbers[..4], &numbers[4..]),
             "image" => replay.image(rest),
             "read" => replay.reading(15, &bytes_of(rest), &[0, 0]),
             name => unreachable!("a line of sequences.txt, {name}"),

@@ -9,7 +9,7 @@
 use crate::calls::Lots;
 use crate::graph::edge_view::EdgeView;
 use crate::graph::store::{EdgeId, Graph, NodeId, Renumbering};
-use crate::graph::traverse::TraversalDirection;
+use crate::graph::traverse::{self, TraversalDirection};
 use crate::image;
 use crate::model::{Answer, Capacities, EdgePayload, Incidence, NONE, Operation, Plain, Slot};
 #[cfg(ported)]
@@ -187,6 +187,10 @@ impl Lots for RustStore {
         neighbors(&self.graph, direction, slot)
     }
 
+    fn nearest(&self, first: u32, second: u32) -> Option<Vec<u32>> {
+        nearest(&self.graph, first, second)
+    }
+
     fn contains_node(&self, slot: u32) -> bool {
         self.graph.contains_node(node(slot))
     }
@@ -342,6 +346,21 @@ pub fn degree(graph: &Graph<u32, u32>, direction: TraversalDirection, slot: u32)
         TraversalDirection::Incoming => graph.in_degree(node(slot)),
     };
     degree as u32
+}
+
+/// The Rust's `shortest_path`, which gives nodes, by the first edge of the out-list
+/// from each to the next. It takes up nodes in the order of the lists, so that it
+/// comes to each by the chain that goes before all others of its length.
+pub fn nearest(graph: &Graph<u32, u32>, first: u32, second: u32) -> Option<Vec<u32>> {
+    let direction = TraversalDirection::Outgoing;
+    let path = traverse::shortest_path(graph, node(first), node(second), direction)?;
+    let edge = |pair: &[NodeId]| {
+        let [from, to] = [pair[0], pair[1]].map(NodeId::raw);
+        let mut edges = edges_of(graph, direction, from);
+        let found = edges.find(|&slot| record(graph, slot)[1] == to);
+        found.expect("a step of the path is an edge")
+    };
+    Some(path.windows(2).map(edge).collect())
 }
 
 /// The public lookups of an old node and of an old edge.

@@ -84,6 +84,8 @@ things! {
         "Rules 1 to 5 and 7 are those of `validate.rs` in its order";
     Damaged: "rules of validate.rs for damaged stores",
         "Rules 1 to 5 and 7 are those of `validate.rs` in its order, rule 6 is added.";
+    Nearest: "nearest chains, by the model and by the Rust's shortest_path",
+        "Among equal lengths take the chain whose first edge stands earliest in the out-list, then its second, and so on.";
     Call: "calls with lengths of lent slices",
         "a lent slice too short | 2 | length needed";
     PortFresh: "port: fresh stores, in memory of any lengths",
@@ -152,6 +154,10 @@ things! {
         "Record 1, 7; live record 1, 7, 8.";
     BookFind: "book: found edges",
         "Finding now gives the earliest in the source lot's out-list.";
+    BookNearest: "book: nearest chains, with the work slice and the chain's afterwards",
+        "these words are all zero after an answer 0 or 14 and after the 2 for the chain, the chain's slice then being untouched";
+    BookChain: "book: nearest chains in every store of up to four lots and five transfers, by all chains enumerated",
+        "No shorter chain may exist, and a chain is denied only if there is none at all.";
     BookPart: "book: base parts, runs and rings in its memory",
         "Against the Rust, run contents are from now on matched after dead entries are struck from both sides.";
     BookRun: "book: base parts, runs and rings, dead entries included, by the model",

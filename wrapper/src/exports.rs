@@ -73,7 +73,7 @@ pub struct Total {
 }
 
 /// Declares reads of a store, each with its own arguments and the slices that it is
-/// lent, and a method of [`Memory`] for each.
+/// lent, if any, and a method of [`Memory`] for each.
 macro_rules! reads {
     ($($name:ident($($argument:ident),* $(; $($slots:ident: $word:ty),+)?) -> $answer:ty;)*) => {
         mod reads {
@@ -143,6 +143,7 @@ reads! {
     lot_out_total(node) -> Total;
     lot_in_total(node) -> Total;
     lot_find(first, second) -> Answer;
+    lot_nearest(first, second; work: u32, chain: u32) -> Answer;
     lot_node_payload(node) -> Answer;
     lot_edge_record(edge) -> Record;
     lot_live_edge_record(edge) -> Record;

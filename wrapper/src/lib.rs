@@ -27,6 +27,8 @@
 //! assert_eq!(book.outgoing(malt)?, [transfer]);
 //! assert_eq!(book.predecessors(beer)?, [malt]);
 //! assert_eq!(book.find(malt, beer)?, Some(transfer));
+//! assert_eq!(book.nearest(malt, beer)?, Some(vec![transfer]));
+//! assert_eq!(book.nearest(beer, malt)?, None);
 //! assert_eq!(book.edge_record(transfer)?.payload, payload);
 //! assert_eq!(book.in_total(beer)?.high, 251);
 //!
@@ -417,7 +419,7 @@ impl LotBook {
     /// A list into a slice that is lengthened once if it is too short.
     fn list<Word: Clone + Default>(
         &self,
-        call: impl Fn(&Memory, &mut [Word]) -> exports::Answer,
+        mut call: impl FnMut(&Memory, &mut [Word]) -> exports::Answer,
     ) -> Result<Vec<Word>, Refused> {
         let mut slots = vec![Word::default(); 16];
         let mut answer = call(&self.memory, &mut slots);
@@ -502,6 +504,38 @@ impl LotBook {
     pub fn find(&self, first: u32, second: u32) -> Result<Option<u32>, Refused> {
         let found = self.slot_answer(|memory| memory.lot_find(first, second))?;
         Ok((found != NONE).then_some(found))
+    }
+
+    /// The shortest chain of live edges from the first node to the second, the first
+    /// among equals by the places of its edges in the out-lists; nothing where there
+    /// is none. A node reaches itself by the empty chain.
+    ///
+    /// # Errors
+    /// 1, first 5, 6, second 5, 6.
+    pub fn nearest(&self, first: u32, second: u32) -> Result<Option<Vec<u32>>, Refused> {
+        let mut work = vec![0; 2 * self.memory.nodes.len()];
+        let found = self.list(|memory, chain| memory.lot_nearest(first, second, &mut work, chain));
+        match found {
+            Err(Refused { number: 14, .. }) => Ok(None),
+            found => found.map(Some),
+        }
+    }
+
+    /// The same into lent slices: the chain's length. The first words of `work`,
+    /// twice the node capacity, may hold anything and are 0 afterwards, and words of
+    /// `chain` past the chain keep their content.
+    ///
+    /// # Errors
+    /// 1, first 5, 6, second 5, 6 and 2 for `work` (the length needed) write nothing;
+    /// 14 where there is no chain and 2 for `chain` leave `work` as above.
+    pub fn nearest_into(
+        &self,
+        first: u32,
+        second: u32,
+        work: &mut [u32],
+        chain: &mut [u32],
+    ) -> Result<u32, Refused> {
+        self.slot_answer(|memory| memory.lot_nearest(first, second, work, chain))
     }
 
     /// The payload of a node, of a removed one too.

@@ -78,6 +78,45 @@ fn totals() {
     assert_eq!(book.in_total(2), total(most - 3, most));
 }
 
+/// The nearest chain: first among equals, denied, refused, and what the lent slices
+/// then hold.
+#[test]
+fn nearest() {
+    let mut book = book();
+    assert_eq!(book.nearest(0, 2), Ok(Some(vec![0, 17])));
+    assert_eq!(book.nearest(1, 1), Ok(Some(vec![])));
+    assert_eq!(book.nearest(2, 0), Ok(None));
+    assert_eq!(book.nearest(3, 9), Err(refused(5, NONE)));
+    // The first of the parallel edges goes, and then comes back behind the others.
+    let away = Operation::RedirectSource { edge: 0, node: 2 };
+    let back = Operation::RedirectSource { edge: 0, node: 0 };
+    assert_eq!(book.operation(away), Ok(0));
+    assert_eq!(book.operation(back), Ok(2));
+    assert_eq!(book.nearest(0, 2), Ok(Some(vec![1, 17])));
+    assert_eq!(book.operation(Operation::RemoveEdge { edge: 1 }), Ok(1));
+    assert_eq!(book.nearest(0, 2), Ok(Some(vec![2, 17])));
+
+    // Twice the capacity of three nodes, and one word more.
+    let (mut work, mut chain) = ([9; 7], [77; 3]);
+    let mut call = |first, second, needed, room| {
+        let answer = book.nearest_into(first, second, &mut work[..needed], &mut chain[..room]);
+        let answer = (answer, work, chain);
+        (work, chain) = ([9; 7], [77; 3]);
+        answer
+    };
+    let clear = [0, 0, 0, 0, 0, 0, 9];
+    assert_eq!(call(0, 2, 5, 3), (Err(refused(2, 6)), [9; 7], [77; 3]));
+    assert_eq!(call(0, 3, 5, 3), (Err(refused(5, NONE)), [9; 7], [77; 3]));
+    assert_eq!(call(2, 0, 7, 0), (Err(refused(14, NONE)), clear, [77; 3]));
+    assert_eq!(call(0, 2, 7, 1), (Err(refused(2, 2)), clear, [77; 3]));
+    assert_eq!(call(0, 2, 6, 2), (Ok(2), clear, [2, 17, 77]));
+
+    assert_eq!(book.operation(Operation::RemoveNode { node: 1 }), Ok(1));
+    assert_eq!(book.nearest(0, 2), Ok(None));
+    assert_eq!(book.nearest(0, 1), Err(refused(6, NONE)));
+    assert_eq!(book.nearest(1, 9), Err(refused(6, NONE)));
+}
+
 /// A low above its high: 16, directly after 4, and nothing changes.
 #[test]
 fn inverted() {

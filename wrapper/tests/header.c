@@ -84,6 +84,18 @@ int main(void) {
     ANSWERS(lot_find(counts, STORE, 0, 1), 0, 0);
     ANSWERS(lot_find(counts, STORE, 1, 0), 0, LOT_NONE);
     ANSWERS(lot_find(counts, STORE, 0, 3), 5, LOT_NONE);
+    uint32_t borrowed[LOT_NEAREST_WORDS(NODES) + 1] = {9, 9, 9, 9, 9, 9, 9}, chain[2] = {77, 77};
+    ANSWERS(lot_nearest(counts, STORE, 2, 3, borrowed, 5, SLICE(chain)), 6, LOT_NONE);
+    ANSWERS(lot_nearest(counts, STORE, 0, 3, borrowed, 5, SLICE(chain)), 5, LOT_NONE);
+    ANSWERS(lot_nearest(counts, STORE, 1, 0, borrowed, 5, SLICE(chain)), 2, LOT_NEAREST_WORDS(NODES));
+    expect("borrowed words where nothing is searched", borrowed[0], borrowed[5], 9, 9);
+    ANSWERS(lot_nearest(counts, STORE, 1, 0, SLICE(borrowed), chain, 0), 14, LOT_NONE);
+    expect("borrowed words", borrowed[0] | borrowed[5], borrowed[6], 0, 9);
+    ANSWERS(lot_nearest(counts, STORE, 0, 1, SLICE(borrowed), chain, 0), 2, 1);
+    ANSWERS(lot_nearest(counts, STORE, 1, 1, SLICE(borrowed), chain, 0), 0, 0);
+    expect("no chain written", chain[0], chain[1], 77, 77);
+    ANSWERS(lot_nearest(counts, STORE, 0, 1, SLICE(borrowed), SLICE(chain)), 0, 1);
+    expect("chain", chain[0], chain[1], 0, 77);
     ANSWERS(lot_node_payload(counts, STORE, 2), 0, 11);
     lot_record record = lot_edge_record(counts, STORE, 1);
     expect("record", record.number, record.value, 0, 0);

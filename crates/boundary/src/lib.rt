@@ -3,6 +3,7 @@
 
 pub mod images; // crate image
 pub mod maps; // crate renumbering
+pub mod nearest; // crate nearest
 pub mod skid; // crates strip and image
 pub mod slots; // crate view
 pub mod stores; // crates validate and strip

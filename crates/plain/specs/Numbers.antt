@@ -1,6 +1,6 @@
 -- The numbers that calls and operations answer: the table of document 01, "The strip", and document 02. Numbers 1, 2, 3, 12, 13 and 15 are a call's alone and
--- leave "everything" as it was; 4 to 10 and 16 are an operation's and leave the "store". Of these the reads answer 5, 7 and 8 too, "walk: 1, 5, 2", "live record 1, 7, 8",
--- and write nothing then.
+-- leave "everything" as it was; 14 is a call's too, whose borrowed words are then clear; 4 to 10 and 16 are an operation's and leave the "store". Of these the
+-- reads answer 5 to 8 too, "walk: 1, 5, 2", "live record 1, 7, 8", and write nothing then.
 use Prim.Native.Nat.{ℕ}
 
 -- "`Option<Id>` becomes a `u32`, with NONE = 4,294,967,295" for none
@@ -64,6 +64,10 @@ unreadable = 12
 -- capacity above 32,768
 abbrev pub above-limit : ℕ
 above-limit = 13
+
+-- document 02, No. 4: "It refuses with 14, value NONE, where no chain exists"
+abbrev pub unreachable : ℕ
+unreachable = 14
 
 -- document 02, No. 7: "It refuses with 15 and the value asked for, lots before transfers, in place of 13"
 abbrev pub above-skid : ℕ

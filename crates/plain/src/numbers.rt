@@ -36,6 +36,9 @@ pub const UNREADABLE: u32 = 12;
 // Capacity above 32,768.
 pub const ABOVE_LIMIT: u32 = 13;
 
+// No chain from one lot to another.
+pub const UNREACHABLE: u32 = 14;
+
 // More lots or transfers than the skid takes.
 pub const ABOVE_SKID: u32 = 15;
 

@@ -5,7 +5,8 @@
 // words lent for the answers, lines that follow: the five words of an operation each), 2 and 3 walk out and in (node, words lent), 4 and 5 live nodes and edges
 // (0, words lent), 6 node payload, 7 and 8 record in both readings, 9 bounds, counts, empty and compact, 10 and 11 degree out and in, 12 compaction (words lent for
 // the node map, the edge map and the work), 13 finding (two nodes), 14 writing the image (words lent for the work, bytes lent), 15 reading an image (bytes, lines that follow: sixteen bytes
-// each, in the last four words), 16 and 17 total out and in, 18 and 19 fresh and reading an image on the skid (as 0 and 15).
+// each, in the last four words), 16 and 17 total out and in, 18 and 19 fresh and reading an image on the skid (as 0 and 15), 20 nearest lot (two lots, words lent for the work and for
+// the chain).
 
 use plain::Answer;
 use plain::Changed;
@@ -825,6 +826,58 @@ fn read_total(
     ));
 }
 
+// How many words are clear.
+fn clear_words(words: &[u32; 2048]) -> u64 {
+    let mut n: u64 = 0;
+    let mut i: usize = 0;
+    while i < 2048 {
+        if words[i] == 0 {
+            n += 1;
+        }
+        i += 1;
+    }
+    n
+}
+
+// The nearest lot with slices of the recorded lengths. No word of the work slice is clear before; behind number and value, how many then are.
+fn read_nearest(
+    counts: Counts,
+    nodes: &[u32],
+    lows: &[u32],
+    highs: &[u32],
+    live_nodes: &[u64],
+    live_edges: &[u64],
+    outgoing: &[u32],
+    incoming: &[u32],
+    call: Call,
+) {
+    let mut work: [u32; 2048] = [1; 2048];
+    let mut chain: [u32; 2048] = [0; 2048];
+    let lent = within(call.third, &work);
+    let room = within(call.fourth, &chain);
+    let answered = nearest::nearest(
+        counts,
+        nodes,
+        lows,
+        highs,
+        live_nodes,
+        live_edges,
+        outgoing,
+        incoming,
+        call.first,
+        call.second,
+        &mut work[..lent],
+        &mut chain[..room],
+    );
+    number(wide(answered.number));
+    number(answered.value);
+    io::print_decimal(1, clear_words(&work));
+    if answered.number == 0 {
+        print_entries(&chain, answered.value);
+    }
+    io::write_all(1, b"\n");
+}
+
 fn read(
     held: Held,
     nodes: &[u32],
@@ -921,6 +974,20 @@ fn read_of(
     }
     if kind == 16 || kind == 17 {
         read_total(
+            counts,
+            nodes,
+            lows,
+            highs,
+            live_nodes,
+            live_edges,
+            outgoing,
+            incoming,
+            call,
+        );
+        return;
+    }
+    if kind == 20 {
+        read_nearest(
             counts,
             nodes,
             lows,

@@ -25,8 +25,8 @@ pub struct Stepped {
     pub counts: Counts,
 }
 
-// A slot's fault: `absent` at or above the bound, `removed` where it is dead, 0 where it is live.
-fn fault(live: &[u64], bound: u32, slot: u32, absent: u32, removed: u32) -> u32
+// A slot's fault: `absent` at or above the bound, `removed` where it is dead, 0 where it is live. Also for the search for the nearest lot.
+pub fn fault(live: &[u64], bound: u32, slot: u32, absent: u32, removed: u32) -> u32
     requires { ⌜ bound ≤ 64 * length (now live) ⌝ }
     ensures { λ r. ⌜ r ≡ fault-of (live-flags (now (live .entry)) bound) bound slot absent removed ⌝ }
 {

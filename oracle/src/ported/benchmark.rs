@@ -13,6 +13,7 @@
 //! makes the runs from the map that was decoded, testing their entries; what that
 //! takes is timed by itself too.
 
+mod chains;
 mod shapes;
 
 use std::time::{Duration, Instant};
@@ -491,6 +492,7 @@ fn compare_images(built: &Pair, removals: &[[u32; 5]]) {
 pub fn run(seed: u64) {
     println!("stores of {SLOTS} nodes and {SLOTS} edges, seed {seed}");
     let mut rng = Rng::new(seed);
+    chains::run();
     compare_operations(&mut rng);
     shapes::run(&mut rng);
 }

@@ -13,7 +13,7 @@ use super::ranges::{self, Ranged};
 use super::strips::operations;
 use super::words::{Words, judge};
 use super::{Port, compare_strip, kept, lent};
-use crate::calls::{self, Lots};
+use crate::calls::{self, Lots, Searched};
 use crate::checked::read;
 use crate::generate::{
     Generator, MEDIUM, MIXES, Mix, SHORT, Size, WHOLE_SKID, compact_lists, one_weight,
@@ -294,6 +294,9 @@ impl<L: Lots> Reads<'_, L> {
             let other = rng.below(nodes as usize + 2) as u32;
             self.compare_find(node, other, tally)?;
             self.compare_find(other, node, tally)?;
+            if rng.one_in(3) {
+                self.compare_nearest([node, other], rng, tally)?;
+            }
         }
         for edge in (0..edges).chain([edges, NONE]) {
             self.compare_edge(edge, tally)?;
@@ -423,6 +426,56 @@ impl<L: Lots> Reads<'_, L> {
         };
         tally.same(Thing::BookFind, place, expected, given)
     }
+
+    /// The nearest chain, into slices that are long enough, with words to spare or
+    /// without, or one of them too short.
+    fn compare_nearest(&self, lots: [u32; 2], rng: &mut Rng, tally: &mut Tally) -> Same {
+        let memory = self.book.memory();
+        let capacities = Capacities {
+            nodes: memory.nodes.len() as u32,
+            edges: memory.lows.len() as u32,
+        };
+        let longest = calls::nearest(self.lots, capacities, lots, [usize::MAX; 2]);
+        let needed = [calls::nearest_needs(capacities), longest.chain.len()];
+        let lengths = needed.map(|needed| match rng.below(6) {
+            0 => needed.saturating_sub(1),
+            1 => needed + rng.below(3),
+            _ => needed,
+        });
+        let expected = calls::nearest(self.lots, capacities, lots, lengths);
+        compare_searched(
+            Thing::BookNearest,
+            &expected,
+            self.book,
+            lots,
+            lengths,
+            tally,
+        )
+    }
+}
+
+/// A search for the nearest lot in a book, with a work slice and a chain's slice of
+/// these lengths that hold anything: the answer, and both slices whole.
+pub fn compare_searched(
+    thing: Thing,
+    expected: &Searched,
+    book: &LotBook,
+    [first, second]: [u32; 2],
+    [work, room]: [usize; 2],
+    tally: &mut Tally,
+) -> Same {
+    const DIRTY: u32 = 0xdead_beef;
+    let place = || format!("from node {first} to node {second}, {work} and {room} words lent");
+    let mut lent = [vec![DIRTY; work], vec![NONE - 1; room]];
+    let mut left = lent.clone();
+    if expected.clears {
+        left[0][..2 * book.memory().nodes.len()].fill(0);
+    }
+    left[1][..expected.chain.len()].copy_from_slice(&expected.chain);
+    let [work, chain] = &mut lent;
+    let given = book.nearest_into(first, second, work, chain).map(u64::from);
+    let given = given.map_or_else(Answer::from, Answer::done);
+    tally.same(thing, place, (expected.answer, left), (given, lent))
 }
 
 /// Every call on memory that is no store answers 1 with the rule, and leaves every
@@ -445,6 +498,8 @@ fn compare_refused(memory: &Words, refused: Refused, rng: &mut Rng, tally: &mut 
         book.out_degree(first).map(nothing),
         book.in_degree(first).map(nothing),
         book.find(first, second).map(|_| ()),
+        book.nearest_into(first, second, &mut [], &mut slots)
+            .map(nothing),
         book.node_payload(first).map(nothing),
         book.edge_record(first).map(|_| ()),
         book.live_edge_record(first).map(|_| ()),

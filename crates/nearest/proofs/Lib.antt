@@ -1,0 +1,10 @@
+mod SearchLaws
+mod FrontierLaws
+mod Stores
+mod Expanding
+mod Downhill
+mod Draining
+mod Seeding
+mod Nearing
+mod Answering
+mod Entry
