@@ -52,8 +52,8 @@ pub fn axis_length(nodes: usize, edges: usize) -> usize
     4 * edges + 6 * nodes + 1
 }
 
-// The answer, or "a lent slice too short | 2 | length needed".
-fn lacking(needs: usize, has: usize, rest: Answer) -> Answer
+// The answer, or "a lent slice too short | 2 | length needed". For a call's slices, the last one first.
+pub fn lacking(needs: usize, has: usize, rest: Answer) -> Answer
     ensures { λ r. ⌜ r ≡ lacking-of needs has rest ⌝ }
 {
     if needs <= has {

@@ -11,6 +11,7 @@ pub mod Image
 pub mod WellFormed
 pub mod Memory
 pub mod Calls
+pub mod Joining
 pub mod Lotstrip
 pub mod History
 pub mod Examples
