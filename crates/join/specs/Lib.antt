@@ -1,4 +1,3 @@
-pub mod Raising
 pub mod Written
 pub mod Slots
 pub mod Sides
@@ -6,3 +5,6 @@ pub mod Books
 pub mod Answers
 pub mod Calls
 pub mod Settling
+pub mod Results
+pub mod Agreeing
+pub mod Refuted

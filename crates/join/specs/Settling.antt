@@ -24,7 +24,7 @@ use Rattle.plain.specs.Compaction.{EdgeRecord, Survivors, survivors, source-of,
 use Rattle.plain.specs.Joining.{raised, raised-edge, joined-survivors}
 use Rattle.plain.specs.WellFormed.{Fitted, Sound}
 use Rattle.plain.specs.Laws.ListLaws.{map-getD}
-use Rattle.plain.specs.Laws.Joining.{joined-sound}
+use Rattle.plain.specs.Laws.Joining.{joined-sound, ends-of-both, columns-of-both, raised-none, joined-raised}
 use Rattle.plain.specs.Laws.ImageBits.{record-low, record-high}
 use Rattle.memory.specs.Laws.{Roomy}
 use Rattle.liveness.specs.Flags.{live-flags}
@@ -40,7 +40,6 @@ use Rattle.shape.specs.Laws.Indexing.{joined-append, map-from-same}
 use Rattle.compact.specs.Slots.{MapFits, written-from, mapped-long}
 use Rattle.compact.specs.Bases.{Rebuildable, rebuilt-base, rebuilt-renewed}
 use Rattle.compact.specs.Holding.{based, front, Holding, reset-same, reset-word, sized-as}
-use Rattle.join.specs.Raising.{ends-of-both, columns-of-both, raised-none, joined-raised}
 use Rattle.join.specs.Written.{written-length}
 use Rattle.join.specs.Slots.{live-words-of, length-live-words, BothCopyable, MapsFit, MapsWritten}
 use Rattle.join.specs.Sides.{Side, side-ends, side-entries, both-nodes, both-edges, AxisJoinable, AxisJoined, compressible, all-entries-long}

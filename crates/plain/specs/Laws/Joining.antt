@@ -1,32 +1,33 @@
--- Laws of joining: the result is well formed, its lists are the renumbered lists of both, and what the maps give.
+-- Laws of joining: the result is well formed, its lists are the renumbered lists of both, what the maps give, that joining is associative on survivors, and that an empty
+-- book adds nothing to what compaction leaves.
 use Prim.Native.Nat.{ℕ, zero, suc, _+_, _-_, _≤_, _<_, _^_}
 use mathlib.Core.Bool.{Bool, true, false, cond, _&&_}
 use mathlib.Core.Path.{_≡_, refl, sym, ap, ap₂, _∙_, subst}
 use mathlib.Core.List.{List, [], _∷_, _++_, map, map-map, map-append, append-assoc, append-nil}
 use mathlib.Core.Logic.{_⊎_, ⊎-elim}
 use native.Mathlib.Omega.{arith}
-use native.Mathlib.Nat.{add-zero, zero-add, add-assoc}
-use lib.ListN.{length, getD, replicate, length-append, length-map, length-replicate, List·getD-append, List·getD-eq-default, List·getD-map}
+use native.Mathlib.Nat.{zero-add, add-assoc}
+use lib.ListN.{length, getD, replicate, length-append, length-map, length-replicate, List·getD-append, List·getD-map}
 use lib.Seq.{getD-append-add}
-use lib.Dec.{eqb, ltb}
-use borrow.Author.Tests.{eqb-true, eq-eqb, ne-eqb, lt-ltb, le-ltb, ltb-true}
+use lib.Dec.{eqb}
+use borrow.Author.Tests.{ne-eqb, lt-ltb, le-ltb}
 use Rattle.plain.specs.declared.TraversalDirection.{TraversalDirection}
 use Rattle.plain.specs.declared.TraversalDirection.the-variants.{Outgoing, Incoming}
 use Rattle.plain.specs.Numbers.{NONE, LIMIT}
-use Rattle.plain.specs.Lists.{member, distinct}
+use Rattle.plain.specs.Lists.{member, distinct, joined}
 use Rattle.plain.specs.declared.EdgePayload.{EdgePayload}
-use Rattle.plain.specs.Plain.{no-payload, Plain, empty, Incidence, incidence, node-flags, edge-flags, list-of, end-of}
+use Rattle.plain.specs.Plain.{no-payload, Plain, empty, Incidence, node-flags, edge-flags, list-of}
 use Rattle.plain.specs.Step.{Capacities}
 use Rattle.plain.specs.Reads.{live-nodes, live-edges, live-from}
 use Rattle.plain.specs.Renumbering.{lookup}
 use Rattle.plain.specs.Compaction.{EdgeRecord, Survivors, rank, survivors, of-survivors, compacted, renumbering-from, renumbering, source-of, target-of, payload-of}
-use Rattle.plain.specs.Laws.Booleans.{true-false, refuted, below-or-not, eqb-same, and-false}
+use Rattle.plain.specs.Laws.Booleans.{refuted, below-or-not, eqb-same, and-false}
 use Rattle.plain.specs.Laws.ListLaws.{getD-map, member-map, member-source, distinct-map}
 use Rattle.plain.specs.Laws.Rank.{live-all-live, rank-live}
 use Rattle.plain.specs.Laws.Renumberings.{lookup-from}
 use Rattle.plain.specs.Laws.Fitting.{incident-fitted, fitted-incident, fitted-many}
 use Rattle.plain.specs.WellFormed.{Weighed, Incident, Fitted, WellFormed, Sound}
-use Rattle.plain.specs.Laws.Compacting.{of-survivors-well-formed, compacted-list, compacted-end, length-surviving-nodes, length-surviving-edges, survivors-sound, survivors-of}
+use Rattle.plain.specs.Laws.Compacting.{of-survivors-well-formed, compacted-list, length-surviving-nodes, length-surviving-edges, survivors-sound, survivors-of}
 use Rattle.plain.specs.Joining.{raised, raised-edge, joined-survivors, joined-plain, join-maps}
 
 -- ---- raised numbers
@@ -190,7 +191,7 @@ joined-fitted n₁ n₂ ends₁ ends₂ lists₁ lists₂ f g =
 -- ---- survivors
 
 -- an end of the edges of both
-ends-of-both : (end : EdgeRecord → ℕ) (by : ℕ) (es fs : List EdgeRecord) → ((r : EdgeRecord) → end (raised-edge by r) ≡ by + end r)
+pub ends-of-both : (end : EdgeRecord → ℕ) (by : ℕ) (es fs : List EdgeRecord) → ((r : EdgeRecord) → end (raised-edge by r) ≡ by + end r)
     → map end (es ++ map (raised-edge by) fs) ≡ map end es ++ raised by (map end fs)
 ends-of-both end by [] fs h = map-map end (raised-edge by) fs ∙ each fs ∙ sym (map-map (λ x. by + x) end fs)
   where
@@ -205,9 +206,15 @@ append-each P d [] ys f g x = g x
 append-each P d (x ∷ xs) ys f g zero = f 0
 append-each P d (x ∷ xs) ys f g (suc k) = append-each P d xs ys (λ i. f (suc i)) g k
 
-payloads-of-both : (by : ℕ) (es fs : List EdgeRecord) → map payload-of (es ++ map (raised-edge by) fs) ≡ map payload-of es ++ map payload-of fs
-payloads-of-both by [] fs = map-map payload-of (raised-edge by) fs
-payloads-of-both by (e ∷ es) fs = ap (λ (xs : List EdgePayload). payload-of e ∷ xs) (payloads-of-both by es fs)
+-- what of the edges is not raised
+pub columns-of-both : {A : Type 0} (column : EdgeRecord → A) (by : ℕ) (es fs : List EdgeRecord) → ((r : EdgeRecord) → column (raised-edge by r) ≡ column r)
+    → map column (es ++ map (raised-edge by) fs) ≡ map column es ++ map column fs
+columns-of-both {A} column by [] fs h = map-map column (raised-edge by) fs ∙ each fs
+  where
+    each : (fs : List EdgeRecord) → map (λ r. column (raised-edge by r)) fs ≡ map column fs
+    each [] = refl
+    each (f ∷ fs) = ap₂ (λ (x : A) (xs : List A). x ∷ xs) (h f) (each fs)
+columns-of-both {A} column by (e ∷ es) fs h = ap (λ (xs : List A). column e ∷ xs) (columns-of-both column by es fs h)
 
 -- the survivors of both books have an image, if there are not too many
 pub joined-sound : (s t : Survivors) → Sound s → Sound t → length (s .nodes) + length (t .nodes) ≤ LIMIT → length (s .edges) + length (t .edges) ≤ LIMIT
@@ -226,7 +233,7 @@ joined-sound s t a b nodes edges =
       nodes-within = rw length-append nodes;
       edges-within = rw (length-append, length-map) edges;
       node-payloads = append-each (λ (x : ℕ). x < 2 ^ 32) 0 (s .nodes) (t .nodes) (a .node-payloads) (b .node-payloads);
-      edge-payloads = λ e. subst (λ (l : List EdgePayload). Weighed (getD l e no-payload)) (sym (payloads-of-both n (s .edges) (t .edges)))
+      edge-payloads = λ e. subst (λ (l : List EdgePayload). Weighed (getD l e no-payload)) (sym (columns-of-both payload-of n (s .edges) (t .edges) (λ r. refl)))
           (append-each Weighed no-payload (map payload-of (s .edges)) (map payload-of (t .edges)) (a .edge-payloads) (b .edge-payloads) e);
       outs = direction source-of (s .outs) (t .outs) (λ r. refl) (a .outs) (b .outs);
       ins = direction target-of (s .ins) (t .ins) (λ r. refl) (a .ins) (b .ins);
@@ -322,6 +329,14 @@ pub second-edge-map : (p q : Plain) (e : ℕ)
 unfolding join-maps
 second-edge-map p q e = lookup-from (live-edges p) (edge-flags q) e
 
+-- ---- joined lists
+
+-- joined lists, raised
+pub joined-raised : (by : ℕ) (ls : List (List ℕ)) → raised by (joined ls) ≡ joined (map (raised by) ls)
+unfolding joined
+joined-raised by [] = refl
+joined-raised by (l ∷ ls) = map-append (λ x. by + x) l (joined ls) ∙ ap (λ (k : List ℕ). raised by l ++ k) (joined-raised by ls)
+
 -- ---- joining and survivors
 
 module _ (s t : Survivors) (a : Sound s) (b : Sound t) (nodes : length (s .nodes) + length (t .nodes) ≤ LIMIT) (edges : length (s .edges) + length (t .edges) ≤ LIMIT) where
@@ -383,7 +398,7 @@ pub survivors-empty : survivors empty ≡ no-survivors
 unfolding survivors live-from
 survivors-empty = refl
 
-raised-none : (xs : List ℕ) → raised 0 xs ≡ xs
+pub raised-none : (xs : List ℕ) → raised 0 xs ≡ xs
 raised-none [] = refl
 raised-none (x ∷ xs) = ap₂ (λ (y : ℕ) (ys : List ℕ). y ∷ ys) (zero-add x) (raised-none xs)
 
