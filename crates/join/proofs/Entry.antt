@@ -2,21 +2,19 @@
 use Prim.Native.Nat.{ℕ, zero, suc}
 use native.Mathlib.Omega.{arith}
 use mathlib.Core.Path.{_≡_, refl, sym, ap, ap₂, subst, _∙_}
-use mathlib.Core.Bool.{Bool, true, cond}
+use mathlib.Core.Bool.{Bool, cond}
 use mathlib.Core.Logic.{inl}
 use mathlib.Core.List.{List}
 use lib.ListN.{length}
-use lib.Dec.{eqb}
 use borrow.Author.Tests.{eq-eqb, ne-eqb}
 use Rattle.plain.specs.declared.Answer.{Answer}
-use Rattle.plain.specs.declared.Counts.{Counts}
 use Rattle.plain.specs.Lists.{written}
-use Rattle.plain.specs.Plain.{Plain, node-flags, edge-flags}
+use Rattle.plain.specs.Plain.{Plain}
 use Rattle.plain.specs.Reads.{live-count, live-nodes, live-edges}
 use Rattle.plain.specs.Compaction.{survivors, renumbering-from}
 use Rattle.plain.specs.Calls.{judged}
 use Rattle.plain.specs.Joining.{Sizes, sizes, MapRooms, Maps, join-maps, no-maps, join-answer, join, joined-survivors, joined-plain, joined-state}
-use Rattle.shape.specs.Shape.{Words, store, lengths-of, shape-of, lists, node-live, edge-live}
+use Rattle.shape.specs.Shape.{Words, store, lengths-of, shape-of, lists}
 use Rattle.shape.specs.Checked.{Checked}
 use Rattle.shape.specs.Kept.{nothing-spared, renewed-none, renewed-spared, same-nodes, same-edges}
 use Rattle.shape.specs.Rules.{broken}
@@ -24,8 +22,8 @@ use Rattle.shape.specs.Laws.Reading.{plain-node-bound, plain-edge-bound, plain-
 use Rattle.validate.specs.Judging.{Judged}
 use Rattle.shape.specs.Steps.{state-of}
 use Rattle.compact.specs.Holding.{Holding, holding-shape, holding-state, holding-checked, holding-canonical, canonical-leaves}
-use Rattle.join.specs.Answers.{sizes-of, judged-refused, judged-none, first-sound, second-sound, join-done, Accepted, accepted}
-use Rattle.join.specs.Calls.{no-counts, Lent, joining-of, JoinOf}
+use Rattle.join.specs.Answers.{sizes-of, first-sound, second-sound, join-done, accepted}
+use Rattle.join.specs.Calls.{Lent, joining-of, JoinOf}
 use Rattle.join.specs.Settling.{Settleable, Settled, settled-holding, settled-renewed}
 
 -- the sizes of a checked book are those of its plain lists

@@ -1,11 +1,10 @@
 -- The answer of joining by numbers: what the functions on counts and lengths promise, and what is at hand where the answer is 0.
 use Prim.Native.Nat.{ℕ, zero, suc, _+_, _≤_, _<_}
 use mathlib.Core.Path.{_≡_, refl, sym, ap, _∙_}
-use mathlib.Core.Bool.{Bool, true, false, cond, _||_}
 use mathlib.Core.Logic.{⊎-elim}
 use mathlib.Core.List.{List, [], _∷_}
 use native.Mathlib.Omega.{arith}
-use lib.Dec.{eqb, ltb}
+use lib.Dec.{eqb}
 use borrow.Author.Tests.{eq-eqb, ne-eqb, lt-ltb, le-ltb, eqb-true, eqb-false}
 use Rattle.plain.specs.declared.Answer.{Answer}
 use Rattle.plain.specs.declared.Counts.{Counts}
@@ -14,7 +13,7 @@ use Rattle.plain.specs.Memory.{Slice, Lengths, first-short}
 use Rattle.plain.specs.Calls.{judged, short-answer, limits, fresh-within, fresh}
 use Rattle.plain.specs.Joining.{Sizes, MapRooms, map-slices, join-answer}
 use Rattle.plain.specs.Laws.Booleans.{by-test, below-or-not}
-use Rattle.plain.specs.Laws.CallCases.{LongEnough, slice-fits, no-slice, FirstShort, one-short, all-long, long-or-short}
+use Rattle.plain.specs.Laws.CallCases.{LongEnough, slice-fits, no-slice, FirstShort, one-short, long-or-short}
 use Rattle.memory.specs.Lengths.{lacking}
 use Rattle.memory.specs.Laws.{Roomy, roomy-for, fresh-reads, then-lacking}
 use Rattle.join.specs.declared.MapRooms.{MapRooms as Rooms}

@@ -8,19 +8,18 @@ use lib.ListN.{length, getD}
 use Rattle.plain.specs.declared.TraversalDirection.{TraversalDirection}
 use Rattle.plain.specs.declared.TraversalDirection.the-variants.{Outgoing, Incoming}
 use Rattle.plain.specs.Numbers.{LIMIT}
-use Rattle.plain.specs.Lists.{joined, member}
+use Rattle.plain.specs.Lists.{joined}
 use Rattle.plain.specs.Plain.{low-of, high-of, no-node, no-edge, node-flags, edge-flags, end-of}
 use Rattle.plain.specs.Reads.{live-count, live-slots}
 use Rattle.plain.specs.Compaction.{EdgeRecord, Survivors, rank, survivors, surviving-edge, surviving-list, source-of, target-of}
 use Rattle.plain.specs.Joining.{raised}
 use Rattle.plain.specs.WellFormed.{Sound}
 use Rattle.plain.specs.Laws.ListLaws.{map-same, count-length}
-use Rattle.plain.specs.Laws.Rank.{live-below, rank-live, member-live-slots}
+use Rattle.plain.specs.Laws.Rank.{live-below, member-live-slots}
 use Rattle.plain.specs.Laws.Compacting.{survivors-sound, length-surviving-nodes, length-surviving-edges}
 use Rattle.plain.specs.Laws.ImageBits.{record-low, record-high}
 use Rattle.liveness.specs.Flags.{live-flags}
 use Rattle.liveness.specs.FlagLaws.{length-flags}
-use Rattle.shape.specs.Chains.{In}
 use Rattle.shape.specs.Columns.{end-at}
 use Rattle.shape.specs.Shape.{Words, capacities, node-live, edge-live, axis-words, shape-of, plain-of, lists, node-capacity, edge-capacity}
 use Rattle.shape.specs.Checked.{Checked}
@@ -29,7 +28,6 @@ use Rattle.adjacency.specs.StoreWalks.{checked-walkable}
 use Rattle.relocate.specs.Stores.{checked-end}
 use Rattle.compact.specs.ListsStore.{lists-renumbered, lists-live, lists-total}
 use Rattle.compact.specs.Lists.{live-walks}
-use Rattle.join.specs.Written.{through}
 use Rattle.join.specs.Slots.{live-words-of, LiveReadable}
 use Rattle.join.specs.Sides.{Side, side, side-ends, side-entries, EndsReadable, EntriesReadable}
 

@@ -15,11 +15,11 @@ use Rattle.plain.specs.Lists.{written}
 use Rattle.plain.specs.Plain.{Plain, node-flags, edge-flags, list-of}
 use Rattle.plain.specs.Step.{State}
 use Rattle.plain.specs.Reads.{live-nodes, live-edges}
-use Rattle.plain.specs.Compaction.{Survivors, rank, survivors, of-survivors, renumbering}
+use Rattle.plain.specs.Compaction.{Survivors, rank, survivors, renumbering}
 use Rattle.plain.specs.Image.{image}
-use Rattle.plain.specs.Joining.{Sizes, sizes, MapRooms, Maps, joined-survivors, joined-plain, join-maps, no-maps, join-answer, join}
+use Rattle.plain.specs.Joining.{sizes, MapRooms, Maps, joined-survivors, joined-plain, join-maps, no-maps, join-answer, join}
 use Rattle.plain.specs.Laws.Compacting.{length-surviving-nodes, length-surviving-edges}
-use Rattle.plain.specs.Laws.Joining.{joined-sound, survivors-joined, first-book, second-book, joined-associative, no-survivors, joined-with-none, none-joined-with, first-maps-compacted, second-maps-compacted}
+use Rattle.plain.specs.Laws.Joining.{survivors-joined, first-book, second-book, joined-associative, no-survivors, joined-with-none, none-joined-with, first-maps-compacted, second-maps-compacted}
 use Rattle.shape.specs.Shape.{Words, capacities, shape-of, lists, lengths-of}
 use Rattle.shape.specs.Checked.{Checked}
 use Rattle.shape.specs.Rules.{broken}

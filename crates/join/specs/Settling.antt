@@ -8,11 +8,9 @@
 --    compaction and image reading.
 use Prim.Native.Nat.{ℕ, _+_, _-_, _*_, _≤_, _<_}
 use mathlib.Core.Path.{_≡_, refl, sym, ap, ap₂, subst, subst₂, _∙_}
-use mathlib.Core.Bool.{Bool, true, false}
-use mathlib.Core.List.{List, _++_, map, map-map}
+use mathlib.Core.List.{List, _++_, map}
 use native.Mathlib.Omega.{arith}
-use native.Mathlib.Nat.{zero-add}
-use lib.ListN.{length, getD, take, drop, length-append, length-map, List·getD-append}
+use lib.ListN.{length, getD, drop, length-append, length-map, List·getD-append}
 use lib.Seq.{take-all, getD-append-add, getD-drop}
 use Rattle.plain.specs.declared.TraversalDirection.{TraversalDirection}
 use Rattle.plain.specs.declared.TraversalDirection.the-variants.{Outgoing, Incoming}
@@ -20,31 +18,29 @@ use Rattle.plain.specs.declared.Counts.{Counts}
 use Rattle.plain.specs.Numbers.{LIMIT}
 use Rattle.plain.specs.Lists.{written, joined, from}
 use Rattle.plain.specs.Calls.{limits}
-use Rattle.plain.specs.Compaction.{EdgeRecord, Survivors, survivors, source-of, target-of, renumbering-from}
+use Rattle.plain.specs.Compaction.{EdgeRecord, Survivors, survivors, source-of, target-of}
 use Rattle.plain.specs.Joining.{raised, raised-edge, joined-survivors}
 use Rattle.plain.specs.WellFormed.{Fitted, Sound}
 use Rattle.plain.specs.Laws.ListLaws.{map-getD}
 use Rattle.plain.specs.Laws.Joining.{joined-sound, ends-of-both, columns-of-both, raised-none, joined-raised}
 use Rattle.plain.specs.Laws.ImageBits.{record-low, record-high}
 use Rattle.memory.specs.Laws.{Roomy}
-use Rattle.liveness.specs.Flags.{live-flags}
 use Rattle.liveness.specs.FlagLaws.{length-flags}
 use Rattle.liveness.specs.Calls.{Reset}
-use Rattle.shape.specs.Columns.{Sized, end-at}
+use Rattle.shape.specs.Columns.{Sized}
 use Rattle.shape.specs.Shape.{Words, node-live, edge-live, axis-words, lists, lengths-of, node-capacity, edge-capacity}
 use Rattle.shape.specs.Checked.{Checked}
 use Rattle.shape.specs.Kept.{SameLengths, AxisRenewed, Renewed, same-nodes, same-edges, same-highs, same-live-nodes, same-live-edges, same-axis}
 use Rattle.shape.specs.Index.{ends-of}
 use Rattle.shape.specs.Laws.NewBase.{NewBase}
 use Rattle.shape.specs.Laws.Indexing.{joined-append, map-from-same}
-use Rattle.compact.specs.Slots.{MapFits, written-from, mapped-long}
+use Rattle.compact.specs.Slots.{written-from, mapped-long}
 use Rattle.compact.specs.Bases.{Rebuildable, rebuilt-base, rebuilt-renewed}
 use Rattle.compact.specs.Holding.{based, front, Holding, reset-same, reset-word, sized-as}
-use Rattle.join.specs.Written.{written-length}
-use Rattle.join.specs.Slots.{live-words-of, length-live-words, BothCopyable, MapsFit, MapsWritten}
-use Rattle.join.specs.Sides.{Side, side-ends, side-entries, both-nodes, both-edges, AxisJoinable, AxisJoined, compressible, all-entries-long}
+use Rattle.join.specs.Slots.{live-words-of, BothCopyable, MapsFit, MapsWritten}
+use Rattle.join.specs.Sides.{Side, side-ends, side-entries, AxisJoinable, AxisJoined, compressible, all-entries-long}
 use Rattle.join.specs.Books.{end-in, lists-in, left-sound, left-nodes, left-edges, nodes-few, edges-few, live-nodes-few, live-edges-few, nodes-there, edges-there, nodes-readable, lows-readable, highs-readable, book-nodes, book-lows, book-highs, Mapped, side-of, ends-readable, entries-readable, book-ends, book-entries}
-use Rattle.join.specs.Calls.{no-counts, Lent}
+use Rattle.join.specs.Calls.{Lent}
 
 -- Two checked books, memory as a store's has to be, the survivors of both within its capacities, and maps "as long as the bounds before".
 pub record Settleable (first second w : Words) (maps : Lent) : Type 0 where

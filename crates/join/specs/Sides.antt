@@ -1,14 +1,13 @@
 -- One direction of two books: what reading the ends and lists of each asks, and what the new base of both is.
-use Prim.Native.Nat.{ℕ, _+_, _-_, _*_, _≤_, _<_}
+use Prim.Native.Nat.{ℕ, _+_, _*_, _≤_, _<_}
 use mathlib.Core.Path.{_≡_, sym, ap, subst, _∙_}
-use mathlib.Core.Bool.{Bool, true, false}
+use mathlib.Core.Bool.{true, false}
 use mathlib.Core.List.{List, _++_, map}
 use native.Mathlib.Omega.{arith}
-use native.Mathlib.Nat.{zero-add}
-use lib.ListN.{length, getD, take, drop, length-append, length-map, List·getD-append}
+use lib.ListN.{length, getD, drop, length-append, length-map, List·getD-append}
 use Rattle.plain.specs.declared.Counts.{Counts}
 use Rattle.plain.specs.Numbers.{NONE}
-use Rattle.plain.specs.Lists.{written, member}
+use Rattle.plain.specs.Lists.{written}
 use Rattle.plain.specs.Reads.{live-count, live-slots}
 use Rattle.plain.specs.Laws.ListLaws.{member-source}
 use Rattle.plain.specs.Laws.Rank.{member-live-slots}

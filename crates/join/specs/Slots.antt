@@ -1,7 +1,7 @@
 -- What copying the words of live slots and writing a book's maps ask and promise.
-use Prim.Native.Nat.{ℕ, _+_, _*_, _≤_, _<_}
+use Prim.Native.Nat.{ℕ, _+_, _*_, _≤_}
 use mathlib.Core.Path.{_≡_, sym, ap, _∙_}
-use mathlib.Core.Bool.{Bool, true, false}
+use mathlib.Core.Bool.{Bool}
 use mathlib.Core.List.{List, _++_, map, map-map}
 use native.Mathlib.Omega.{arith}
 use lib.ListN.{length, getD, drop, length-map}

@@ -1,12 +1,11 @@
 -- Slices that lists were written to: one list behind another in a part of the slice, entries put through a map, and a part as a range of the whole.
 use Prim.Native.Nat.{ℕ, _+_, _-_, _≤_, _<_}
 use mathlib.Core.Path.{_≡_, sym, ap, ap₂, _∙_}
-use mathlib.Core.Bool.{true}
 use mathlib.Core.List.{List, [], _++_, map, map-map, append-nil, append-assoc}
 use native.Mathlib.Omega.{arith}
 use lib.ListN.{length, getD, take, drop, length-append, length-drop, length-map, drop-of-length-le, List·getD-append}
 use lib.Seq.{take-at, drop-at, take-all, drop-drop, length-take-le, getD-append-add, getD-drop, getD-take}
-use Rattle.plain.specs.Lists.{written, from, member}
+use Rattle.plain.specs.Lists.{written, from}
 use Rattle.plain.specs.Laws.ListLaws.{member-at, map-getD}
 use Rattle.shape.specs.Chains.{In}
 use Rattle.shape.specs.Index.{Rewritten}

@@ -1,5 +1,5 @@
 -- `settle` meets its contract: the maps, both directions, the payloads, the live words, call by call.
-use mathlib.Core.Path.{ap₂, _∙_}
+use mathlib.Core.Path.{ap₂}
 use native.Mathlib.Omega.{arith}
 use borrow.Author.Needs.{needs}
 use Rattle.plain.specs.declared.TraversalDirection.the-variants.{Outgoing, Incoming}
@@ -10,9 +10,14 @@ use Rattle.join.specs.Settling.{few-nodes, few-edges, first-maps-fit, se
 use Rattle.join.proofs.settle.Statement.{statement}
 use Rattle.join.proofs.settle.Tie as tie
 
--- the entry, and the calls, each from the next one
-abbrev entry : tie.After-write-maps → tie.Start
-entry c = c .before .before .before .before .before .before .before .before .before .before .before .before .before .before .before .before .before .before .before .before .before .before .before .before .before .before .before .before .before .before .before .before .before .before
+-- the entry, behind the slices
+abbrev entry : tie.After-slice-known11 → tie.Start
+entry c =
+    c .before .before .before .before .before .before .before .before .before .before .before .before .before .before .before .before .before .before .before .before .before .before .before .before .before
+
+-- the calls, each from the next one
+abbrev lent : tie.After-write-maps → tie.After-slice-known11
+lent c = c .before .before .before .before .before .before .before .before .before
 
 abbrev maps-first : tie.After-write-maps2 → tie.After-write-maps
 maps-first c = c .before .before .before .before .before .before .before
@@ -38,138 +43,97 @@ kept-highs c = c .before .before .before .before
 abbrev live : tie.After-reset-all-live2 → tie.After-reset-all-live
 live c = c .before .before .before .before
 
+-- the entry from a call
+abbrev by-sources : tie.After-join-axis → tie.Start
+by-sources c = entry (lent (maps-first (maps-second c)))
+
+abbrev by-nodes : tie.After-join-slots → tie.Start
+by-nodes c = by-sources (sources (targets c))
+
+abbrev by-highs : tie.After-join-slots3 → tie.Start
+by-highs c = by-nodes (kept-nodes (kept-lows c))
+
 add-all-nodes : tie.Need-add-all-nodes
-add-all-nodes c = omega (arith, few-nodes (c .before .before .before .before .before .before .before .before .before .before .before .before .before .before .before .before .before .before .before .before .before .before .before .before .before .before .before .before .before .before .pre))
+add-all-nodes c = omega (arith, few-nodes (entry (c .before .before .before .before .before) .pre))
 
 add-all-edges : tie.Need-add-all-edges
-add-all-edges c = omega (arith, few-edges (c .before .before .before .before .before .before .before .before .before .before .before .before .before .before .before .before .before .before .before .before .before .before .before .before .before .before .before .before .before .before .before .pre))
+add-all-edges c = omega (arith, few-edges (entry (c .before .before .before .before .before .before) .pre))
 
 write-maps-requires : tie.Need-write-maps-requires
-write-maps-requires c κs = first-maps-fit (c .before .before .before .before .before .before .before .before .before .before .before .before .before .before .before .before .before .before .before .before .before .before .before .before .before .before .before .before .before .before .before .before .before .pre)
+write-maps-requires c κs = first-maps-fit (entry (c .before .before .before .before .before .before .before .before) .pre)
 
 write-maps-requires-2 : tie.Need-write-maps-requires-2
-write-maps-requires-2 c κs =
-    let one = c .before .before .before .before .before .before in
-    second-maps-fit (entry one .pre)
+write-maps-requires-2 c κs = second-maps-fit (entry (lent (c .before .before .before .before .before .before)) .pre)
 
 join-axis-requires : tie.Need-join-axis-requires
 join-axis-requires c κs =
     let two = c .before .before .before .before .before .before .before .before .before in
     let one = maps-first two in
-    axis-joinable (entry one .pre) (one .write-maps .ensures) (two .write-maps2 .ensures) Outgoing
+    axis-joinable (entry (lent one) .pre) (one .write-maps .ensures) (two .write-maps2 .ensures) Outgoing
 
 join-axis-requires-2 : tie.Need-join-axis-requires-2
 join-axis-requires-2 c κs =
-    let outs = c .before .before .before .before .before .before .before in
-    let two = maps-second outs in
+    let two = maps-second (c .before .before .before .before .before .before .before) in
     let one = maps-first two in
-    axis-joinable (entry one .pre) (one .write-maps .ensures) (two .write-maps2 .ensures) Incoming
+    axis-joinable (entry (lent one) .pre) (one .write-maps .ensures) (two .write-maps2 .ensures) Incoming
 
 join-slots-requires : tie.Need-join-slots-requires
-join-slots-requires c κs =
-    let ins = c .before .before .before in
-    let outs = sources ins in
-    let two = maps-second outs in
-    let one = maps-first two in
-    nodes-copyable (entry one .pre)
+join-slots-requires c κs = nodes-copyable (by-sources (sources (c .before .before .before)) .pre)
 
 join-slots-requires-2 : tie.Need-join-slots-requires-2
-join-slots-requires-2 c κs =
-    let nodes = c .before .before .before in
-    let ins = targets nodes in
-    let outs = sources ins in
-    let two = maps-second outs in
-    let one = maps-first two in
-    lows-copyable (entry one .pre)
+join-slots-requires-2 c κs = lows-copyable (by-nodes (c .before .before .before) .pre)
 
 join-slots-requires-3 : tie.Need-join-slots-requires-3
-join-slots-requires-3 c κs =
-    let lows = c .before .before .before in
-    let nodes = kept-nodes lows in
-    let ins = targets nodes in
-    let outs = sources ins in
-    let two = maps-second outs in
-    let one = maps-first two in
-    highs-copyable (entry one .pre)
+join-slots-requires-3 c κs = highs-copyable (by-nodes (kept-nodes (c .before .before .before)) .pre)
 
 cast-reset-all-live : tie.Need-cast-reset-all-live
-cast-reset-all-live c =
-    let highs = c .before .before .before in
-    let lows = kept-lows highs in
-    let nodes = kept-nodes lows in
-    let ins = targets nodes in
-    let outs = sources ins in
-    let two = maps-second outs in
-    let one = maps-first two in
-    omega (arith, few-nodes (entry one .pre))
+cast-reset-all-live c = omega (arith, few-nodes (by-highs (c .before .before .before) .pre))
 
 reset-all-live-requires : tie.Need-reset-all-live-requires
-reset-all-live-requires c κs =
-    let highs = c .before .before .before in
-    let lows = kept-lows highs in
-    let nodes = kept-nodes lows in
-    let ins = targets nodes in
-    let outs = sources ins in
-    let two = maps-second outs in
-    let one = maps-first two in
-    nodes-resettable (entry one .pre)
+reset-all-live-requires c κs = nodes-resettable (by-highs (c .before .before .before) .pre)
 
 cast-reset-all-live-2 : tie.Need-cast-reset-all-live-2
-cast-reset-all-live-2 c =
-    let nodes-live = c .before .before .before in
-    let highs = kept-highs nodes-live in
-    let lows = kept-lows highs in
-    let nodes = kept-nodes lows in
-    let ins = targets nodes in
-    let outs = sources ins in
-    let two = maps-second outs in
-    let one = maps-first two in
-    omega (arith, few-edges (entry one .pre))
+cast-reset-all-live-2 c = omega (arith, few-edges (by-highs (kept-highs (c .before .before .before)) .pre))
 
 reset-all-live-requires-2 : tie.Need-reset-all-live-requires-2
-reset-all-live-requires-2 c κs =
-    let nodes-live = c .before .before .before in
-    let highs = kept-highs nodes-live in
-    let lows = kept-lows highs in
-    let nodes = kept-nodes lows in
-    let ins = targets nodes in
-    let outs = sources ins in
-    let two = maps-second outs in
-    let one = maps-first two in
-    edges-resettable (entry one .pre)
+reset-all-live-requires-2 c κs = edges-resettable (by-highs (kept-highs (c .before .before .before)) .pre)
+
+-- a slice is as long as the one call on it left it
+abbrev outs-of : tie.After-reset-all-live2 → tie.After-join-axis
+outs-of c = sources (targets (kept-nodes (kept-lows (kept-highs (live c)))))
 
 same-length : tie.Need-same-length
-same-length c = c .before .before .before .before .before .before .before .before .before .before .before .before .before .before .before .before .before .before .before .before .join-slots .kept .0
+same-length c = kept-nodes (kept-lows (kept-highs (live (c .before .before .before .before)))) .join-slots .kept .0
 
 same-length-2 : tie.Need-same-length-2
-same-length-2 c = c .before .before .before .before .before .before .before .before .before .before .before .before .before .before .before .before .join-slots2 .kept .0
+same-length-2 c = kept-lows (kept-highs (live (c .before .before .before .before))) .join-slots2 .kept .0
 
 same-length-3 : tie.Need-same-length-3
-same-length-3 c = c .before .before .before .before .before .before .before .before .before .before .before .before .join-slots3 .kept .0
+same-length-3 c = kept-highs (live (c .before .before .before .before)) .join-slots3 .kept .0
 
 same-length-4 : tie.Need-same-length-4
-same-length-4 c = c .before .before .before .before .before .before .before .before .reset-all-live .kept .0
+same-length-4 c = live (c .before .before .before .before) .reset-all-live .kept .0
 
 same-length-5 : tie.Need-same-length-5
 same-length-5 c = c .before .before .before .before .reset-all-live2 .kept .0
 
 same-length-6 : tie.Need-same-length-6
-same-length-6 c = c .before .before .before .before .before .before .before .before .before .before .before .before .before .before .before .before .before .before .before .before .before .before .before .before .before .before .before .before .before .before .before .before .join-axis .kept .0
+same-length-6 c = outs-of (c .before .before .before .before) .join-axis .kept .0
 
 same-length-7 : tie.Need-same-length-7
-same-length-7 c = c .before .before .before .before .before .before .before .before .before .before .before .before .before .before .before .before .before .before .before .before .before .before .before .before .join-axis2 .kept .0
+same-length-7 c = targets (kept-nodes (kept-lows (kept-highs (live (c .before .before .before .before))))) .join-axis2 .kept .0
 
 same-length-8 : tie.Need-same-length-8
-same-length-8 c = c .before .before .before .before .before .before .before .before .before .before .before .before .before .before .before .before .before .before .before .before .before .before .before .before .before .before .before .before .before .before .before .before .before .before .before .before .before .before .before .before .before .before .before .before .before .before .before .before .before .write-maps .kept .1 .1 .1 .1 .1 .0
+same-length-8 c = maps-first (maps-second (outs-of (c .before .before .before .before))) .write-maps .kept .1 .1 .1 .1 .1 .0
 
 same-length-9 : tie.Need-same-length-9
-same-length-9 c = c .before .before .before .before .before .before .before .before .before .before .before .before .before .before .before .before .before .before .before .before .before .before .before .before .before .before .before .before .before .before .before .before .before .before .before .before .before .before .before .before .before .before .before .before .before .before .before .before .before .write-maps .kept .1 .1 .1 .1 .1 .1 .0
+same-length-9 c = maps-first (maps-second (outs-of (c .before .before .before .before))) .write-maps .kept .1 .1 .1 .1 .1 .1 .0
 
 same-length-10 : tie.Need-same-length-10
-same-length-10 c = c .before .before .before .before .before .before .before .before .before .before .before .before .before .before .before .before .before .before .before .before .before .before .before .before .before .before .before .before .before .before .before .before .before .before .before .before .before .before .before .before .before .before .write-maps2 .kept .1 .1 .1 .1 .1 .0
+same-length-10 c = maps-second (outs-of (c .before .before .before .before)) .write-maps2 .kept .1 .1 .1 .1 .1 .0
 
 same-length-11 : tie.Need-same-length-11
-same-length-11 c = c .before .before .before .before .before .before .before .before .before .before .before .before .before .before .before .before .before .before .before .before .before .before .before .before .before .before .before .before .before .before .before .before .before .before .before .before .before .before .before .before .before .before .write-maps2 .kept .1 .1 .1 .1 .1 .1 .0
+same-length-11 c = maps-second (outs-of (c .before .before .before .before)) .write-maps2 .kept .1 .1 .1 .1 .1 .1 .0
 
 returns : tie.Need-returns
 returns c =

@@ -1,8 +1,6 @@
 -- `axis::join_axis` meets its contract: call by call.
-use Prim.Native.Nat.{ℕ, _+_, _≤_}
 use native.Mathlib.Omega.{arith}
 use borrow.Author.Needs.{needs}
-use lib.ListN.{length}
 use Rattle.join.specs.Sides.{ends-fit, compressible, entries-fit, room-there, rings-fit, marks-fit, joined-long, axis-joined}
 use Rattle.join.proofs.axis.join_axis.Statement.{statement}
 use Rattle.join.proofs.axis.join_axis.Tie as tie
