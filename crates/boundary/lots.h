@@ -17,6 +17,7 @@
  *   6       a removed node                               LOT_NONE
  *   7       an edge at or above the bound                LOT_NONE
  *   8       a removed edge                               LOT_NONE
+ *   10      joined books that exceed the memory          LOT_NONE (lot_join)
  *   12      bytes that are no image                      the first broken rule, 1 to 6 (lot_read_image)
  *   13      a capacity above 32,768                      that capacity
  *   14      no chain from one node to another            LOT_NONE
@@ -158,6 +159,24 @@ lot_changed lot_compact(lot_counts counts, LOT_STORE_WRITTEN, uint32_t *node_map
  *   3  a length that the counts do not give 6  a list entry not below the edge count, repeated, or at the wrong node
  * What was there is not checked, and need not be a store: counts of any content are taken. */
 lot_changed lot_read_image(lot_counts counts, LOT_STORE_WRITTEN, const uint8_t *bytes, size_t bytes_length);
+
+/* Two stores joined in a third memory, as a compaction leaves one: the live nodes of the first in slot order, then those of the second, edges likewise, each list in
+ * its order. Writes to the maps the new slot of every slot of its book, LOT_NONE where it was removed. The two stores are only read, and may be the same; what was in
+ * the third memory is not checked, and need not be a store.
+ *
+ * Answers 0, with the counts of the third memory, which the next call takes. Refuses 1 for the first store, 1 for the second, 13 for the third memory (nodes before
+ * edges), 2 for its other slices in their order, 10 where the live nodes or edges of both are more than its capacity, 2 for a map: `first_node_map` (the node bound of
+ * the first), `first_edge_map` (its edge bound), `second_node_map`, `second_edge_map`; then the counts are all 0, and every word is as it was: a store in that memory
+ * goes on by the counts that it had. Leaves the words of the maps past what is needed. */
+lot_changed lot_join(lot_counts first, const uint32_t *first_nodes, size_t first_nodes_length, const uint32_t *first_lows, size_t first_lows_length,
+    const uint32_t *first_highs, size_t first_highs_length, const uint64_t *first_live_nodes, size_t first_live_nodes_length, const uint64_t *first_live_edges,
+    size_t first_live_edges_length, const uint32_t *first_outgoing, size_t first_outgoing_length, const uint32_t *first_incoming, size_t first_incoming_length,
+    lot_counts second, const uint32_t *second_nodes, size_t second_nodes_length, const uint32_t *second_lows, size_t second_lows_length,
+    const uint32_t *second_highs, size_t second_highs_length, const uint64_t *second_live_nodes, size_t second_live_nodes_length,
+    const uint64_t *second_live_edges, size_t second_live_edges_length, const uint32_t *second_outgoing, size_t second_outgoing_length,
+    const uint32_t *second_incoming, size_t second_incoming_length, LOT_STORE_WRITTEN, uint32_t *first_node_map, size_t first_node_map_length,
+    uint32_t *first_edge_map, size_t first_edge_map_length, uint32_t *second_node_map, size_t second_node_map_length, uint32_t *second_edge_map,
+    size_t second_edge_map_length);
 
 /* ---- the skid that washes tanks: the two calls that ask for its limits. Every other call is the same for both devices. */
 

@@ -9,6 +9,7 @@ mod compare;
 mod examples;
 mod generate;
 mod image;
+mod joining;
 mod maps;
 mod model;
 mod pairs;

@@ -18,6 +18,8 @@ mod columns;
 mod damaged;
 mod exports;
 mod images;
+#[cfg(feature = "serde")]
+mod joins;
 mod live;
 mod maps;
 mod memory;
@@ -403,5 +405,6 @@ pub fn compacted_walk(rust: &RustStore) -> Vec<u32> {
 pub fn compare_books(operations: u64, seed: u64, tally: &mut Tally) -> Same {
     book::compare(operations, operations / 10, seed, tally)?;
     book::compare_skid(operations / 10, seed, tally)?;
-    ranges::compare(operations / 10, seed, tally)
+    ranges::compare(operations / 10, seed, tally)?;
+    joins::compare(2_000, seed, tally)
 }

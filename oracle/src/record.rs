@@ -14,6 +14,7 @@ use crate::generate::{
 };
 use crate::graph::traverse::TraversalDirection;
 use crate::image;
+use crate::joining::{self, Maps};
 use crate::model::{Answer, BOX, Capacities, DIRECTIONS, Device, EdgePayload, Plain, SKID};
 use crate::rng::Rng;
 use crate::tally::{Difference, Tally, Thing};
@@ -57,6 +58,7 @@ impl Recorder<'_> {
             self.refused_strip(&trio)?;
             self.strip(&mut trio, size, mix)?;
             self.reads(&trio)?;
+            self.join(&trio)?;
             if strip + 1 < strips && self.rng.one_in(3) {
                 let bytes = image::write(&compact_lists(&mut self.rng, capacities, one_weight));
                 line!(self.text, "read {}", hexadecimal(&bytes));
@@ -169,6 +171,44 @@ impl Recorder<'_> {
                 }
                 trio.compact(self.tally)?;
             }
+        }
+        Ok(())
+    }
+
+    /// The store joined with itself, into memory with room for both, or with one slot too
+    /// few; each map is lent as many words.
+    fn join(&mut self, trio: &Trio) -> Result<(), Difference> {
+        let [nodes, edges] = trio.rust.counts();
+        let mut capacities = [2 * nodes, 2 * edges];
+        let which = self.rng.below(2);
+        if self.rng.one_in(4) {
+            capacities[which] = capacities[which].saturating_sub(1);
+        }
+        let [nodes, edges] = trio.rust.bounds();
+        let length = self.length(nodes.max(edges));
+        let [nodes, edges] = capacities;
+        let call = format!("join {nodes} {edges} {length}");
+        let answered = |plain: &Plain, joined: fn([&Plain; 2]) -> (Plain, Maps)| {
+            let answer = joining::answer([plain; 2], capacities, [length; 4]);
+            let done = answer.number == 0;
+            (answer, done.then(|| joined([plain; 2])))
+        };
+        let expected = answered(&trio.model.plain, joining::joined);
+        let by_the_rust = |books: [&Plain; 2]| {
+            let (rust, maps) = joining::rebuilt(books);
+            (rust.plain(), maps)
+        };
+        let given = answered(&trio.rust.plain(), by_the_rust);
+        let (Answer { number, value }, left) = self.both(&call, expected, given)?;
+        line!(self.text, "{call} {number} {value}");
+        if let Some((plain, maps)) = left {
+            for (place, map) in ["first-nodes", "first-edges", "second-nodes", "second-edges"]
+                .iter()
+                .zip(maps)
+            {
+                line!(self.text, "{place}{}", joined(&map));
+            }
+            line!(self.text, "joined {}", hexadecimal(&image::write(&plain)));
         }
         Ok(())
     }
@@ -531,6 +571,32 @@ impl Replay {
         self.reading(19, &bytes_of(bytes), &told);
     }
 
+    /// A join: number and value beside each of the four maps and of the image that it
+    /// leaves where it is done.
+    fn join<'l>(&mut self, numbers: &[u64], lines: &mut impl Iterator<Item = &'l str>) {
+        self.call(22, &numbers[..3]);
+        for _ in 0..4 {
+            let mut told = numbers[3..].to_vec();
+            if numbers[3] == 0 {
+                let text = lines.next().expect("a map a line");
+                let (_, words) = text.split_once(' ').unwrap_or((text, ""));
+                let map = numbers_of(words);
+                // All words lent are printed; those past the map are 0.
+                let past = numbers[2] as usize - map.len();
+                told.extend(map);
+                told.extend(vec![0; past]);
+            }
+            self.answer(&told);
+        }
+        if numbers[3] == 0 {
+            let text = lines.next().expect("the image");
+            let bytes = bytes_of(text.strip_prefix("joined ").expect("its bytes"));
+            let mut told = vec![0, bytes.len() as u64];
+            told.extend(bytes.into_iter().map(u64::from));
+            self.answer(&told);
+        }
+    }
+
     /// A compaction: number and value beside each of the three slices that it
     /// leaves where it is done.
     fn compaction<'l>(&mut self, numbers: &[u64], lines: &mut impl Iterator<Item = &'l str>) {
@@ -580,6 +646,7 @@ fn replay(sequences: &str, images: &str) -> [String; 2] {
             "live-record" => replay.one(8, &numbers[..1], &numbers[1..]),
             "store" => replay.one(9, &[], &numbers),
             "compact" => replay.compaction(&numbers, &mut lines),
+            "join" => replay.join(&numbers, &mut lines),
             "find" => replay.one(13, &numbers[..2], &numbers[2..]),
             "nearest" => replay.one(20, &numbers[..4], &numbers[4..]),
             "image" => replay.image(rest),

@@ -164,6 +164,10 @@ things! {
         "`sweep` now drops dead slots at every edit of a run";
     BookRange: "book: strips, compactions and image readings with ranges, by the model",
         "A transfer's payload becomes low and high, `u32` each, in two slices";
+    BookJoin: "book: two books joined in a third memory, maps, refusals and words to spare, by the model",
+        "the first's survivors in slot order, then the second's, edges likewise, with each list kept in its order";
+    BookJoinRust: "book: two books joined, both rebuilt in one store by the Rust's own operations",
+        "The plain lists of the result are the renumbered lists of both.";
     BookRefused: "book: calls on damaged stores that are refused, and the words afterwards",
         "words are no store | 1 | rule 1 to 7 | everything";
     Vectors: "recorded sequences",

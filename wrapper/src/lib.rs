@@ -50,6 +50,12 @@
 //! let mut copy = LotBook::new(10, 10)?;
 //! copy.read_image(&book.image()?)?;
 //! assert_eq!(copy.node_payload(0)?, 7);
+//!
+//! // Two books in one: the first's lots, then the second's.
+//! let mut year = LotBook::new(10, 10)?;
+//! let [_, second] = year.join(&book, &copy)?;
+//! assert_eq!(year.node_count()?, 2);
+//! assert_eq!(second.node_map, [1]);
 //! # Ok(())
 //! # }
 //! ```
@@ -106,6 +112,14 @@ pub struct Compaction {
     pub edge_map: Vec<u32>,
     pub outgoing: Vec<u32>,
     pub incoming: Vec<u32>,
+}
+
+/// The maps of a book that was joined: the joined store's slot of every slot, NONE
+/// where it was removed.
+#[derive(Debug, Clone, PartialEq, Eq)]
+pub struct BookMaps {
+    pub node_map: Vec<u32>,
+    pub edge_map: Vec<u32>,
 }
 
 /// An operation of a strip. One that gives an edge a low above its high is refused
@@ -350,15 +364,11 @@ impl LotBook {
     /// # Errors
     /// 1 (the first broken rule).
     pub fn compact(&mut self) -> Result<Compaction, Refused> {
-        let bound = |slots: Slots, capacity: usize| capacity.min(slots.bound as usize);
-        let Memory {
-            counts,
-            nodes,
-            lows,
-            ..
-        } = &self.memory;
-        let mut node_map = vec![0; bound(counts.nodes, nodes.len())];
-        let mut edge_map = vec![0; bound(counts.edges, lows.len())];
+        let BookMaps {
+            mut node_map,
+            mut edge_map,
+        } = self.maps();
+        let Memory { counts, lows, .. } = &self.memory;
         let mut work = vec![0; 2 * lows.len().min(counts.edges.live as usize)];
         self.compact_into(&mut node_map, &mut edge_map, &mut work)?;
         let incoming = work.split_off(work.len() / 2);
@@ -368,6 +378,21 @@ impl LotBook {
             outgoing: work,
             incoming,
         })
+    }
+
+    /// Room for the maps of this book.
+    fn maps(&self) -> BookMaps {
+        let bound = |slots: Slots, capacity: usize| capacity.min(slots.bound as usize);
+        let Memory {
+            counts,
+            nodes,
+            lows,
+            ..
+        } = &self.memory;
+        BookMaps {
+            node_map: vec![0; bound(counts.nodes, nodes.len())],
+            edge_map: vec![0; bound(counts.edges, lows.len())],
+        }
     }
 
     /// Compaction into lent slices. Words past what is needed keep their content.
@@ -393,6 +418,44 @@ impl LotBook {
     pub fn read_image(&mut self, bytes: &[u8]) -> Result<(), Refused> {
         let changed = self.memory.lot_read_image(self.device, bytes);
         self.changed(changed)
+    }
+
+    /// Joins two books into this one's memory, as a compaction would leave it: what is
+    /// live in the first, then in the second, each list in its order. Answers the maps
+    /// of both. What was here need not be a store; refused, it stays. The two books may
+    /// be one.
+    ///
+    /// # Errors
+    /// 1 (the first broken rule) of the first, then of the second; 13 (a capacity), 2
+    /// (the length needed) of this memory; 10 where it has not enough slots.
+    pub fn join(&mut self, first: &Self, second: &Self) -> Result<[BookMaps; 2], Refused> {
+        let [mut one, mut two] = [first.maps(), second.maps()];
+        let maps: [&mut [u32]; 4] = [
+            &mut one.node_map,
+            &mut one.edge_map,
+            &mut two.node_map,
+            &mut two.edge_map,
+        ];
+        self.join_into(first, second, maps)?;
+        Ok([one, two])
+    }
+
+    /// Joining with the maps in lent slices: nodes and edges of the first book, then of
+    /// the second. Words past what is needed keep their content.
+    ///
+    /// # Errors
+    /// As [`Self::join`], then 2 (the length needed) of the maps in turn.
+    pub fn join_into(
+        &mut self,
+        first: &Self,
+        second: &Self,
+        maps: [&mut [u32]; 4],
+    ) -> Result<(), Refused> {
+        let changed = self.memory.lot_join(&first.memory, &second.memory, maps);
+        // The counts beside a refusal are 0: what was here keeps its own.
+        done(changed.number, changed.value)?;
+        self.memory.counts = changed.counts;
+        Ok(())
     }
 
     /// Whether the memory holds a store.

@@ -1,6 +1,8 @@
 //! Each entry once through the wrapper, with a refusal of each call that has one.
 
-use lots::{Device, EdgePayload, EdgeRecord, LotBook, Memory, Operation, Refused, Total, maps};
+use lots::{
+    BookMaps, Device, EdgePayload, EdgeRecord, LotBook, Memory, Operation, Refused, Total, maps,
+};
 
 const NONE: u64 = lots::NONE as u64;
 
@@ -331,6 +333,154 @@ fn compacted() {
     assert_eq!(book, once);
     // "Dead slots are usable again afterwards."
     assert_eq!(book.operation(add_edge([1, 0], 1, 1)), Ok(2));
+}
+
+/// A book with a removed lot, and one with a removed transfer and a moved list.
+fn two_books() -> [LotBook; 2] {
+    let mut malthouse = LotBook::new(4, 3).unwrap();
+    let nodes = [7, 8, 9].map(|payload| Operation::AddNode { payload });
+    malthouse.strip(&nodes).unwrap();
+    let operations = [
+        add_edge([2, 0], 1, 2),
+        add_edge([0, 1], 3, 3),
+        add_edge([2, 2], 4, 5),
+        Operation::RemoveNode { node: 1 },
+    ];
+    malthouse.strip(&operations).unwrap();
+    let mut brewery = LotBook::new(2, 4).unwrap();
+    brewery.strip(&nodes[..2]).unwrap();
+    let operations = [
+        add_edge([0, 1], 6, 6),
+        add_edge([0, 1], 7, 9),
+        add_edge([1, 0], 8, 8),
+        Operation::RemoveEdge { edge: 0 },
+        Operation::MoveIncoming { old: 0, new: 1 },
+    ];
+    brewery.strip(&operations).unwrap();
+    [malthouse, brewery]
+}
+
+#[test]
+fn joined() {
+    let [malthouse, brewery] = two_books();
+    let before = [malthouse.clone(), brewery.clone()];
+    // Memory that holds anything, with words to spare.
+    let mut memory = Memory::zeros(4, 4);
+    memory.counts.nodes.bound = 9;
+    memory.highs.push(77);
+    memory.live_nodes.push(77);
+    for axis in &mut memory.axes {
+        axis.fill(77);
+        axis.push(77);
+    }
+    let mut year = LotBook::from_memory(memory);
+    let [first, second] = year.join(&malthouse, &brewery).unwrap();
+    assert_eq!([malthouse.clone(), brewery.clone()], before);
+    assert_eq!(first.node_map, [0, lots::NONE, 1]);
+    assert_eq!(first.edge_map, [0, lots::NONE, 1]);
+    assert_eq!(second.node_map, [2, 3]);
+    assert_eq!(second.edge_map, [lots::NONE, 2, 3]);
+    assert_eq!((year.node_bound(), year.edge_bound()), (Ok(4), Ok(4)));
+    assert_eq!(year.is_compact(), Ok(true));
+    assert_eq!(year.outgoing(1), Ok(vec![0, 1]));
+    assert_eq!(year.outgoing(2), Ok(vec![2]));
+    assert_eq!(year.incoming(3), Ok(vec![2, 3]));
+    assert_eq!(year.node_payload(3), Ok(8));
+    let record = EdgeRecord {
+        source: 3,
+        target: 3,
+        payload: EdgePayload { low: 8, high: 8 },
+    };
+    assert_eq!(year.edge_record(3), Ok(record));
+    let memory = year.memory();
+    let spare = [&memory.highs, &memory.axes[0], &memory.axes[1]].map(|words| words.last());
+    assert_eq!(spare, [Some(&77); 3]);
+    assert_eq!(memory.live_nodes.last(), Some(&77));
+    // The result is what reading its image leaves.
+    let mut copy = LotBook::new(4, 4).unwrap();
+    copy.read_image(&year.image().unwrap()).unwrap();
+    assert_eq!(copy.memory().counts, memory.counts);
+
+    // A book with itself, and with an empty one: what compaction leaves.
+    let mut twice = LotBook::new(4, 4).unwrap();
+    let [first, second] = twice.join(&malthouse, &malthouse).unwrap();
+    assert_eq!(first.node_map, [0, lots::NONE, 1]);
+    assert_eq!(second.node_map, [2, lots::NONE, 3]);
+    assert_eq!(twice.outgoing(3), Ok(vec![2, 3]));
+    let empty = LotBook::new(0, 0).unwrap();
+    let mut alone = malthouse.clone();
+    let compaction = alone.compact().unwrap();
+    for [one, two] in [[&malthouse, &empty], [&empty, &malthouse]] {
+        let mut joined = LotBook::new(4, 3).unwrap();
+        let maps = joined.join(one, two).unwrap();
+        assert_eq!(joined.image(), alone.image());
+        let [node_map, edge_map] = [compaction.node_map.clone(), compaction.edge_map.clone()];
+        assert!(maps.contains(&BookMaps { node_map, edge_map }));
+    }
+}
+
+#[test]
+fn joins_refused() {
+    let [malthouse, brewery] = two_books();
+    let mut broken = brewery.clone().into_memory();
+    broken.counts.nodes.live += 1;
+    let broken = LotBook::from_memory(broken);
+    let [mut short, mut wide] = [Memory::zeros(4, 4), Memory::zeros(4, 32_769)];
+    short.axes[1].pop();
+    wide.axes[1].clear();
+    let refusals = [
+        ([&broken, &broken], Memory::zeros(4, 4), refused(1, 2)),
+        ([&malthouse, &broken], wide.clone(), refused(1, 2)),
+        ([&malthouse, &brewery], wide, refused(13, 32_769)),
+        ([&malthouse, &brewery], short, refused(2, 4 * 4 + 6 * 4 + 1)),
+        (
+            [&malthouse, &brewery],
+            Memory::zeros(3, 4),
+            refused(10, NONE),
+        ),
+        (
+            [&malthouse, &brewery],
+            Memory::zeros(4, 3),
+            refused(10, NONE),
+        ),
+    ];
+    for ([one, two], memory, refusal) in refusals {
+        let mut third = LotBook::from_memory(memory);
+        let before = third.clone();
+        assert_eq!(third.join(one, two), Err(refusal));
+        assert_eq!(third, before);
+    }
+    // The maps, in order; then nothing is written, and what was there is a store still.
+    let mut third = malthouse.clone();
+    let mut maps = [77; 11];
+    for (lengths, needed) in [
+        ([2, 0, 0, 0], 3),
+        ([3, 2, 0, 0], 3),
+        ([3, 3, 1, 0], 2),
+        ([3, 3, 2, 2], 3),
+    ] {
+        let mut rest = &mut maps[..];
+        let slices = lengths.map(|length| {
+            let (slice, more) = std::mem::take(&mut rest).split_at_mut(length);
+            rest = more;
+            slice
+        });
+        let mut third = LotBook::from_memory(Memory::zeros(4, 4));
+        assert_eq!(
+            third.join_into(&malthouse, &brewery, slices),
+            Err(refused(2, needed))
+        );
+        assert_eq!(third, LotBook::from_memory(Memory::zeros(4, 4)));
+    }
+    assert_eq!(maps, [77; 11]);
+    assert_eq!(third.join(&malthouse, &brewery), Err(refused(10, NONE)));
+    assert_eq!(third, malthouse);
+    // Words of the maps past what is needed stay.
+    let [a, b, c, d] = &mut [[77; 4]; 4];
+    let mut third = LotBook::new(4, 4).unwrap();
+    third.join_into(&malthouse, &brewery, [a, b, c, d]).unwrap();
+    assert_eq!([a[3], b[3], c[2], c[3], d[3]], [77; 5]);
+    assert_eq!([c[0], c[1], d[2]], [2, 3, 3]);
 }
 
 #[test]

@@ -149,6 +149,23 @@ int main(void) {
     counts = changed.counts;
     ANSWERS(lot_in_degree(counts, STORE, 1), 0, 2);
 
+    /* Joined with itself: four nodes and four edges; with two transfers too many for the memory, 10. */
+    static uint32_t all_nodes[2 * NODES], all_lows[EDGES], all_highs[EDGES], all_outgoing[LOT_AXIS_WORDS(2 * NODES, EDGES)],
+        all_incoming[LOT_AXIS_WORDS(2 * NODES, EDGES)];
+    static uint64_t all_live_nodes[LOT_LIVE_WORDS(2 * NODES)], all_live_edges[LOT_LIVE_WORDS(EDGES)];
+#define OTHERS SLICE(all_highs), SLICE(all_live_nodes), SLICE(all_live_edges), SLICE(all_outgoing), SLICE(all_incoming)
+    uint32_t maps[4][2];
+#define MAPS SLICE(maps[0]), SLICE(maps[1]), SLICE(maps[2]), SLICE(maps[3])
+    changed = lot_join(counts, STORE, counts, STORE, SLICE(all_nodes), all_lows, 2, OTHERS, MAPS);
+    expect("too many transfers", changed.number, changed.value, 10, LOT_NONE);
+    changed = lot_join(counts, STORE, counts, STORE, SLICE(all_nodes), SLICE(all_lows), OTHERS, SLICE(maps[0]), SLICE(maps[1]), SLICE(maps[2]), maps[3], 1);
+    expect("a short map", changed.number, changed.value, 2, 2);
+    changed = lot_join(counts, STORE, counts, STORE, SLICE(all_nodes), SLICE(all_lows), OTHERS, MAPS);
+    expect("joined", changed.number, changed.value, 0, 0);
+    expect("joined counts", changed.counts.nodes.bound, changed.counts.edges.live, 4, 4);
+    expect("maps of the second", maps[2][1], maps[3][1], 3, 3);
+    ANSWERS(lot_incoming(changed.counts, SLICE(all_nodes), SLICE(all_lows), OTHERS, 3, SLICE(slots)), 0, 2);
+    expect("its in-list", slots[0], slots[1], 2, 3);
     /* The skid reads it too, and refuses 65 lots: bytes that are no image first, then 15. */
     changed = lot_skid_read_image(counts, STORE, SLICE(image));
     expect("reading on the skid", changed.number, changed.value, 0, 0);

@@ -2,6 +2,7 @@
 // The C header is lots.h beside this crate's src.
 
 pub mod images; // crate image
+pub mod joins; // crate join
 pub mod maps; // crate renumbering
 pub mod nearest; // crate nearest
 pub mod skid; // crates strip and image

@@ -1,18 +1,16 @@
 -- What compacting a checked store asks and promises, with its answers: the two maps, the work slice, and the store without its dead slots.
 use Prim.Native.Nat.{ℕ, _*_, _≤_}
 use mathlib.Core.Path.{_≡_, ap, _∙_}
-use mathlib.Core.Bool.{Bool}
 use mathlib.Core.List.{List}
 use native.Mathlib.Omega.{arith}
-use lib.ListN.{length, getD, drop, length-append, length-drop}
+use lib.ListN.{length, getD}
 use Rattle.plain.specs.declared.TraversalDirection.the-variants.{Outgoing}
 use Rattle.plain.specs.Lists.{written}
 use Rattle.plain.specs.Compaction.{renumbering, survivors, adjacency}
-use Rattle.plain.specs.Laws.Renumberings.{length-renumbering}
 use Rattle.liveness.specs.FlagLaws.{length-flags}
 use Rattle.shape.specs.Shape.{Words, node-live, edge-live, lists}
 use Rattle.shape.specs.Checked.{Checked}
-use Rattle.compact.specs.Slots.{MapFits, written-at}
+use Rattle.compact.specs.Slots.{MapFits, written-at, mapped-long}
 use Rattle.compact.specs.Working.{Workable}
 use Rattle.compact.specs.Dropping.{Droppable, Dropped}
 
@@ -29,14 +27,8 @@ pub record Settling (w : Words) (node-map edge-map work : List ℕ) (v : Words) 
   pub worked : work' ≡ written (adjacency (survivors (lists w))) work
   pub dropped : Dropped w node-map' work' v
 
--- a map is as long as it was
-mapped-long : (flags : List Bool) (entry : List ℕ) → length flags ≤ length entry → length (written (renumbering flags) entry) ≡ length entry
-mapped-long flags entry room =
-    let long = length-renumbering 0 flags in
-    length-append (renumbering flags) (drop (length (renumbering flags)) entry) ∙ rw (length-drop (length (renumbering flags)) entry) (omega arith)
-
 module _ {w : Words} {node-map edge-map work : List ℕ} (pre : Settleable w node-map edge-map work) where
-  pub nodes-map-fits : MapFits (w .live-nodes) (w .counts .nodes .bound) node-map
+  pub nodes-map-fits : MapFits (w .live-nodes) (w .counts .nodes .bound) 0 node-map
   nodes-map-fits =
       let k = pre .checked in
       let long = k .nodes .live-long in
@@ -44,7 +36,7 @@ module _ {w : Words} {node-map edge-map work : List ℕ} (pre : Settleable w nod
       let few = k .axis Outgoing .sized .nodes-within in
       record { there = omega arith; few = omega arith; room = pre .nodes-room }
 
-  pub edges-map-fits : MapFits (w .live-edges) (w .counts .edges .bound) edge-map
+  pub edges-map-fits : MapFits (w .live-edges) (w .counts .edges .bound) 0 edge-map
   edges-map-fits =
       let k = pre .checked in
       let long = k .edges .live-long in
@@ -58,7 +50,7 @@ module _ {w : Words} {node-map edge-map work : List ℕ} (pre : Settleable w nod
     mapped = λ e l. ap (λ (m : List ℕ). getD m e 0) is ∙ written-at (edge-live w) edge-map e l;
     edges-there = let flags = length-flags (w .live-edges) (w .counts .edges .bound) in
         let room = pre .edges-room in
-        let long = ap length is ∙ mapped-long (edge-live w) edge-map (omega arith) in omega arith;
+        let long = ap length is ∙ mapped-long 0 (edge-live w) edge-map (omega arith) in omega arith;
   }
 
   pub droppable : {node-map' work' : List ℕ} → node-map' ≡ written (renumbering (node-live w)) node-map → length work' ≡ length work → Droppable w node-map' work'
@@ -67,6 +59,6 @@ module _ {w : Words} {node-map edge-map work : List ℕ} (pre : Settleable w nod
     mapped = λ x l. ap (λ (m : List ℕ). getD m x 0) is ∙ written-at (node-live w) node-map x l;
     nodes-there = let flags = length-flags (w .live-nodes) (w .counts .nodes .bound) in
         let room = pre .nodes-room in
-        let long = ap length is ∙ mapped-long (node-live w) node-map (omega arith) in omega arith;
+        let long = ap length is ∙ mapped-long 0 (node-live w) node-map (omega arith) in omega arith;
     there = rw same (pre .work-room);
   }

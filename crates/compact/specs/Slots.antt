@@ -6,27 +6,27 @@ use mathlib.Core.Logic.{_⊎_, inl, inr}
 use mathlib.Core.List.{List, _++_, map}
 use native.Mathlib.Omega.{arith}
 use native.Mathlib.Nat.{zero-add}
-use lib.ListN.{length, getD, take, drop, replicate, length-drop, take-append-drop, List·getD-append}
+use lib.ListN.{length, getD, take, drop, replicate, length-append, length-drop, take-append-drop, List·getD-append}
 use lib.Seq.{ext-getD, getD-drop}
-use Rattle.plain.specs.Numbers.{LIMIT, NONE}
+use Rattle.plain.specs.Numbers.{NONE}
 use Rattle.plain.specs.Lists.{from, written}
 use Rattle.plain.specs.Reads.{live-count, live-slots}
-use Rattle.plain.specs.Compaction.{rank, renumbering}
+use Rattle.plain.specs.Compaction.{rank, renumbering, renumbering-from}
 use Rattle.plain.specs.Renumbering.{lookup}
 use Rattle.plain.specs.Laws.Booleans.{below-or-not}
 use Rattle.plain.specs.Laws.ListLaws.{getD-default, getD-from, map-getD}
 use Rattle.plain.specs.Laws.Rank.{live-below, live-count-all-live, live-from-all-live}
-use Rattle.plain.specs.Laws.Renumberings.{length-renumbering, lookup-renumbering}
+use Rattle.plain.specs.Laws.Renumberings.{length-renumbering, lookup-from}
 use Rattle.shape.specs.Columns.{cell}
 use Rattle.shape.specs.Index.{Rewritten}
 use Rattle.shape.specs.Laws.Indexing.{rewritten-as, rewritten-again, map-from-same, front-range}
 
 -- ---- what is asked
 
--- The slots have their liveness words and their entries of the map, and their numbers are words.
-pub record MapFits (live : List ℕ) (bound : ℕ) (words : List ℕ) : Type 0 where
+-- The slots have their liveness words and their entries of the map, and their numbers from `first` on are words.
+pub record MapFits (live : List ℕ) (bound first : ℕ) (words : List ℕ) : Type 0 where
   pub there : bound ≤ 64 * length live
-  pub few : bound ≤ LIMIT
+  pub few : first + bound ≤ NONE
   pub room : bound ≤ length words
 
 -- The slots have their words and their liveness words.
@@ -61,20 +61,31 @@ translated-word words entries i = getD entries (getD words i 0) 0
 
 -- ---- the map
 
--- at a live slot it holds the slot's rank
-pub map-at : (flags : List Bool) (x : ℕ) → getD flags x false ≡ true → getD (renumbering flags) x 0 ≡ rank flags x
+-- at a live slot it holds the slot's rank, counted on from `first`
+map-at : (first : ℕ) (flags : List Bool) (x : ℕ) → getD flags x false ≡ true → getD (renumbering-from first flags) x 0 ≡ first + rank flags x
 unfolding lookup
-map-at flags x live =
-    getD-default (renumbering flags) x 0 NONE (let long = length-renumbering 0 flags in let low = live-below flags x live in omega arith)
-    ∙ lookup-renumbering flags x
-    ∙ ap (λ (b : Bool). cond b (rank flags x) NONE) live
+map-at first flags x live =
+    getD-default (renumbering-from first flags) x 0 NONE (let long = length-renumbering first flags in let low = live-below flags x live in omega arith)
+    ∙ lookup-from first flags x
+    ∙ ap (λ (b : Bool). cond b (first + rank flags x) NONE) live
 
 -- a slice that the map was written to holds it too
-pub written-at : (flags : List Bool) (entry : List ℕ) (x : ℕ) → getD flags x false ≡ true → getD (written (renumbering flags) entry) x 0 ≡ rank flags x
-written-at flags entry x live =
-    let long = length-renumbering 0 flags in
+pub written-from : (first : ℕ) (flags : List Bool) (entry : List ℕ) (x : ℕ) → getD flags x false ≡ true
+    → getD (written (renumbering-from first flags) entry) x 0 ≡ first + rank flags x
+written-from first flags entry x live =
+    let long = length-renumbering first flags in
     let low = live-below flags x live in
-    List·getD-append (renumbering flags) (drop (length (renumbering flags)) entry) 0 x (omega arith) ∙ map-at flags x live
+    List·getD-append (renumbering-from first flags) (drop (length (renumbering-from first flags)) entry) 0 x (omega arith) ∙ map-at first flags x live
+
+pub written-at : (flags : List Bool) (entry : List ℕ) (x : ℕ) → getD flags x false ≡ true → getD (written (renumbering flags) entry) x 0 ≡ rank flags x
+written-at flags entry x live = written-from 0 flags entry x live ∙ zero-add (rank flags x)
+
+-- and is as long as it was
+pub mapped-long : (first : ℕ) (flags : List Bool) (entry : List ℕ) → length flags ≤ length entry → length (written (renumbering-from first flags) entry) ≡ length entry
+mapped-long first flags entry room =
+    let long = length-renumbering first flags in
+    length-append (renumbering-from first flags) (drop (length (renumbering-from first flags)) entry)
+    ∙ rw (length-drop (length (renumbering-from first flags)) entry) (omega arith)
 
 -- ---- words rewritten, as lists
 

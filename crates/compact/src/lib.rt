@@ -145,8 +145,8 @@ fn settle(
 {
     let node_slots = counts.nodes;
     let edge_slots = counts.edges;
-    slots::write_map(live_nodes, node_slots.bound as usize, node_map);
-    slots::write_map(live_edges, edge_slots.bound as usize, edge_map);
+    slots::write_map(live_nodes, node_slots.bound as usize, 0, node_map);
+    slots::write_map(live_edges, edge_slots.bound as usize, 0, edge_map);
     write_work(
         counts,
         nodes,

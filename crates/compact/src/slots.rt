@@ -6,17 +6,18 @@ use plain::NONE;
 ghost use mathlib.Core.Path.{_≡_};
 ghost use Rattle.plain.specs.Lists.{written};
 ghost use Rattle.plain.specs.Reads.{live-count};
-ghost use Rattle.plain.specs.Compaction.{renumbering};
+ghost use Rattle.plain.specs.Compaction.{renumbering-from};
 ghost use Rattle.liveness.specs.Flags.{live-flags};
 ghost use Rattle.shape.specs.Index.{Rewritten};
 ghost use Rattle.compact.specs.Slots.{MapFits, Keepable, kept-word, WeightsKeepable, WeightsKept, Translatable, translated-word};
 
-// Writes the new number of every live slot, and NONE for the dead ones, to the start of `map`.
-pub fn write_map(live: &[u64], bound: usize, map: &mut [u32])
-    requires { ⌜ MapFits (now live) bound (now map) ⌝ }
-    ensures { λ _. ⌜ now (map .exit) ≡ written (renumbering (live-flags (now (live .entry)) bound)) (now (map .entry)) ⌝ }
+// Writes the new number of every live slot, counted from `first` on, and NONE for the dead ones, to the start of `map`. Compaction counts from 0; joining counts the
+// slots of the second book from the number of the first's.
+pub fn write_map(live: &[u64], bound: usize, first: u32, map: &mut [u32])
+    requires { ⌜ MapFits (now live) bound first (now map) ⌝ }
+    ensures { λ _. ⌜ now (map .exit) ≡ written (renumbering-from first (live-flags (now (live .entry)) bound)) (now (map .entry)) ⌝ }
 {
-    let mut next: u32 = 0;
+    let mut next: u32 = first;
     let mut slot: usize = 0;
     while slot < bound {
         let here = slot;

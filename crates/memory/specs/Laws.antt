@@ -19,7 +19,7 @@ use Rattle.memory.specs.Lengths.{lacking}
 -- ---- on the way to the answer
 
 -- a slice is judged after those that follow it
-then-lacking : (needs has : ℕ) (slices : List Slice) {rest answer : Answer} → rest ≡ short-answer (first-short slices) → answer ≡ lacking too-short needs has rest
+pub then-lacking : (needs has : ℕ) (slices : List Slice) {rest answer : Answer} → rest ≡ short-answer (first-short slices) → answer ≡ lacking too-short needs has rest
     → answer ≡ short-answer (first-short (record { needs = needs; has = has } ∷ slices))
 unfolding lacking first-short
 then-lacking needs has slices is judged = judged ∙ by-test (leb needs has) (λ q. rw (q, is)) (λ q. rw q)

@@ -59,8 +59,9 @@ pub fn axis_length(nodes: usize, edges: usize) -> usize
     4 * edges + 6 * nodes + 1
 }
 
-// The answer, or the refusal of a need above what there is, with the value asked for: a slice too short, or more than a device takes.
-fn lacking(number: u32, needs: usize, has: usize, rest: Answer) -> Answer
+// The answer, or the refusal of a need above what there is, with the value asked for: a slice too short, or more than a device takes. For a call's slices, the last
+// one first.
+pub fn lacking(number: u32, needs: usize, has: usize, rest: Answer) -> Answer
     ensures { λ r. ⌜ r ≡ lacking-of number needs has rest ⌝ }
 {
     if needs <= has {

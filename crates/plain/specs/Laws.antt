@@ -15,6 +15,7 @@ pub mod Renumberings
 pub mod Fitting
 pub mod Compacting
 pub mod AllLive
+pub mod Joining
 pub mod Below
 pub mod Bits
 pub mod Packing

@@ -12,6 +12,7 @@ pub mod WellFormed
 pub mod Memory
 pub mod Devices
 pub mod Calls
+pub mod Joining
 pub mod Lotstrip
 pub mod History
 pub mod Examples

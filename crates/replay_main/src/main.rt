@@ -6,7 +6,7 @@
 // (0, words lent), 6 node payload, 7 and 8 record in both readings, 9 bounds, counts, empty and compact, 10 and 11 degree out and in, 12 compaction (words lent for
 // the node map, the edge map and the work), 13 finding (two nodes), 14 writing the image (words lent for the work, bytes lent), 15 reading an image (bytes, lines that follow: sixteen bytes
 // each, in the last four words), 16 and 17 total out and in, 18 and 19 fresh and reading an image on the skid (as 0 and 15), 20 nearest lot (two lots, words lent for the work and for
-// the chain).
+// the chain), 22 the store joined with itself (node and edge capacity of the third memory, words lent for each of the four maps).
 
 use plain::Answer;
 use plain::Changed;
@@ -465,6 +465,84 @@ fn print_image(
         print_bytes(bytes, answered.value);
     }
     io::write_all(1, b"\n");
+}
+
+// The store joined with itself in a memory of the recorded capacities; where it is done, the four maps and the image of what is there.
+fn join_with_itself(
+    counts: Counts,
+    nodes: &[u32],
+    lows: &[u32],
+    highs: &[u32],
+    live_nodes: &[u64],
+    live_edges: &[u64],
+    outgoing: &[u32],
+    incoming: &[u32],
+    call: Call,
+) {
+    let mut all_nodes: [u32; 1024] = [7; 1024];
+    let mut all_lows: [u32; 2048] = [7; 2048];
+    let mut all_highs: [u32; 2048] = [7; 2048];
+    let mut all_live_nodes: [u64; 16] = [7; 16];
+    let mut all_live_edges: [u64; 32] = [7; 32];
+    let mut all_outgoing: [u32; 14337] = [7; 14337];
+    let mut all_incoming: [u32; 14337] = [7; 14337];
+    let mut first_node_map: [u32; 2048] = [0; 2048];
+    let mut first_edge_map: [u32; 2048] = [0; 2048];
+    let mut second_node_map: [u32; 2048] = [0; 2048];
+    let mut second_edge_map: [u32; 2048] = [0; 2048];
+    let mut work: [u32; 4096] = [0; 4096];
+    let mut bytes: [u8; 32768] = [0; 32768];
+    let n = within(call.first, &all_nodes);
+    let e = within(call.second, &all_lows);
+    let room = within(call.third, &first_node_map);
+    let changed = join::join(
+        counts,
+        nodes,
+        lows,
+        highs,
+        live_nodes,
+        live_edges,
+        outgoing,
+        incoming,
+        counts,
+        nodes,
+        lows,
+        highs,
+        live_nodes,
+        live_edges,
+        outgoing,
+        incoming,
+        &mut all_nodes[..n],
+        &mut all_lows[..e],
+        &mut all_highs,
+        &mut all_live_nodes,
+        &mut all_live_edges,
+        &mut all_outgoing,
+        &mut all_incoming,
+        &mut first_node_map[..room],
+        &mut first_edge_map[..room],
+        &mut second_node_map[..room],
+        &mut second_edge_map[..room],
+    );
+    let lent = wide(call.third);
+    print_written(changed.number, changed.value, &first_node_map, lent);
+    print_written(changed.number, changed.value, &first_edge_map, lent);
+    print_written(changed.number, changed.value, &second_node_map, lent);
+    print_written(changed.number, changed.value, &second_edge_map, lent);
+    if changed.number == 0 {
+        print_image(
+            changed.counts,
+            &all_nodes[..n],
+            &all_lows[..e],
+            &all_highs,
+            &all_live_nodes,
+            &all_live_edges,
+            &all_outgoing,
+            &all_incoming,
+            &mut work,
+            &mut bytes,
+        );
+    }
 }
 
 // The image with a work slice and into bytes of the recorded lengths.
@@ -941,6 +1019,20 @@ fn read_of(
             live_edges,
             outgoing,
             incoming,
+        );
+        return;
+    }
+    if kind == 22 {
+        join_with_itself(
+            counts,
+            nodes,
+            lows,
+            highs,
+            live_nodes,
+            live_edges,
+            outgoing,
+            incoming,
+            call,
         );
         return;
     }

@@ -489,10 +489,70 @@ fn compare_images(built: &Pair, removals: &[[u32; 5]]) {
     }
 }
 
+/// A book of so many nodes and edges between random ones, a third of them redirected, so
+/// that there are runs, and an eighth of the edges removed.
+fn part(slots: u32, rng: &mut Rng) -> LotBook {
+    let capacities = Capacities {
+        nodes: slots,
+        edges: slots,
+    };
+    let mut rust = RustStore::fresh(capacities);
+    for _ in 0..slots {
+        rust.operation([1, 0, 0, rng.word(), 0]);
+    }
+    for _ in 0..slots {
+        let [source, target] = [(); 2].map(|()| rng.word() % slots);
+        rust.operation([2, source, target, 1, 1]);
+    }
+    for edge in (0..slots).step_by(3) {
+        rust.operation([5, edge, rng.word() % slots, 0, 0]);
+    }
+    for edge in (0..slots).step_by(8) {
+        rust.operation([3, edge, 0, 0, 0]);
+    }
+    LotBook::from_memory(Memory::of(&rust).words())
+}
+
+/// Two books joined, beside the compactions of both; all three calls make their checks.
+fn compare_joins(rng: &mut Rng) {
+    for slots in [SLOTS / 8, SLOTS / 4, SLOTS / 2] {
+        let books = [(); 2].map(|()| part(slots, rng));
+        let [one, two] = &books;
+        let room = slots as usize;
+        let mut times = [const { Vec::new() }; 2];
+        for _ in 0..REPEATS {
+            let mut third = LotBook::new(2 * room, 2 * room).expect("within the limit");
+            let mut maps = [(); 4].map(|()| vec![0; room]);
+            let [a, b, c, d] = &mut maps;
+            let began = Instant::now();
+            let done = third.join_into(one, two, [a, b, c, d]);
+            times[0].push(began.elapsed());
+            done.expect("two stores, and room for both");
+            let mut copies = books.clone();
+            let mut work = vec![0; 2 * room];
+            let mut both = Duration::ZERO;
+            for book in &mut copies {
+                let began = Instant::now();
+                let done = book.compact_into(a, b, &mut work);
+                both += began.elapsed();
+                done.expect("a store");
+            }
+            times[1].push(both);
+            std::hint::black_box((third, copies));
+        }
+        let [joining, compacting] = times.map(median);
+        println!(
+            "two books of {slots} nodes and edges joined: {joining:.0} µs; both compacted: {compacting:.0} µs, ratio {:.2}",
+            joining / compacting
+        );
+    }
+}
+
 pub fn run(seed: u64) {
     println!("stores of {SLOTS} nodes and {SLOTS} edges, seed {seed}");
     let mut rng = Rng::new(seed);
     chains::run();
+    compare_joins(&mut rng);
     compare_operations(&mut rng);
     shapes::run(&mut rng);
 }

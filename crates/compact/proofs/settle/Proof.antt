@@ -41,10 +41,10 @@ at-drop-dead c = c .before .before .before .before .before .before .before .befo
 
 same-length-8 : tie.Need-same-length-8
 same-length-8 c =
-    numbered-nodes (numbered-edges (worked (at-drop-dead c))) .write-map .kept .1 .1 .0
+    numbered-nodes (numbered-edges (worked (at-drop-dead c))) .write-map .kept .1 .1 .1 .0
 
 same-length-9 : tie.Need-same-length-9
-same-length-9 c = numbered-edges (worked (at-drop-dead c)) .write-map2 .kept .1 .1 .0
+same-length-9 c = numbered-edges (worked (at-drop-dead c)) .write-map2 .kept .1 .1 .1 .0
 
 same-length-10 : tie.Need-same-length-10
 same-length-10 c = worked (at-drop-dead c) .write-work .kept .1 .1 .1 .1 .1 .1 .1 .1 .1 .0

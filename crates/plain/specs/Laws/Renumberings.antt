@@ -26,7 +26,7 @@ length-renumbering next (true ∷ flags) = ap suc (length-renumbering (suc next)
 length-renumbering next (false ∷ flags) = ap suc (length-renumbering next flags)
 
 -- the numbers that a map gives from `next` on
-lookup-from : (next : ℕ) (flags : List Bool) (x : ℕ) → lookup (renumbering-from next flags) x ≡ cond (getD flags x false) (next + rank flags x) NONE
+pub lookup-from : (next : ℕ) (flags : List Bool) (x : ℕ) → lookup (renumbering-from next flags) x ≡ cond (getD flags x false) (next + rank flags x) NONE
 unfolding renumbering-from lookup rank
 lookup-from next [] x = refl
 lookup-from next (true ∷ flags) zero = omega arith

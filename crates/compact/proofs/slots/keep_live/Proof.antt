@@ -8,19 +8,19 @@ use Rattle.liveness.specs.Flags.{live-flags}
 use Rattle.shape.specs.Index.{Rewritten}
 use Rattle.shape.specs.Laws.Indexing.{rewritten-none}
 use Rattle.compact.specs.Slots.{kept-word}
-use Rattle.compact.proofs.slots.Turns.{rewritten-next, Passed, passed-none, passed-live, passed-dead, kept-live, kept-all}
+use Rattle.compact.specs.Turns.{rewritten-next, Passed, passed-none, passed-live, passed-dead, kept-live, kept-all}
 use Rattle.compact.proofs.slots.keep_live.Statement.{statement}
 use Rattle.compact.proofs.slots.keep_live.Tie as tie
 
 abbrev Inv-loop : tie.InvT-loop
 Inv-loop words₀ live bound to₀ slot₀ words to slot =
-    Passed live bound slot to × Rewritten words₀ words 0 to (kept-word words₀ (live-flags live bound))
+    Passed live bound 0 slot to × Rewritten words₀ words 0 to (kept-word words₀ (live-flags live bound))
 
 abbrev μ-loop : tie.MeasureT-loop
 μ-loop words₀ live bound to₀ slot₀ words to slot = bound - slot
 
 loop-holds : tie.Need-loop-holds Inv-loop μ-loop
-loop-holds c = (passed-none _ _, rewritten-none _ _ _)
+loop-holds c = (passed-none _ _ _, rewritten-none _ _ _)
 
 loop-again : tie.Need-loop-again Inv-loop μ-loop
 loop-again c =

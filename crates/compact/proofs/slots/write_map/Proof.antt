@@ -1,27 +1,27 @@
 -- `compact::slots::write_map` meets its contract. The loop's invariant: the entries of the slots passed are written, all other words are as they were, and
--- `next` is the number of live slots passed. The measure is the number of slots left.
+-- `next` is the number of live slots passed, counted from `first` on. The measure is the number of slots left.
 use Prim.Native.Nat.{_-_}
 use mathlib.Core.Path.{sym, _∙_}
 use native.Mathlib.Omega.{arith}
 use borrow.Author.Needs.{needs}
-use Rattle.plain.specs.Compaction.{renumbering}
+use Rattle.plain.specs.Compaction.{renumbering-from}
 use Rattle.plain.specs.Renumbering.{lookup}
 use Rattle.liveness.specs.Flags.{live-flags}
 use Rattle.shape.specs.Index.{Rewritten}
 use Rattle.shape.specs.Laws.Indexing.{rewritten-none}
-use Rattle.compact.proofs.slots.Turns.{rewritten-next, Passed, passed-none, passed-live, passed-dead, mapped-live, mapped-dead, mapped-all}
+use Rattle.compact.specs.Turns.{rewritten-next, Passed, passed-none, passed-live, passed-dead, mapped-live, mapped-dead, mapped-all}
 use Rattle.compact.proofs.slots.write_map.Statement.{statement}
 use Rattle.compact.proofs.slots.write_map.Tie as tie
 
 abbrev Inv-loop : tie.InvT-loop
-Inv-loop live bound map₀ next₀ slot₀ map next slot =
-    Passed live bound slot next × Rewritten map₀ map 0 slot (lookup (renumbering (live-flags live bound)))
+Inv-loop live bound first map₀ next₀ slot₀ map next slot =
+    Passed live bound first slot next × Rewritten map₀ map 0 slot (lookup (renumbering-from first (live-flags live bound)))
 
 abbrev μ-loop : tie.MeasureT-loop
-μ-loop live bound map₀ next₀ slot₀ map next slot = bound - slot
+μ-loop live bound first map₀ next₀ slot₀ map next slot = bound - slot
 
 loop-holds : tie.Need-loop-holds Inv-loop μ-loop
-loop-holds c = (passed-none _ _, rewritten-none _ _ _)
+loop-holds c = (passed-none _ _ _, rewritten-none _ _ _)
 
 loop-again : tie.Need-loop-again Inv-loop μ-loop
 loop-again c =

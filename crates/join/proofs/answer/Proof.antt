@@ -1,0 +1,61 @@
+-- `answer` meets its contract: test by test.
+use Prim.Native.Nat.{ℕ}
+use mathlib.Core.Path.{_≡_, sym, _∙_}
+use borrow.Author.Needs.{needs}
+use Rattle.plain.specs.Calls.{judged}
+use Rattle.plain.specs.declared.Answer.{Answer}
+use Rattle.join.specs.Answers.{judged-refused, judged-none, memory-refused, nodes-exceed, edges-exceed, maps-answered}
+use Rattle.join.proofs.answer.Statement.{statement}
+use Rattle.join.proofs.answer.Tie as tie
+
+returns : tie.Need-returns
+returns c = c .no-store .ensures ∙ judged-refused _ _ (c .before .if1 .taken)
+
+returns-2 : tie.Need-returns-2
+returns-2 c = c .no-store2 .ensures ∙ judged-refused _ _ (c .before .if2 .taken) ∙ sym (judged-none _ _ (c .before .before .if1 .left))
+
+-- neither book is broken
+counts : (rule-first rule-second : ℕ) (a : Answer) → rule-first ≡ 0 → rule-second ≡ 0 → a ≡ judged rule-first (judged rule-second a)
+counts rule-first rule-second a first second = sym (judged-none rule-first (judged rule-second a) first ∙ judged-none rule-second a second)
+
+returns-3 : tie.Need-returns-3
+returns-3 c =
+    memory-refused _ _ _ _ (c .before .before .fresh-answer .ensures) (c .if3 .taken) ∙ counts _ _ _ (c .before .before .before .before .if1 .left) (c .before .before .before .if2 .left)
+
+returns-4 : tie.Need-returns-4
+returns-4 c =
+    nodes-exceed _ _ _ _ (c .before .before .before .before .before .before .fresh-answer .ensures) (c .before .before .before .before .if3 .left) (c .if4 .taken)
+    ∙ counts _ _ _ (c .before .before .before .before .before .before .before .before .if1 .left) (c .before .before .before .before .before .before .before .if2 .left)
+
+returns-5 : tie.Need-returns-5
+returns-5 c =
+    edges-exceed _ _ _ _ (c .before .before .before .before .before .before .before .before .before .before .fresh-answer .ensures) (c .before .before .before .before .before .before .before .before .if3 .left) (c .before .before .before .before .if4 .left) (c .if5 .taken)
+    ∙ counts _ _ _ (c .before .before .before .before .before .before .before .before .before .before .before .before .if1 .left) (c .before .before .before .before .before .before .before .before .before .before .before .if2 .left)
+
+returns-6 : tie.Need-returns-6
+returns-6 c =
+    maps-answered _ _ _ _ (c .before .before .before .before .before .before .before .before .before .before .before .fresh-answer .ensures) (c .before .before .before .before .before .before .before .before .before .if3 .left) (c .before .before .before .before .before .if4 .left) (c .before .if5 .left)
+    (c .map-answer .ensures)
+    ∙ counts _ _ _ (c .before .before .before .before .before .before .before .before .before .before .before .before .before .if1 .left) (c .before .before .before .before .before .before .before .before .before .before .before .before .if2 .left)
+
+pub answer-spec : {M : Type 1} → statement M
+answer-spec =
+    tie.close
+    (tie.spec
+    (λ c κs. search needs)
+    returns
+    (λ c κs. search needs)
+    returns-2
+    (λ c κs. search needs)
+    returns-3
+    (λ c. search needs)
+    (λ c. search needs)
+    (λ c. search needs)
+    (λ c. search needs)
+    returns-4
+    (λ c. search needs)
+    (λ c. search needs)
+    (λ c. search needs)
+    returns-5
+    (λ c κs. search needs)
+    returns-6)

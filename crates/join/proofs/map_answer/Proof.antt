@@ -1,0 +1,24 @@
+-- `map_answer` meets its contract: map by map, the last one first.
+use borrow.Author.Needs.{needs}
+use Rattle.join.specs.Answers.{sizes-of, rooms-of, maps-lacking}
+use Rattle.join.proofs.map_answer.Statement.{statement}
+use Rattle.join.proofs.map_answer.Tie as tie
+
+returns : tie.Need-returns
+returns c =
+    let a = c .before .before .before .before .before .before .before .before .args in
+    maps-lacking (sizes-of (a .first)) (sizes-of (a .second)) (rooms-of (a .rooms)) (c .before .before .before .before .before .before .lacking .ensures) (c .before .before .before .before .lacking2 .ensures) (c .before .before .lacking3 .ensures) (c .lacking4 .ensures)
+
+pub map-answer-spec : {M : Type 1} → statement M
+map-answer-spec =
+    tie.close
+    (tie.spec
+    (λ c. search needs)
+    (λ c κs. search needs)
+    (λ c. search needs)
+    (λ c κs. search needs)
+    (λ c. search needs)
+    (λ c κs. search needs)
+    (λ c. search needs)
+    (λ c κs. search needs)
+    returns)

@@ -1,0 +1,10 @@
+pub mod Written
+pub mod Slots
+pub mod Sides
+pub mod Books
+pub mod Answers
+pub mod Calls
+pub mod Settling
+pub mod Results
+pub mod Agreeing
+pub mod Refuted
