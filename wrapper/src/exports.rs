@@ -13,6 +13,7 @@ pub struct Slots {
     pub bound: u32,
     /// Those that the compressed base holds.
     pub base: u32,
+    /// Those that are live.
     pub live: u32,
 }
 
@@ -20,7 +21,9 @@ pub struct Slots {
 #[repr(C)]
 #[derive(Debug, Clone, Copy, Default, PartialEq, Eq)]
 pub struct Counts {
+    /// Of nodes.
     pub nodes: Slots,
+    /// Of edges.
     pub edges: Slots,
 }
 
@@ -103,7 +106,7 @@ macro_rules! reads {
         }
 
         impl Memory {
-            $(pub fn $name(&self, $($argument: u32,)* $($slots: &mut [$word])?) -> $answer {
+            $(pub(crate) fn $name(&self, $($argument: u32,)* $($slots: &mut [$word])?) -> $answer {
                 let [outgoing, incoming] = &self.axes;
                 // SAFETY: the slices are borrowed and as long as stated.
                 unsafe {
@@ -261,7 +264,7 @@ mod others {
 }
 
 impl Memory {
-    pub fn lot_fresh(&self) -> Changed {
+    pub(crate) fn lot_fresh(&self) -> Changed {
         let [outgoing, incoming] = &self.axes;
         // SAFETY: the slices are borrowed and as long as stated.
         unsafe {
@@ -284,7 +287,7 @@ impl Memory {
         }
     }
 
-    pub fn lot_strip(&mut self, words: &[u32], answers: &mut [u32]) -> Changed {
+    pub(crate) fn lot_strip(&mut self, words: &[u32], answers: &mut [u32]) -> Changed {
         let [outgoing, incoming] = &mut self.axes;
         // SAFETY: the slices are borrowed, all but `words` mutably, and as long as
         // stated.
@@ -313,7 +316,7 @@ impl Memory {
         }
     }
 
-    pub fn lot_compact(
+    pub(crate) fn lot_compact(
         &mut self,
         node_map: &mut [u32],
         edge_map: &mut [u32],
@@ -348,7 +351,7 @@ impl Memory {
         }
     }
 
-    pub fn lot_read_image(&mut self, bytes: &[u8]) -> Changed {
+    pub(crate) fn lot_read_image(&mut self, bytes: &[u8]) -> Changed {
         let [outgoing, incoming] = &mut self.axes;
         // SAFETY: the slices are borrowed, all but `bytes` mutably, and as long as
         // stated.
