@@ -15,26 +15,31 @@ struct Input {
     failed: bool,
 }
 
+// One read of standard input, to the start of `bytes`: no byte and no failure is the input's end.
+fn read_some(bytes: &mut [u8]) -> Input
+    ensures { λ r. ⌜ r .length ≤ length (now (bytes .exit)) ⌝ }
+{
+    let got = libc::read(0, bytes);
+    Input {
+        length: io::count(got, bytes),
+        failed: got < 0,
+    }
+}
+
 // Reads standard input to the start of `bytes`, up to the input's end or as many bytes as there is room for.
 fn read_input(bytes: &mut [u8]) -> Input
     ensures { λ r. ⌜ r .length ≤ length (now (bytes .exit)) ⌝ }
 {
     let mut done: usize = 0;
     while done < bytes.len() {
-        let got = libc::read(0, &mut bytes[done..]);
-        if got < 0 {
+        let more = read_some(&mut bytes[done..]);
+        if more.length == 0 {
             return Input {
                 length: done,
-                failed: true,
+                failed: more.failed,
             };
         }
-        if got == 0 {
-            return Input {
-                length: done,
-                failed: false,
-            };
-        }
-        done += got as usize;
+        done += more.length;
     }
     Input {
         length: done,
@@ -48,7 +53,10 @@ fn main() {
     let mut text: [u8; TEXT] = [0; TEXT];
     let input = read_input(&mut bytes);
     if input.failed {
-        io::write_all(2, b"lotstrip: standard input could not be read; nothing is booked\n");
+        io::write_all(
+            2,
+            b"lotstrip: standard input could not be read; nothing is booked\n",
+        );
         return;
     }
     let length = input.length;
