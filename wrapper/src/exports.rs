@@ -13,6 +13,7 @@ pub struct Slots {
     pub bound: u32,
     /// Those that the compressed base holds.
     pub base: u32,
+    /// Those that are live.
     pub live: u32,
 }
 
@@ -20,7 +21,9 @@ pub struct Slots {
 #[repr(C)]
 #[derive(Debug, Clone, Copy, Default, PartialEq, Eq)]
 pub struct Counts {
+    /// Of nodes.
     pub nodes: Slots,
+    /// Of edges.
     pub edges: Slots,
 }
 
@@ -103,7 +106,7 @@ macro_rules! reads {
         }
 
         impl Memory {
-            $(pub fn $name(&self, $($argument: u32,)* $($($slots: &mut [$word]),+)?) -> $answer {
+            $(pub(crate) fn $name(&self, $($argument: u32,)* $($($slots: &mut [$word]),+)?) -> $answer {
                 let [outgoing, incoming] = &self.axes;
                 // SAFETY: the slices are borrowed and as long as stated.
                 unsafe {
@@ -351,7 +354,7 @@ mod others {
 }
 
 impl Memory {
-    pub fn lot_fresh(&self, device: Device) -> Changed {
+    pub(crate) fn lot_fresh(&self, device: Device) -> Changed {
         let entry = match device {
             Device::Box => others::lot_fresh,
             Device::Skid => others::lot_skid_fresh,
@@ -378,7 +381,7 @@ impl Memory {
         }
     }
 
-    pub fn lot_strip(&mut self, words: &[u32], answers: &mut [u32]) -> Changed {
+    pub(crate) fn lot_strip(&mut self, words: &[u32], answers: &mut [u32]) -> Changed {
         let [outgoing, incoming] = &mut self.axes;
         // SAFETY: the slices are borrowed, all but `words` mutably, and as long as
         // stated.
@@ -407,7 +410,7 @@ impl Memory {
         }
     }
 
-    pub fn lot_compact(
+    pub(crate) fn lot_compact(
         &mut self,
         node_map: &mut [u32],
         edge_map: &mut [u32],
@@ -442,7 +445,7 @@ impl Memory {
         }
     }
 
-    pub fn lot_read_image(&mut self, device: Device, bytes: &[u8]) -> Changed {
+    pub(crate) fn lot_read_image(&mut self, device: Device, bytes: &[u8]) -> Changed {
         let entry = match device {
             Device::Box => others::lot_read_image,
             Device::Skid => others::lot_skid_read_image,
@@ -475,7 +478,12 @@ impl Memory {
 
     /// Joins two stores into this memory. `maps`: nodes and edges of the first, then
     /// of the second.
-    pub fn lot_join(&mut self, first: &Self, second: &Self, maps: [&mut [u32]; 4]) -> Changed {
+    pub(crate) fn lot_join(
+        &mut self,
+        first: &Self,
+        second: &Self,
+        maps: [&mut [u32]; 4],
+    ) -> Changed {
         let [
             first_node_map,
             first_edge_map,

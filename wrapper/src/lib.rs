@@ -60,6 +60,9 @@
 //! # }
 //! ```
 
+#![warn(missing_docs)]
+
+mod causes;
 mod exports;
 pub mod maps;
 
@@ -70,11 +73,13 @@ use exports::Changed;
 /// "None" where the store answers a slot.
 pub const NONE: u32 = u32::MAX;
 
-/// A refused call or operation: number and value of document 01's table. A call
-/// that is refused leaves every word as it was.
+/// A refused call or operation: number and value of document 01's table; it displays
+/// its cause in words. A call that is refused leaves every word as it was.
 #[derive(Debug, Clone, Copy, PartialEq, Eq)]
 pub struct Refused {
+    /// The number of the cause.
     pub number: u32,
+    /// What the cause reports: a rule, a length, a capacity; NONE where there is nothing to report.
     pub value: u64,
 }
 
@@ -91,8 +96,11 @@ impl EdgePayload {
 /// The ends and the payload of an edge.
 #[derive(Debug, Clone, Copy, PartialEq, Eq)]
 pub struct EdgeRecord {
+    /// The node that it leaves.
     pub source: u32,
+    /// The node that it enters.
     pub target: u32,
+    /// Its lowest and its highest weight.
     pub payload: EdgePayload,
 }
 
@@ -100,7 +108,9 @@ pub struct EdgeRecord {
 /// within the edges' ranges sum to between them.
 #[derive(Debug, Clone, Copy, PartialEq, Eq)]
 pub struct Total {
+    /// The sum of the lows.
     pub low: u64,
+    /// The sum of the highs.
     pub high: u64,
 }
 
@@ -108,9 +118,13 @@ pub struct Total {
 /// removed, and the lists of all nodes, joined, by the new numbers.
 #[derive(Debug, Clone, PartialEq, Eq)]
 pub struct Compaction {
+    /// The new slot of every old node.
     pub node_map: Vec<u32>,
+    /// The new slot of every old edge.
     pub edge_map: Vec<u32>,
+    /// The out-lists of all nodes, joined.
     pub outgoing: Vec<u32>,
+    /// The in-lists of all nodes, joined.
     pub incoming: Vec<u32>,
 }
 
@@ -118,35 +132,39 @@ pub struct Compaction {
 /// where it was removed.
 #[derive(Debug, Clone, PartialEq, Eq)]
 pub struct BookMaps {
+    /// Of its nodes.
     pub node_map: Vec<u32>,
+    /// Of its edges.
     pub edge_map: Vec<u32>,
 }
 
 /// An operation of a strip. One that gives an edge a low above its high is refused
-/// with 16.
+/// with 16. Nodes and edges are given by their slots.
 #[derive(Debug, Clone, Copy, PartialEq, Eq)]
+// The names of the fields say what they are.
+#[allow(missing_docs)]
 pub enum Operation {
-    /// Answers the new slot.
+    /// A new node. Answers its slot.
     AddNode { payload: u32 },
-    /// Answers the new slot.
+    /// A new edge, last in both lists. Answers its slot.
     AddEdge {
         source: u32,
         target: u32,
         payload: EdgePayload,
     },
-    /// Answers 1, or 0 where nothing live was there.
+    /// Removes an edge. Answers 1, or 0 where nothing live was there.
     RemoveEdge { edge: u32 },
-    /// Removes the node's edges with it. Answers 1, or 0 where nothing live was there.
+    /// Removes a node and its edges with it. Answers 1, or 0 where nothing live was there.
     RemoveNode { node: u32 },
-    /// Answers the previous source.
+    /// Makes the node the source, last in its out-list. Answers the previous source.
     RedirectSource { edge: u32, node: u32 },
-    /// Answers the previous target.
+    /// Makes the node the target, last in its in-list. Answers the previous target.
     RedirectTarget { edge: u32, node: u32 },
-    /// Moves the whole out-list. Answers the edges moved.
+    /// Moves the whole out-list of the old node behind that of the new. Answers the edges moved.
     MoveOutgoing { old: u32, new: u32 },
-    /// Moves the whole in-list. Answers the edges moved.
+    /// Moves the whole in-list of the old node behind that of the new. Answers the edges moved.
     MoveIncoming { old: u32, new: u32 },
-    /// Of a removed edge too. Answers 0.
+    /// Gives an edge other weights, a removed one too. Answers 0.
     SetPayload { edge: u32, payload: EdgePayload },
 }
 
@@ -199,6 +217,7 @@ impl Device {
 /// and `crates/shape` the columns). It may hold anything: the check judges it.
 #[derive(Debug, Clone, PartialEq, Eq)]
 pub struct Memory {
+    /// Bounds, base counts and live counts.
     pub counts: Counts,
     /// Payloads; the length is the capacity.
     pub nodes: Vec<u32>,
@@ -206,7 +225,9 @@ pub struct Memory {
     pub lows: Vec<u32>,
     /// The highest weight of each edge.
     pub highs: Vec<u32>,
+    /// A bit a node slot.
     pub live_nodes: Vec<u64>,
+    /// A bit an edge slot.
     pub live_edges: Vec<u64>,
     /// Outgoing, incoming.
     pub axes: [Vec<u32>; 2],
@@ -292,14 +313,17 @@ impl LotBook {
         Self { device, memory }
     }
 
+    /// The device that the book is on.
     pub const fn device(&self) -> Device {
         self.device
     }
 
+    /// The words that the store stands in.
     pub const fn memory(&self) -> &Memory {
         &self.memory
     }
 
+    /// The words that the store stands in, handed over.
     pub fn into_memory(self) -> Memory {
         self.memory
     }
@@ -517,10 +541,15 @@ impl LotBook {
         self.list(|memory, slots| memory.lot_predecessors(node, slots))
     }
 
+    /// How many edges a node's out-list has.
+    ///
+    /// # Errors
+    /// 1, 5; and so the next.
     pub fn out_degree(&self, node: u32) -> Result<u32, Refused> {
         self.slot_answer(|memory| memory.lot_out_degree(node))
     }
 
+    /// How many edges a node's in-list has.
     pub fn in_degree(&self, node: u32) -> Result<u32, Refused> {
         self.slot_answer(|memory| memory.lot_in_degree(node))
     }
@@ -547,14 +576,17 @@ impl LotBook {
         self.slot_answer(|memory| memory.lot_outgoing(node, slots))
     }
 
+    /// The in-list into a lent slice.
     pub fn incoming_into(&self, node: u32, slots: &mut [u32]) -> Result<u32, Refused> {
         self.slot_answer(|memory| memory.lot_incoming(node, slots))
     }
 
+    /// The targets of the out-list into a lent slice.
     pub fn successors_into(&self, node: u32, slots: &mut [u32]) -> Result<u32, Refused> {
         self.slot_answer(|memory| memory.lot_successors(node, slots))
     }
 
+    /// The sources of the in-list into a lent slice.
     pub fn predecessors_into(&self, node: u32, slots: &mut [u32]) -> Result<u32, Refused> {
         self.slot_answer(|memory| memory.lot_predecessors(node, slots))
     }
@@ -643,6 +675,8 @@ impl LotBook {
         self.yes_or_no(Memory::lot_is_empty)
     }
 
+    /// Whether every slot is live and in the base: no removed slot, nothing added or redirected
+    /// since the last compaction.
     pub fn is_compact(&self) -> Result<bool, Refused> {
         self.yes_or_no(Memory::lot_is_compact)
     }
@@ -688,6 +722,7 @@ impl LotBook {
         self.slot_answer(|memory| memory.lot_node_ids(slots))
     }
 
+    /// The live edges into a lent slice: how many there are.
     pub fn edge_ids_into(&self, slots: &mut [u32]) -> Result<u32, Refused> {
         self.slot_answer(|memory| memory.lot_edge_ids(slots))
     }
