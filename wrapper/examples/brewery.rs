@@ -1,5 +1,5 @@
 //! A small brewery from hopper to bottle: books it, then costs a bottling by walking
-//! back through the transfers, and keeps the book as an image.
+//! back through the transfers, asks for the shortest way, and keeps the book as an image.
 //!
 //!     cargo run --offline --example brewery
 //!
@@ -89,11 +89,22 @@ fn main() -> Result<(), Refused> {
         );
     }
 
+    // How few transfers lie between a hopper and a bottling, and which.
+    let chain = book
+        .nearest(pale, second)?
+        .expect("malt reaches the bottle");
+    let mut way = NAMES[pale as usize].to_string();
+    for transfer in chain {
+        let record = book.edge_record(transfer)?;
+        way += &format!(" -{transfer}-> {}", NAMES[record.target as usize]);
+    }
+    println!("{way}");
+
     // What can't be done is refused, and changes nothing.
     let refused = book.out_degree(99).expect_err("there is no lot 99");
     println!("lot 99: {refused}");
 
-    book.compact()?;
+    // The image of a book needs no compaction, and changes nothing.
     let image = book.image()?;
     let mut copy = LotBook::new(16, 32)?;
     copy.read_image(&image)?;

@@ -162,15 +162,16 @@ fn compare_moves(rust: &RustStore) {
     Pair::of(rust.clone()).compare("a hub's list moved on", &moves, &[64]);
 }
 
-/// Writing and reading the image of a compact store, by edges. The Rust has none.
+/// Writing and reading an image, by edges. The Rust has none.
 fn images(rust: &RustStore) {
     let book = LotBook::from_memory(Memory::of(rust).words());
     let image = book.image().expect("a store with an image");
     let mut bytes = image.clone();
+    let mut work = vec![0; 2 * SLOTS as usize];
     let mut into = book.clone();
     let [check, write, read] = in_turns([
         &mut || timed(|| book.check().expect("a store")),
-        &mut || timed(|| book.image_into(&mut bytes).expect("room")),
+        &mut || timed(|| book.image_into(&mut work, &mut bytes).expect("room")),
         &mut || timed(|| into.read_image(&image).expect("an image")),
     ]);
     let edge = 1e3 / f64::from(SLOTS);
