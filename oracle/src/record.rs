@@ -291,8 +291,13 @@ impl Recorder<'_> {
         let given = calls::find(rust, slot, other);
         let Answer { number, value } = self.both(&call, expected, given)?;
         line!(self.text, "{call} {number} {value}");
-        let other = self.rng.below(rust.bounds()[0] + 1) as u32;
-        self.nearest(trio, [slot, other])
+        // Live ones most of the time, so that a search is made.
+        let live = rust.live_nodes();
+        let lots = match live.is_empty() || self.rng.one_in(4) {
+            true => [slot, other],
+            false => [(); 2].map(|()| self.rng.pick(&live)),
+        };
+        self.nearest(trio, lots)
     }
 
     fn nearest(&mut self, trio: &Trio, lots: [u32; 2]) -> Result<(), Difference> {

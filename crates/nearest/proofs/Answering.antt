@@ -36,7 +36,8 @@ use Rattle.nearest.proofs.Draining.{distance-few, first-word, drained-f
 cleared-words : (k : ℕ) (entry exit : List ℕ) → k ≤ length entry → length exit ≡ length entry → ((x : ℕ) → x < k → getD exit x 0 ≡ 0)
     → ((x : ℕ) → k ≤ x → getD exit x 0 ≡ getD entry x 0) → exit ≡ written (replicate k 0) entry
 cleared-words k entry exit low same clear rest =
-    ext-getD 0 exit (written zeros entry) (same ∙ sym (length-append zeros (drop (length zeros) entry) ∙ (let a = size in let b = length-drop (length zeros) entry in omega arith)))
+    ext-getD 0 exit (written zeros entry)
+    (same ∙ sym (length-append zeros (drop (length zeros) entry) ∙ (let a = size in let b = length-drop (length zeros) entry in omega arith)))
     (λ x h. ⊎-elim
     (λ in-front. clear x in-front
     ∙ sym (List·getD-append zeros (drop (length zeros) entry) 0 x (let a = size in omega arith) ∙ getD-replicate k x 0 0 in-front))

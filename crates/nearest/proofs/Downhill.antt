@@ -77,7 +77,9 @@ module _ (out : ℕ → List ℕ) (target : ℕ → ℕ) where
   pub downhill-first : {y d : ℕ} {dist : List ℕ} → Labelled out target y d dist → (k x : ℕ) → k ≤ d → Distance out target y x k
       → first-chain out target k x y ≡ some (downhill out target dist k x)
   unfolding downhill
-  downhill-first {y} {d} {dist} l zero x low far = first-chain-zero out target x y ∙ ap (λ (b : Bool). cond b (some []) none) (eq-eqb x y (at (far .way) (far .is-chain) (far .long)))
+  downhill-first {y} {d} {dist} l zero x low far =
+      first-chain-zero out target x y
+      ∙ ap (λ (b : Bool). cond b (some []) none) (eq-eqb x y (at (far .way) (far .is-chain) (far .long)))
     where
       at : (c : List ℕ) → Chain out target x c y → length c ≡ 0 → x ≡ y
       at [] chain long = chain
@@ -121,7 +123,9 @@ pub downhill-step : (out : ℕ → List ℕ) (target : ℕ → ℕ) (dist : List
     → before ++ downhill out target dist (suc d) x
     ≡ (before ++ (first-of (leads target dist (suc d)) (out x) ∷ [])) ++ downhill out target dist d (target (first-of (leads target dist (suc d)) (out x)))
 unfolding downhill
-downhill-step out target dist d x before = sym (append-assoc before (first-of (leads target dist (suc d)) (out x) ∷ []) (downhill out target dist d (target (first-of (leads target dist (suc d)) (out x)))))
+downhill-step out target dist d x before =
+    sym (append-assoc before (first-of (leads target dist (suc d)) (out x) ∷ [])
+    (downhill out target dist d (target (first-of (leads target dist (suc d)) (out x)))))
 
 module _ (out : ℕ → List ℕ) (target : ℕ → ℕ) where
   -- the edge that is taken is one of the out-list, and leads one nearer

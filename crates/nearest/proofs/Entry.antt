@@ -132,5 +132,6 @@ module _ {w : Words} {first second : ℕ} {work chain : List ℕ} {r : Answer} (
       is : nearest-of w first second (length work) (length chain) ≡ search-of w first second (length chain)
       is =
           ap (λ (n : ℕ). judged-search n (nearest-lot (node-capacity w) (lists w) first second (length work) (length chain))) (f .unbroken none-number)
-          ∙ none-refuses (node-capacity w) (lists w) first second (length work) (length chain) (live-there w first (asked .first-live)) (live-there w second (asked .goal-live))
+          ∙ none-refuses (node-capacity w) (lists w) first second (length work) (length chain) (live-there w first (asked .first-live))
+          (live-there w second (asked .goal-live))
           (asked .long)

@@ -80,7 +80,8 @@ expandable-turn {n} {word} {source} {e} {es} {f} h =
 -- ---- the loop
 
 -- From the cursor c₀ and the frontier f₀ it has come to c and f: what is left to do gives what there was to do.
-pub record Expanding (test : ℕ → Bool) (linked : Bool) (entries next : List ℕ) (n word : ℕ) (source : ℕ → ℕ) (c₀ : AdjacencyCursor) (f₀ : Frontier) (c : AdjacencyCursor) (f : Frontier)
+pub record Expanding (test : ℕ → Bool) (linked : Bool) (entries next : List ℕ) (n word : ℕ) (source : ℕ → ℕ)
+    (c₀ : AdjacencyCursor) (f₀ : Frontier) (c : AdjacencyCursor) (f : Frontier)
     : Type 0 where
   pub ready : Ready linked entries next c
   pub able : Expandable n word source (keep test (remaining linked entries next c)) f
@@ -122,7 +123,8 @@ module _ {outgoing incoming live-edges : List ℕ} {ce cn : ℕ} {counts : Count
   lot-walk : listed-left (s .linked) entries next tombstoned live-edges (counts .edges .bound) (s .cursor) ≡ walk-in incoming ce cn counts live-edges lot true
   lot-walk = given-walk (h .walkable) started are-entries is-next is-tombstoned
 
-  pub lot-requires : Expand (listed tombstoned (live-flags live-edges (counts .edges .bound))) (s .linked) entries next live-edges (counts .edges .bound) cn (getD work lot 0 + 1) tail outgoing (s .cursor) work
+  pub lot-requires : Expand (listed tombstoned (live-flags live-edges (counts .edges .bound))) (s .linked) entries next live-edges (counts .edges .bound)
+      cn (getD work lot 0 + 1) tail outgoing (s .cursor) work
   lot-requires =
       let seekable = given-seekable (h .walkable) started are-entries is-next in
       record {
@@ -132,6 +134,7 @@ module _ {outgoing incoming live-edges : List ℕ} {ce cn : ℕ} {counts : Count
         able = subst (λ (l : List ℕ). Expandable cn (getD work lot 0 + 1) (end-at outgoing) l (frontier tail work)) (sym lot-walk) (h .able);
       }
 
-  pub lot-expanded : {f : Frontier} → f ≡ expanded cn (λ e. getD outgoing e 0) (getD work lot 0 + 1) (listed-left (s .linked) entries next tombstoned live-edges (counts .edges .bound) (s .cursor)) (frontier tail work)
+  pub lot-expanded : {f : Frontier} → f ≡ expanded cn (λ e. getD outgoing e 0) (getD work lot 0 + 1)
+      (listed-left (s .linked) entries next tombstoned live-edges (counts .edges .bound) (s .cursor)) (frontier tail work)
       → f ≡ expanded cn (end-at outgoing) (getD work lot 0 + 1) (walk-in incoming ce cn counts live-edges lot true) (frontier tail work)
   lot-expanded is = is ∙ ap (λ (l : List ℕ). expanded cn (end-at outgoing) (getD work lot 0 + 1) l (frontier tail work)) lot-walk

@@ -1,17 +1,16 @@
 -- What one lot's in-list gone through keeps of the search.
-use Prim.Native.Nat.{ℕ, zero, suc, _+_, _*_, _-_, _≤_, _<_}
+use Prim.Native.Nat.{ℕ, suc, _+_, _*_, _-_, _<_}
 use native.Mathlib.Omega.{arith}
 use native.Mathlib.Numerals.{add-one}
-use mathlib.Core.Path.{_≡_, refl, sym, ap, ap₂, _∙_, subst}
+use mathlib.Core.Path.{_≡_, sym, ap, _∙_, subst}
 use mathlib.Core.Bool.{Bool, true, false, cond}
-use mathlib.Core.Logic.{_⊎_, inl, inr, ⊎-elim}
 use mathlib.Core.List.{List, [], _∷_, _++_, append-assoc, append-nil}
-use lib.ListN.{length, getD, set, take, drop, length-set, length-take, length-drop, length-append, List·getD-append}
+use lib.ListN.{length, getD, set, take, drop, length-set, length-drop, List·getD-append}
 use lib.Seq.{getD-set-other, take-set-lt, take-set-le, drop-set-lt, drop-set-add, take-suc-set, getD-take, length-take-le}
 use lib.Dec.{eqb}
-use borrow.Author.Tests.{eqb-true, eqb-false, lt-ltb}
+use borrow.Author.Tests.{eqb-true, eqb-false}
 use Rattle.plain.specs.Lists.{member}
-use Rattle.plain.specs.Laws.Booleans.{by-test, true-false, below-or-not}
+use Rattle.plain.specs.Laws.Booleans.{by-test, true-false}
 use Rattle.plain.specs.Laws.ListLaws.{member-first, member-later}
 use Rattle.nearest.specs.Search.{Network, Consistent, Search}
 use Rattle.nearest.specs.Frontier.{dist-in, queue-in, Frontier, pushed, turn, expanded, Held, Standing}
@@ -58,7 +57,8 @@ module _ {t : Network} (consistent : Consistent t) (n y head : ℕ) where
       push-held clear = record {
         long = let a = length-set (set (f .work) x word) (n + f .tail) x in let b = length-set (f .work) x word in let l = h .long in omega arith;
         within = let r = room x low clear in omega arith;
-        beyond = drop-set-lt (2 * n) (set (f .work) x word) (n + f .tail) x (let r = room x low clear in omega arith) ∙ drop-set-lt (2 * n) (f .work) x word (omega arith) ∙ h .beyond;
+        beyond = drop-set-lt (2 * n) (set (f .work) x word) (n + f .tail) x (let r = room x low clear in omega arith)
+            ∙ drop-set-lt (2 * n) (f .work) x word (omega arith) ∙ h .beyond;
         search = subst (λ (d : List ℕ). Search t y d (queue-in n (f .tail + 1) (pushed n word x f .work)) head (past ++ (e ∷ []))) (sym dist-after)
             (subst (λ (o : List ℕ). Search t y (set (dist-in n (f .work)) x word) o head (past ++ (e ∷ []))) (sym (queue-after clear))
             (subst (λ (w : ℕ). Search t y (set (dist-in n (f .work)) x w) (queue-in n (f .tail) (f .work) ++ (x ∷ [])) head (past ++ (e ∷ []))) (sym next)
@@ -69,7 +69,8 @@ module _ {t : Network} (consistent : Consistent t) (n y head : ℕ) where
       unfolding turn
       turn-held =
           by-test (eqb (getD (f .work) (t .source e) 0) 0)
-          (λ q. subst (λ (b : Bool). Held t n y head rest (past ++ (e ∷ [])) (cond b (pushed n word (t .source e) f) f)) (sym q) (push-held (eqb-true (getD (f .work) (t .source e) 0) 0 q)))
+          (λ q. subst (λ (b : Bool). Held t n y head rest (past ++ (e ∷ [])) (cond b (pushed n word (t .source e) f) f)) (sym q)
+          (push-held (eqb-true (getD (f .work) (t .source e) 0) 0 q)))
           (λ q. subst (λ (b : Bool). Held t n y head rest (past ++ (e ∷ [])) (cond b (pushed n word (t .source e) f) f)) (sym q) (record {
             long = h .long;
             within = h .within;
@@ -81,7 +82,8 @@ module _ {t : Network} (consistent : Consistent t) (n y head : ℕ) where
       -- the lot at the head and its word are as before
       push-standing : getD (f .work) (t .source e) 0 ≡ 0
           → (getD (queue-in n (f .tail + 1) (pushed n word (t .source e) f .work)) head 0 ≡ getD (queue-in n (f .tail) (f .work)) head 0)
-          × (getD (dist-in n (pushed n word (t .source e) f .work)) (getD (queue-in n (f .tail) (f .work)) head 0) 0 ≡ getD (dist-in n (f .work)) (getD (queue-in n (f .tail) (f .work)) head 0) 0)
+          × (getD (dist-in n (pushed n word (t .source e) f .work)) (getD (queue-in n (f .tail) (f .work)) head 0) 0
+          ≡ getD (dist-in n (f .work)) (getD (queue-in n (f .tail) (f .work)) head 0) 0)
       push-standing clear = (
         ap (λ (l : List ℕ). getD l head 0) (queue-after clear) ∙ List·getD-append (queue-in n (f .tail) (f .work)) (x ∷ []) 0 head (let q = queue-long in omega arith),
         ap (λ (l : List ℕ). getD l (getD (queue-in n (f .tail) (f .work)) head 0) 0) dist-after
@@ -92,7 +94,8 @@ module _ {t : Network} (consistent : Consistent t) (n y head : ℕ) where
 
   -- ---- a whole in-list
 
-  pub turn-standing : {rest past : List ℕ} {f : Frontier} {z word : ℕ} (e : ℕ) → Held t n y head rest past f → Standing n head z word f → member e (t .ins z) ≡ true → t .source e < n
+  pub turn-standing : {rest past : List ℕ} {f : Frontier} {z word : ℕ} (e : ℕ) → Held t n y head rest past f → Standing n head z word f → member e (t .ins z) ≡ true
+      → t .source e < n
       → Standing n head z word (turn n word (t .source e) f)
   unfolding turn
   turn-standing {f = f} {z} {word} e h s m low =

@@ -1,18 +1,18 @@
 -- Laws of the search on lists: how it starts, each way through a turn, and what its words are once it stops.
-use Prim.Native.Nat.{ℕ, zero, suc, _+_, _≤_, _<_, zero-le, suc-le-suc}
+use Prim.Native.Nat.{ℕ, suc, _+_, _≤_, _<_, zero-le}
 use native.Mathlib.Omega.{arith}
 use native.Mathlib.Nat.{suc-inj}
-use mathlib.Core.Path.{_≡_, refl, sym, ap, ap₂, _∙_, subst}
-use mathlib.Core.Bool.{Bool, true, false, cond, _&&_, _||_, not}
+use mathlib.Core.Path.{_≡_, refl, sym, ap, _∙_, subst}
+use mathlib.Core.Bool.{Bool, true, false, _||_}
 use mathlib.Core.Logic.{_⊎_, inl, inr, ⊎-elim}
 use mathlib.Core.List.{List, [], _∷_, _++_}
 use lib.ListN.{length, getD, set, length-append, length-set, List·getD-append}
 use lib.Seq.{getD-append-seam, getD-set-same, getD-set-other}
 use lib.Dec.{eqb}
-use borrow.Author.Tests.{eqb-true, eqb-false, eq-eqb, ne-eqb, lt-ltb}
+use borrow.Author.Tests.{eqb-true, eqb-false, eq-eqb, lt-ltb}
 use Rattle.plain.specs.Lists.{member, distinct, from}
-use Rattle.plain.specs.Laws.Booleans.{by-test, true-false, below-or-not, or-other, both-true, refuted, and-left, and-right, or-true, or-false}
-use Rattle.plain.specs.Laws.ListLaws.{member-first, member-later, member-append, member-at, distinct-within, length-from, member-below}
+use Rattle.plain.specs.Laws.Booleans.{by-test, true-false, below-or-not, or-other, refuted, or-true, or-false}
+use Rattle.plain.specs.Laws.ListLaws.{member-first, member-append, member-at, distinct-within, length-from, member-below}
 use Rattle.plain.specs.Laws.Deleting.{distinct-snoc}
 use Rattle.nearest.specs.Chains.{position, Chain}
 use Rattle.nearest.specs.ChainLaws.{position-first, position-later}

@@ -1,5 +1,5 @@
 -- Where the search starts: the words of the lots clear, but for the goal's, and the goal alone in the queue. And what it comes to.
-use Prim.Native.Nat.{ℕ, _+_, _*_, _≤_, _<_}
+use Prim.Native.Nat.{ℕ, _+_, _*_}
 use native.Mathlib.Omega.{arith}
 use mathlib.Core.Path.{_≡_, refl, sym, ap, _∙_, subst}
 use mathlib.Core.Logic.{⊎-elim}
@@ -12,7 +12,7 @@ use Rattle.shape.specs.Shape.{Words, node-capacity}
 use Rattle.nearest.specs.Search.{Network, Search}
 use Rattle.nearest.specs.Frontier.{frontier, dist-in, queue-in, Held}
 use Rattle.nearest.specs.Stores.{network, Asked}
-use Rattle.nearest.specs.Backwards.{Drain, Draining, Drained, Seedable, Sought}
+use Rattle.nearest.specs.Backwards.{Drain, Drained, Seedable, Sought}
 use Rattle.nearest.proofs.SearchLaws.{search-start}
 use Rattle.nearest.proofs.Stores.{few, lot-within}
 

@@ -2,7 +2,7 @@
 use Prim.Native.Nat.{ℕ, zero, suc, _≤_, _<_}
 use native.Mathlib.Omega.{arith}
 use mathlib.Core.Path.{_≡_, refl, sym, ap, ap₂, _∙_, subst}
-use mathlib.Core.Bool.{Bool, true, false, _&&_}
+use mathlib.Core.Bool.{Bool, true, false}
 use mathlib.Core.Option.{Option}
 use mathlib.Core.List.{List, _∷_, map}
 use lib.ListN.{length, getD}
@@ -12,12 +12,12 @@ use Rattle.plain.specs.declared.TraversalDirection.{TraversalDirection}
 use Rattle.plain.specs.declared.TraversalDirection.the-variants.{Outgoing, Incoming}
 use Rattle.plain.specs.Numbers.{LIMIT}
 use Rattle.plain.specs.Lists.{member, joined}
-use Rattle.plain.specs.Plain.{node-flags, edge-flags, list-of, end-of}
+use Rattle.plain.specs.Plain.{edge-flags, list-of, end-of}
 use Rattle.plain.specs.Laws.Booleans.{and-left, and-right, both-true}
 use Rattle.plain.specs.Laws.ListLaws.{map-same}
 use Rattle.plain.specs.Laws.Operating.{incident, node-below, edge-below}
 use Rattle.shape.specs.Columns.{end-at}
-use Rattle.shape.specs.Shape.{Words, node-capacity, edge-capacity, node-live, axis-words, lists}
+use Rattle.shape.specs.Shape.{Words, node-capacity, edge-capacity, axis-words, lists}
 use Rattle.shape.specs.Checked.{Checked}
 use Rattle.shape.specs.Laws.Reading.{plain-node-bound, plain-edge-bound, plain-node-flags, plain-end}
 use Rattle.adjacency.specs.Walk.{walk-in, Walkable}

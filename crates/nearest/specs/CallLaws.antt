@@ -2,7 +2,7 @@
 use Prim.Native.Nat.{ℕ, zero, suc, _≤_, _<_, zero-le}
 use native.Mathlib.Omega.{arith}
 use mathlib.Core.Path.{_≡_, refl, sym, ap, _∙_}
-use mathlib.Core.Bool.{true, false, cond}
+use mathlib.Core.Bool.{false, cond}
 use mathlib.Core.Option.{Option, none, some}
 use mathlib.Core.Logic.{inl, ⊎-elim}
 use mathlib.Core.List.{List, [], _∷_}
@@ -41,7 +41,9 @@ module _ (capacity : ℕ) (p : Plain) (first second work room : ℕ) where
   -- the first lot
   pub first-refuses : (number : ℕ) → node-fault p first ≡ number → (number ≡ 0 → ⊥) → nearest-lot capacity p first second work room ≡ unsearched number NONE
   unfolding nearest-lot
-  first-refuses number is h = ap (λ (n : ℕ). search-unless n (search-unless (node-fault p second) by-work)) is ∙ unless-refuses number (search-unless (node-fault p second) by-work) h
+  first-refuses number is h =
+      ap (λ (n : ℕ). search-unless n (search-unless (node-fault p second) by-work)) is
+      ∙ unless-refuses number (search-unless (node-fault p second) by-work) h
 
   module _ (first-there : node-fault p first ≡ 0) where
     -- the second

@@ -1,18 +1,19 @@
--- Laws of chains.
-use Prim.Native.Nat.{ℕ, zero, suc, _+_, _≤_, _<_, zero-le, suc-le-suc}
+-- Laws of chains over any out-lists. What document 02 says of the nearest one: `nearest-chain`, `nearest-shortest`, `nearest-first`, `nearest-none`; and that
+-- these sentences determine it: `first-unique`, `first-nearest`.
+use Prim.Native.Nat.{ℕ, zero, suc, _+_, _≤_, _<_, zero-le}
 use native.Mathlib.Omega.{arith}
-use mathlib.Core.Path.{_≡_, refl, sym, ap, ap₂, _∙_, subst, fun-ext}
-use native.Mathlib.Nat.{suc-inj, not-suc-le-zero, le-of-suc-le-suc}
+use mathlib.Core.Path.{_≡_, refl, sym, ap, ap₂, _∙_, subst}
+use native.Mathlib.Nat.{suc-inj}
 use mathlib.Core.Bool.{Bool, true, false, cond, not}
 use mathlib.Core.Option.{Option, none, some, Option·some-injective}
 use mathlib.Core.Logic.{_⊎_, inl, inr, ⊎-elim}
 use mathlib.Core.List.{List, [], _∷_, _++_, map}
-use lib.ListN.{length, getD, length-map}
+use lib.ListN.{length, length-map}
 use lib.Dec.{eqb}
-use borrow.Author.Tests.{eqb-true, eqb-false, eq-eqb, ne-eqb, lt-ltb}
+use borrow.Author.Tests.{eqb-true, eqb-false, eq-eqb, lt-ltb}
 use Rattle.plain.specs.Lists.{member, distinct, from, joined}
 use Rattle.plain.specs.Laws.Booleans.{by-test, true-false, below-or-not, or-other, both-true, refuted}
-use Rattle.plain.specs.Laws.ListLaws.{member-first, member-later, distinct-within, distinct-head, distinct-tail, length-from, member-below, map-same}
+use Rattle.plain.specs.Laws.ListLaws.{member-first, member-later, distinct-within, distinct-tail, length-from, member-below}
 use Rattle.nearest.specs.Chains.{position, first-candidate, or-else, Chain, Before, chains, nearest-from, nearest}
 
 -- by cases on a candidate
@@ -49,7 +50,8 @@ unfolding first-candidate
 first-candidate-append [] ys = refl
 first-candidate-append (x ∷ xs) ys = refl
 
-first-candidate-onward : (e : ℕ) (cs : List (List ℕ)) (rest : Option (List ℕ)) → or-else (first-candidate (map (λ (c : List ℕ). e ∷ c) cs)) rest ≡ onward e (first-candidate cs) rest
+first-candidate-onward : (e : ℕ) (cs : List (List ℕ)) (rest : Option (List ℕ))
+    → or-else (first-candidate (map (λ (c : List ℕ). e ∷ c) cs)) rest ≡ onward e (first-candidate cs) rest
 unfolding first-candidate
 first-candidate-onward e [] rest = refl
 first-candidate-onward e (c ∷ cs) rest = refl
@@ -64,7 +66,7 @@ first-through f (e ∷ es) =
     ∙ first-candidate-onward e (f e) (first-step (λ e. first-candidate (f e)) es)
 
 -- What a first step found: an edge of the list from which there is a way on, and no earlier one has any.
-pub record Found (g : ℕ → Option (List ℕ)) (es c : List ℕ) : Type 0 where
+pub record FirstStep (g : ℕ → Option (List ℕ)) (es c : List ℕ) : Type 0 where
   pub edge : ℕ
   pub rest : List ℕ
   pub whole : c ≡ edge ∷ rest
@@ -72,7 +74,7 @@ pub record Found (g : ℕ → Option (List ℕ)) (es c : List ℕ) : Type 0 wher
   pub onwards : g edge ≡ some rest
   pub none-before : (e : ℕ) → member e es ≡ true → position e es < position edge es → g e ≡ none
 
-found-first : (g : ℕ → Option (List ℕ)) (e : ℕ) (es c r : List ℕ) → g e ≡ some r → c ≡ e ∷ r → Found g (e ∷ es) c
+found-first : (g : ℕ → Option (List ℕ)) (e : ℕ) (es c r : List ℕ) → g e ≡ some r → c ≡ e ∷ r → FirstStep g (e ∷ es) c
 found-first g e es c r here is = record {
   edge = e;
   rest = r;
@@ -82,7 +84,7 @@ found-first g e es c r here is = record {
   none-before = λ k m low. absurd (omega (arith, position-first e es));
 }
 
-found-later : (g : ℕ → Option (List ℕ)) (a : ℕ) (es c : List ℕ) → g a ≡ none → Found g es c → Found g (a ∷ es) c
+found-later : (g : ℕ → Option (List ℕ)) (a : ℕ) (es c : List ℕ) → g a ≡ none → FirstStep g es c → FirstStep g (a ∷ es) c
 unfolding member
 found-later g a es c nothing f =
     let e = f .edge in
@@ -97,7 +99,7 @@ found-later g a es c nothing f =
           (λ q. f .none-before k (or-other m q) (let here = position-later k a es q in let there = position-later e a es other in omega arith));
     }
 
-pub first-step-found : (g : ℕ → Option (List ℕ)) (es c : List ℕ) → first-step g es ≡ some c → Found g es c
+pub first-step-found : (g : ℕ → Option (List ℕ)) (es c : List ℕ) → first-step g es ≡ some c → FirstStep g es c
 unfolding first-step
 first-step-found g [] c h = some-none h refl
 first-step-found g (e ∷ es) c h =
@@ -187,7 +189,7 @@ module _ (out : ℕ → List ℕ) (target : ℕ → ℕ) where
       (subst (λ (z : ℕ). Chain out target (target z) other y) (sym same) (chain .1)) (suc-inj long)))
       (λ q. inr (inl (earlier f q (below-or-not (position (f .edge) (out x)) (position e (out x)))))))
     where
-      earlier : (f : Found (λ e. first-chain k (target e) y) (out x) c) → eqb (f .edge) e ≡ false
+      earlier : (f : FirstStep (λ e. first-chain k (target e) y) (out x) c) → eqb (f .edge) e ≡ false
           → (position (f .edge) (out x) < position e (out x)) ⊎ (position e (out x) ≤ position (f .edge) (out x)) → position (f .edge) (out x) < position e (out x)
       earlier f q (inl low) = low
       earlier f q (inr high) =
@@ -251,7 +253,8 @@ module _ (out : ℕ → List ℕ) (target : ℕ → ℕ) where
   nearest-from-is k zero x y d c low high h less = absurd (omega arith)
   nearest-from-is k (suc n) x y d c low high h less =
       by-test (eqb d k)
-      (λ q. ap (λ (o : Option (List ℕ)). or-else o (nearest-from out target (suc k) n x y)) (ap (λ (i : ℕ). first-candidate (chains out target i x y)) (sym (eqb-true d k q)) ∙ h))
+      (λ q. ap (λ (o : Option (List ℕ)). or-else o (nearest-from out target (suc k) n x y))
+      (ap (λ (i : ℕ). first-candidate (chains out target i x y)) (sym (eqb-true d k q)) ∙ h))
       (λ q. let other = eqb-false d k q in
       ap (λ (o : Option (List ℕ)). or-else o (nearest-from out target (suc k) n x y)) (less k (omega arith))
       ∙ nearest-from-is (suc k) n x y d c (omega arith) (omega arith) h less)
@@ -282,15 +285,6 @@ module _ (out : ℕ → List ℕ) (target : ℕ → ℕ) where
   nearest-first n x y c other h chain same =
       let f = nearest-from-some 0 n x y c h in
       first-chain-before (f .long) x y c other (f .given) chain (same ∙ first-chain-chain (f .long) x y c (f .given) .1)
-
-  -- fewer edges than lots
-  pub nearest-length : (n x y : ℕ) (c : List ℕ) → nearest out target n x y ≡ some c → length c < n
-  unfolding nearest
-  nearest-length n x y c h =
-      let f = nearest-from-some 0 n x y c h in
-      let long = first-chain-chain (f .long) x y c (f .given) .1 in
-      let within = f .within in
-      omega arith
 
   -- ---- any chain can be cut to one that comes to no lot twice
 

@@ -16,7 +16,9 @@ fill-words-requires : tie.Need-fill-words-requires
 fill-words-requires c κs = let f = c .before .before .before .before .before in clear-fits (start f .pre) (f .find-chain .ensures)
 
 returns : tie.Need-returns
-returns c = let f = c .before .before .before .before .before .before .before .before in answered (start f .pre) (f .find-chain .ensures) (c .before .before .fill-words .ensures)
+returns c =
+    let f = c .before .before .before .before .before .before .before .before in
+    answered (start f .pre) (f .find-chain .ensures) (c .before .before .fill-words .ensures)
 
 pub nearest-chain-spec : {M : Type 1} → statement M
 nearest-chain-spec =

@@ -1,8 +1,6 @@
 -- `nearest::backwards::expand` meets its contract. The loop's invariant is `Expanding`, the measure how many listed entries are left.
-use Prim.Native.Nat.{_≤_}
 use mathlib.Core.Path.{_≡_, refl, ap, _∙_}
 use native.Mathlib.Nat.{lt-of-lt-of-le}
-use native.Mathlib.Omega.{arith}
 use borrow.Author.Needs.{needs}
 use lib.ListN.{length, getD}
 use Rattle.liveness.specs.Flags.{live-flags}

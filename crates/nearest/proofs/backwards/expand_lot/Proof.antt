@@ -4,14 +4,20 @@ use Rattle.nearest.proofs.Expanding.{lot-requires, lot-expanded}
 use Rattle.nearest.proofs.backwards.expand_lot.Statement.{statement}
 use Rattle.nearest.proofs.backwards.expand_lot.Tie as tie
 
+abbrev start : tie.After-start → tie.Start
+start c = c .before .before .before .before .before .before
+
 expand-requires : tie.Need-expand-requires
 expand-requires c κs =
-    lot-requires (c .before .before .before .before .before .before .before .before .before .before .before .pre) (c .before .before .before .before .before .start .ensures) (c .before .before .before .entries-of .ensures) (c .before .before .next-of .ensures) (c .before .tombstoned .ensures)
+    let s = c .before .before .before .before .before in
+    lot-requires (start s .pre) (s .start .ensures) (c .before .before .before .entries-of .ensures) (c .before .before .next-of .ensures) (c .before .tombstoned .ensures)
 
 returns : tie.Need-returns
 returns c =
     let k = c .before .before .before in
-    lot-expanded (k .before .before .before .before .before .before .before .before .before .before .before .pre) (k .before .before .before .before .before .start .ensures) (k .before .before .before .entries-of .ensures) (k .before .before .next-of .ensures) (k .before .tombstoned .ensures) (c .before .before .expand .ensures)
+    let s = k .before .before .before .before .before in
+    lot-expanded (start s .pre) (s .start .ensures) (k .before .before .before .entries-of .ensures) (k .before .before .next-of .ensures) (k .before .tombstoned .ensures)
+    (c .before .before .expand .ensures)
 
 pub expand-lot-spec : {M : Type 1} → statement M
 expand-lot-spec =

@@ -30,7 +30,8 @@ seek-requires c κs = record { ready = c .loop .inv .searching .ready; live-long
 shared-slice-read-end : tie.Need-shared-slice-read-end Inv-loop μ-loop
 shared-slice-read-end c =
     let s = c .before .before .before .before in
-    lt-of-lt-of-le (sought-below (s .seek .ensures) (s .before .loop .inv .searching .ready) (c .before .before .found .given .1)) (s .before .before .before .before .before .before .before .pre .ends-long)
+    lt-of-lt-of-le (sought-below (s .seek .ensures) (s .before .loop .inv .searching .ready) (c .before .before .found .given .1))
+    (s .before .before .before .before .before .before .before .pre .ends-long)
 
 cast-if1 : tie.Need-cast-if1 Inv-loop μ-loop
 cast-if1 c = omega (arith, c .shared-slice-known6 .given (c .before .before .found .given .0 .0))
@@ -39,7 +40,9 @@ mul-if1 : tie.Need-mul-if1 Inv-loop μ-loop
 mul-if1 c = omega (arith, c .shared-slice-known6 .given (c .before .before .found .given .0 .0))
 
 shared-slice-read-if1 : tie.Need-shared-slice-read-if1 Inv-loop μ-loop
-shared-slice-read-if1 c = let s = c .before .before .before .before .before in nearing-word (s .before .loop .inv) (s .seek .ensures) (c .before .before .before .found .given .1)
+shared-slice-read-if1 c =
+    let s = c .before .before .before .before .before in
+    nearing-word (s .before .loop .inv) (s .seek .ensures) (c .before .before .before .found .given .1)
 
 returns : tie.Need-returns Inv-loop μ-loop
 returns c =
@@ -50,7 +53,9 @@ returns-2 : tie.Need-returns-2 Inv-loop μ-loop
 returns-2 c = let s = c .before .before in sym (search-none (s .before .loop .inv .searching) (s .seek .ensures) (c .enum-told .given .1))
 
 loop-less : tie.Need-loop-less Inv-loop μ-loop
-loop-less c = let s = c .before .before .before .before .before .before .before in search-less (s .before .loop .inv .searching) (s .seek .ensures) (c .before .before .before .before .before .found .given .1)
+loop-less c =
+    let s = c .before .before .before .before .before .before .before in
+    search-less (s .before .loop .inv .searching) (s .seek .ensures) (c .before .before .before .before .before .found .given .1)
 
 loop-again : tie.Need-loop-again Inv-loop μ-loop
 loop-again c =

@@ -7,13 +7,15 @@ use Rattle.nearest.proofs.forwards.nearer_lot.Tie as tie
 nearer-asks : tie.Need-nearer-requires
 nearer-asks c κs =
     let s = c .before .before .before .before in
-    nearer-requires (s .before .before .before .before .before .pre) (s .start .ensures) (c .before .before .entries-of .ensures) (c .before .next-of .ensures) (c .tombstoned .ensures)
+    nearer-requires (s .before .before .before .before .before .pre) (s .start .ensures) (c .before .before .entries-of .ensures)
+    (c .before .next-of .ensures) (c .tombstoned .ensures)
 
 returns : tie.Need-returns
 returns c =
     let k = c .before in
     let s = k .before .before .before .before in
-    nearer-is (s .before .before .before .before .before .pre) (s .start .ensures) (k .before .before .entries-of .ensures) (k .before .next-of .ensures) (k .tombstoned .ensures) _ _ (c .nearer .ensures)
+    nearer-is (s .before .before .before .before .before .pre) (s .start .ensures) (k .before .before .entries-of .ensures) (k .before .next-of .ensures)
+    (k .tombstoned .ensures) _ _ (c .nearer .ensures)
 
 pub nearer-lot-spec : {M : Type 1} → statement M
 nearer-lot-spec =

@@ -1,6 +1,5 @@
 // The nearest lot: the search of crate nearest.
 
-use nearest;
 use plain::Answer;
 use plain::Counts;
 ghost use Rattle.shape.specs.Lent.{at-entry};
