@@ -1,7 +1,7 @@
 -- What is left once the dead slots are dropped: the store holds the survivors.
-use Prim.Native.Nat.{ℕ, _≤_, _<_}
+use Prim.Native.Nat.{ℕ, _<_}
 use mathlib.Core.Path.{_≡_, sym, ap, ap₂, subst, subst₂, _∙_}
-use mathlib.Core.Bool.{Bool, true, false}
+use mathlib.Core.Bool.{Bool}
 use mathlib.Core.List.{List, map, map-map}
 use native.Mathlib.Omega.{arith}
 use native.Mathlib.Nat.{zero-add}
@@ -10,28 +10,23 @@ use borrow.Author.Tests.{ltb-true}
 use Rattle.plain.specs.declared.TraversalDirection.{TraversalDirection}
 use Rattle.plain.specs.declared.TraversalDirection.the-variants.{Outgoing, Incoming}
 use Rattle.plain.specs.declared.Counts.{Counts}
-use Rattle.plain.specs.Numbers.{LIMIT}
 use Rattle.plain.specs.Lists.{joined, from}
-use Rattle.plain.specs.Plain.{low-of, high-of, no-node, no-edge, node-flags, edge-flags, end-of}
 use Rattle.plain.specs.Reads.{live-count, live-slots}
-use Rattle.plain.specs.Compaction.{Survivors, rank, survivors, surviving-edge, source-of, target-of}
-use Rattle.plain.specs.WellFormed.{Fitted, Sound}
+use Rattle.plain.specs.Compaction.{Survivors, rank, survivors, source-of, target-of}
+use Rattle.plain.specs.WellFormed.{Fitted}
 use Rattle.plain.specs.Laws.ListLaws.{map-same, map-getD, member-below}
-use Rattle.plain.specs.Laws.Rank.{live-below, live-slot-live, length-live-slots, member-live-slots}
-use Rattle.plain.specs.Laws.Compacting.{survivors-sound, length-surviving-nodes, length-surviving-edges}
-use Rattle.plain.specs.Laws.ImageBits.{record-low, record-high}
+use Rattle.plain.specs.Laws.Rank.{length-live-slots}
 use Rattle.liveness.specs.Flags.{live-flags}
 use Rattle.liveness.specs.Calls.{Reset}
-use Rattle.liveness.specs.FlagLaws.{length-flags}
 use Rattle.shape.specs.Columns.{Sized, end-at}
-use Rattle.shape.specs.Shape.{Words, capacities, node-live, edge-live, axis-words, shape-of, plain-of, lists, node-capacity, edge-capacity}
+use Rattle.shape.specs.Shape.{Words, node-live, edge-live, axis-words, lists, node-capacity, edge-capacity}
 use Rattle.shape.specs.Kept.{AxisRenewed, Renewed, same-nodes, same-edges, same-highs, same-live-nodes, same-live-edges, same-axis}
 use Rattle.shape.specs.Index.{Rewritten, ends-of}
 use Rattle.shape.specs.Laws.NewBase.{NewBase}
-use Rattle.shape.specs.Laws.Reading.{plain-node-flags, plain-edge-flags, plain-end, node-at, edge-at}
-use Rattle.relocate.specs.Stores.{checked-end}
 use Rattle.compact.specs.Holding.{based, front, Holding, reset-same, reset-word, sized-as}
 use Rattle.compact.specs.Slots.{kept-word, rewritten-through}
+use Rattle.compact.specs.Left.{live-words-of, end-in, left-sound, left-nodes, left-edges, nodes-left, lows-left, highs-left, ends-left}
+use Rattle.plain.specs.Laws.Joining.{raised-none}
 use Rattle.compact.specs.Bases.{Compactable, AxisCompacted, rebuildable, rebuilt-base, rebuilt-renewed}
 use Rattle.compact.specs.Dropping.{node-count, edge-count, Droppable, Dropped, axis-compactable, first-half, drop-room}
 
@@ -45,16 +40,11 @@ slots-mapped f g flags each =
     ∙ ap (map g) (ap (λ (n : ℕ). map (λ i. getD (live-slots flags) i 0) (from 0 n)) (sym (length-live-slots flags)) ∙ map-getD (live-slots flags) 0)
 
 -- payloads that moved down
-kept-payloads : {words words' : List ℕ} (flags : List Bool) (payload : ℕ → ℕ) (n : ℕ) → Rewritten words words' 0 (live-count flags) (kept-word words flags)
-    → n ≡ live-count flags → ((x : ℕ) → getD flags x false ≡ true → getD words x 0 ≡ payload x) → front words' n ≡ map payload (live-slots flags)
-kept-payloads {words} {words'} flags payload n r is each =
+kept-front : {words words' : List ℕ} (flags : List Bool) (n : ℕ) → Rewritten words words' 0 (live-count flags) (kept-word words flags) → n ≡ live-count flags
+    → front words' n ≡ live-words-of words flags
+kept-front {words} {words'} flags n r is =
     ap (front words') is
-    ∙ slots-mapped (λ x. getD words' x 0) payload flags
-    (λ i h. ap (λ (z : ℕ). getD words' z 0) (sym (zero-add i)) ∙ r .within i h ∙ each (getD (live-slots flags) i 0) (live-slot-live flags i 0 h))
-
--- a live slot is below its bound
-slot-low : (live : List ℕ) (bound x : ℕ) → getD (live-flags live bound) x false ≡ true → x < bound
-slot-low live bound x l = let low = live-below (live-flags live bound) x l in omega (arith, length-flags live bound)
+    ∙ slots-mapped (λ x. getD words' x 0) (λ x. getD words x 0) flags (λ i h. ap (λ (z : ℕ). getD words' z 0) (sym (zero-add i)) ∙ r .within i h)
 
 -- ---- one direction
 
@@ -91,42 +81,10 @@ module _ {w : Words} {node-map work : List ℕ} {v : Words} (pre : Droppable w n
   abbrev left : Survivors
   left = survivors (lists w)
 
-  few-nodes : node-capacity w ≤ LIMIT
-  few-nodes = pre .checked .axis Outgoing .sized .nodes-within
-
-  few-edges : edge-capacity w ≤ LIMIT
-  few-edges = pre .checked .axis Outgoing .sized .edges-within
-
-  pub left-sound : Sound left
-  left-sound = survivors-sound (capacities w) (lists w) (pre .checked .walks) few-nodes few-edges
-
-  pub left-nodes : length (left .nodes) ≡ w .counts .nodes .live
-  left-nodes = length-surviving-nodes (lists w) ∙ ap live-count (plain-node-flags w) ∙ sym (pre .checked .nodes .live .live-right)
-
-  pub left-edges : length (left .edges) ≡ w .counts .edges .live
-  left-edges = length-surviving-edges (lists w) ∙ ap live-count (plain-edge-flags w) ∙ sym (pre .checked .edges .live .live-right)
-
-  -- the new number of a live edge's end
-  new-end : (d : TraversalDirection) (e : ℕ) → getD (edge-live w) e false ≡ true
-      → getD node-map (end-at (axis-words d w) e) 0 ≡ rank (node-flags (lists w)) (end-of d (lists w) e)
-  new-end d e l =
-      pre .mapped (end-at (axis-words d w) e) (checked-end (pre .checked) d e l)
-      ∙ ap₂ rank (sym (plain-node-flags w)) (sym (plain-end w d e (slot-low (w .live-edges) (w .counts .edges .bound) e l)))
-
-  ends-left : (d : TraversalDirection) → map (λ e. getD node-map (end-at (axis-words d w) e) 0) (live-slots (edge-live w))
-      ≡ map (λ e. rank (node-flags (lists w)) (end-of d (lists w) e)) (live-slots (edge-flags (lists w)))
-  ends-left d =
-      map-same (λ e. getD node-map (end-at (axis-words d w) e) 0) (λ e. rank (node-flags (lists w)) (end-of d (lists w) e)) (live-slots (edge-live w))
-      (λ e m. new-end d e (sym (member-live-slots (edge-live w) e) ∙ m))
-      ∙ ap (λ (f : List Bool). map (λ e. rank (node-flags (lists w)) (end-of d (lists w) e)) (live-slots f)) (sym (plain-edge-flags w))
-
-  sources-left : map (λ e. getD node-map (end-at (w .outgoing) e) 0) (live-slots (edge-live w)) ≡ map source-of (left .edges)
-  unfolding survivors
-  sources-left = ends-left Outgoing ∙ sym (map-map source-of (surviving-edge (lists w)) (live-slots (edge-flags (lists w))))
-
-  targets-left : map (λ e. getD node-map (end-at (w .incoming) e) 0) (live-slots (edge-live w)) ≡ map target-of (left .edges)
-  unfolding survivors
-  targets-left = ends-left Incoming ∙ sym (map-map target-of (surviving-edge (lists w)) (live-slots (edge-flags (lists w))))
+  -- the new ends of the live edges
+  ends-renumbered : (d : TraversalDirection) → map (λ e. getD node-map (end-at (axis-words d w) e) 0) (live-slots (edge-live w)) ≡ map (end-in d) (left .edges)
+  ends-renumbered d =
+      ends-left (pre .checked) 0 node-map (λ x l. pre .mapped x l ∙ sym (zero-add (rank (node-live w) x))) d ∙ raised-none (map (end-in d) (left .edges))
 
   -- the counts
   pub nodes-bound : v .counts .nodes .bound ≡ w .counts .nodes .live
@@ -147,42 +105,33 @@ module _ {w : Words} {node-map work : List ℕ} {v : Words} (pre : Droppable w n
     out-base : NewBase (v .outgoing) (edge-capacity w) (node-capacity w) (v .counts) (map source-of (left .edges)) (left .outs)
     out-base =
         new-base-of (axis-compactable pre Outgoing work (first-half pre)) (r .outgoing) (v .counts) (left .outs) nodes-bound nodes-base edges-bound edges-base outs
-        (map source-of (left .edges)) sources-left (subst (λ (k : ℕ). Fitted k (map source-of (left .edges)) (left .outs)) left-nodes (left-sound .outs))
+        (map source-of (left .edges)) (ends-renumbered Outgoing) (subst (λ (k : ℕ). Fitted k (map source-of (left .edges)) (left .outs)) (left-nodes (pre .checked)) (left-sound (pre .checked) .outs))
 
     in-base-of : NewBase (v .incoming) (edge-capacity w) (node-capacity w) (v .counts) (map target-of (left .edges)) (left .ins)
     in-base-of =
         new-base-of (axis-compactable pre Incoming (drop (w .counts .edges .live) work) (drop-room pre)) (r .incoming) (v .counts) (left .ins) nodes-bound nodes-base
-        edges-bound edges-base ins (map target-of (left .edges)) targets-left
-        (subst (λ (k : ℕ). Fitted k (map target-of (left .edges)) (left .ins)) left-nodes (left-sound .ins))
+        edges-bound edges-base ins (map target-of (left .edges)) (ends-renumbered Incoming)
+        (subst (λ (k : ℕ). Fitted k (map target-of (left .edges)) (left .ins)) (left-nodes (pre .checked)) (left-sound (pre .checked) .ins))
 
     -- the store holds the survivors
     pub dropped-holding : Holding v left
-    unfolding plain-of survivors
     dropped-holding =
         let same = r .lengths in
         let k = pre .checked in
         record {
-          sound = left-sound;
-          counts = r .counts ∙ ap₂ {C = Counts} (λ (n m : ℕ). record { nodes = based n; edges = based m }) (sym left-nodes) (sym left-edges);
-          nodes-fit = let low = node-count pre in omega (arith, left-nodes, same-nodes same, k .nodes .bounded .bound-within);
-          edges-fit = let low = edge-count pre in omega (arith, left-edges, same-edges same, k .edges .bounded .bound-within);
+          sound = left-sound k;
+          counts = r .counts ∙ ap₂ {C = Counts} (λ (n m : ℕ). record { nodes = based n; edges = based m }) (sym (left-nodes k)) (sym (left-edges k));
+          nodes-fit = let low = node-count pre in omega (arith, left-nodes k, same-nodes same, k .nodes .bounded .bound-within);
+          edges-fit = let low = edge-count pre in omega (arith, left-edges k, same-edges same, k .edges .bounded .bound-within);
           live-nodes-long = rw (same-nodes same, same-live-nodes same) (k .nodes .live-long);
           live-edges-long = rw (same-edges same, same-live-edges same) (k .edges .live-long);
           sized = sized-left;
-          nodes = kept-payloads (node-live w) (λ x. getD (shape-of w .nodes) x no-node .payload) (length (left .nodes)) (r .nodes) (left-nodes ∙ k .nodes .live .live-right)
-              (λ x l. sym (node-at w x (slot-low (w .live-nodes) (w .counts .nodes .bound) x l)))
-              ∙ ap (λ (f : List Bool). map (λ x. getD (shape-of w .nodes) x no-node .payload) (live-slots f)) (sym (plain-node-flags w));
+          nodes = kept-front (node-live w) (length (left .nodes)) (r .nodes) (left-nodes k ∙ k .nodes .live .live-right) ∙ nodes-left k;
           highs-long = rw (same-edges same, same-highs same) (k .highs-long);
-          lows = kept-payloads (edge-live w) (λ e. getD (shape-of w .edges) e no-edge .payload .low) (length (left .edges)) (r .weights .lows-kept)
-              (left-edges ∙ k .edges .live .live-right) (λ e l. ap low-of (sym (edge-at w e (slot-low (w .live-edges) (w .counts .edges .bound) e l))))
-              ∙ ap (λ (f : List Bool). map (λ e. getD (shape-of w .edges) e no-edge .payload .low) (live-slots f)) (sym (plain-edge-flags w))
-              ∙ sym (map-map record-low (surviving-edge (lists w)) (live-slots (edge-flags (lists w))));
-          highs = kept-payloads (edge-live w) (λ e. getD (shape-of w .edges) e no-edge .payload .high) (length (left .edges)) (r .weights .highs-kept)
-              (left-edges ∙ k .edges .live .live-right) (λ e l. ap high-of (sym (edge-at w e (slot-low (w .live-edges) (w .counts .edges .bound) e l))))
-              ∙ ap (λ (f : List Bool). map (λ e. getD (shape-of w .edges) e no-edge .payload .high) (live-slots f)) (sym (plain-edge-flags w))
-              ∙ sym (map-map record-high (surviving-edge (lists w)) (live-slots (edge-flags (lists w))));
-          live-nodes = subst (λ (n : ℕ). Reset (v .live-nodes) n (v .live-nodes)) (sym left-nodes) (reset-same (r .live-nodes));
-          live-edges = subst (λ (n : ℕ). Reset (v .live-edges) n (v .live-edges)) (sym left-edges) (reset-same (r .live-edges));
+          lows = kept-front (edge-live w) (length (left .edges)) (r .weights .lows-kept) (left-edges k ∙ k .edges .live .live-right) ∙ lows-left k;
+          highs = kept-front (edge-live w) (length (left .edges)) (r .weights .highs-kept) (left-edges k ∙ k .edges .live .live-right) ∙ highs-left k;
+          live-nodes = subst (λ (n : ℕ). Reset (v .live-nodes) n (v .live-nodes)) (sym (left-nodes k)) (reset-same (r .live-nodes));
+          live-edges = subst (λ (n : ℕ). Reset (v .live-edges) n (v .live-edges)) (sym (left-edges k)) (reset-same (r .live-edges));
           outgoing = subst₂ (λ (ce cn : ℕ). NewBase (v .outgoing) ce cn (v .counts) (map source-of (left .edges)) (left .outs)) (sym (same-edges same)) (sym (same-nodes same)) out-base;
           incoming = subst₂ (λ (ce cn : ℕ). NewBase (v .incoming) ce cn (v .counts) (map target-of (left .edges)) (left .ins)) (sym (same-edges same)) (sym (same-nodes same)) in-base-of;
         }

@@ -1,6 +1,7 @@
 pub mod Survivors
 pub mod Holding
 pub mod Slots
+pub mod Left
 pub mod Turns
 pub mod Lists
 pub mod ListsStore

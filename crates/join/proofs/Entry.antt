@@ -23,7 +23,7 @@ use Rattle.validate.specs.Judging.{Judged}
 use Rattle.shape.specs.Steps.{state-of}
 use Rattle.compact.specs.Holding.{Holding, holding-shape, holding-state, holding-checked, holding-canonical, canonical-leaves}
 use Rattle.join.specs.Answers.{sizes-of, first-sound, second-sound, join-done, accepted}
-use Rattle.join.specs.Calls.{Lent, joining-of, JoinOf}
+use Rattle.join.specs.Calls.{LentMaps, joining-of, JoinOf}
 use Rattle.join.specs.Settling.{Settleable, Settled, settled-holding, settled-renewed}
 
 -- the sizes of a checked book are those of its plain lists
@@ -41,7 +41,7 @@ sizes-same {w} k =
     let d = sym (edges-left k) in
     λ i. record { node-bound = a i; edge-bound = b i; nodes = c i; edges = d i }
 
-abbrev rooms : Lent → MapRooms
+abbrev rooms : LentMaps → MapRooms
 rooms maps = record {
   first-nodes = length (maps .first-nodes);
   first-edges = length (maps .first-edges);
@@ -54,7 +54,7 @@ joined-holds : {v : Words} (p q : Plain) → Holding v (joined-survivors (surviv
 unfolding joined-plain
 joined-holds p q h = holding-state h
 
-module _ (first second w : Words) (maps : Lent) {rule-first rule-second : ℕ} (a : Judged first rule-first) (b : Judged second rule-second) (told : Answer)
+module _ (first second w : Words) (maps : LentMaps) {rule-first rule-second : ℕ} (a : Judged first rule-first) (b : Judged second rule-second) (told : Answer)
     (is : told ≡ judged rule-first (judged rule-second (join-answer (lengths-of w) (sizes-of (first .counts)) (sizes-of (second .counts)) (rooms maps)))) where
   -- by the counts, and by the lists
   abbrev by-counts : Answer
@@ -140,7 +140,7 @@ module _ (first second w : Words) (maps : Lent) {rule-first rule-second : ℕ} (
         ap (λ (t : Bool). cond t (join-maps (lists first) (lists second)) no-maps)
         (eq-eqb (joining-of first second w maps .answer .number) 0 (ap (λ (a : Answer). a .number) (sym answer-told) ∙ done))
 
-    pub joined : {v : Words} {maps' : Lent} → Settled first second w maps v maps' → JoinOf first second w maps (told .number) (told .value) v maps'
+    pub joined : {v : Words} {maps' : LentMaps} → Settled first second w maps v maps' → JoinOf first second w maps (told .number) (told .value) v maps'
     unfolding join-maps
     joined {v} {maps'} r =
         let holding = settled-holding settleable r in

@@ -9,10 +9,10 @@ use Rattle.shape.specs.Shape.{Words}
 use Rattle.shape.specs.Fields.{SameFields}
 use Rattle.shape.specs.Laws.Agreeing.{kept-both}
 use Rattle.compact.specs.Agreeing.{canonical-fields}
-use Rattle.join.specs.Calls.{Lent, JoinOf}
+use Rattle.join.specs.Calls.{LentMaps, JoinOf}
 
 -- A refused join leaves every word; of one that is done the shape is fixed, and the store is canonical. The slices lent for the maps are those of one call.
-pub join-outcomes-agree : {first second w v u : Words} {maps maps' maps'' : Lent} {number value number' value' : ℕ} → JoinOf first second w maps number value v maps'
+pub join-outcomes-agree : {first second w v u : Words} {maps maps' maps'' : LentMaps} {number value number' value' : ℕ} → JoinOf first second w maps number value v maps'
     → JoinOf first second w maps number' value' u maps'' → SameFields v u
 join-outcomes-agree {number = number} {number' = number'} a b =
     let same : number' ≡ number = ap (λ (r : Answer). r .number) (b .answered ∙ sym (a .answered)) in

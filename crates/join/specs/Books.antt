@@ -1,6 +1,6 @@
--- What a checked book hands over: its survivors' payloads, and in each direction their ends and lists, by the numbers that the maps give.
+-- What a checked book hands over: its live slots can be read, and in each direction the ends and lists by its maps are those of its survivors, raised.
 use Prim.Native.Nat.{ℕ, _+_, _*_, _≤_, _<_}
-use mathlib.Core.Path.{_≡_, refl, sym, ap, ap₂, _∙_}
+use mathlib.Core.Path.{_≡_, refl, sym, ap, _∙_}
 use mathlib.Core.Bool.{Bool, true, false}
 use mathlib.Core.List.{List, map, map-map}
 use native.Mathlib.Omega.{arith}
@@ -9,63 +9,34 @@ use Rattle.plain.specs.declared.TraversalDirection.{TraversalDirection}
 use Rattle.plain.specs.declared.TraversalDirection.the-variants.{Outgoing, Incoming}
 use Rattle.plain.specs.Numbers.{LIMIT}
 use Rattle.plain.specs.Lists.{joined}
-use Rattle.plain.specs.Plain.{low-of, high-of, no-node, no-edge, node-flags, edge-flags, end-of}
+use Rattle.plain.specs.Plain.{node-flags}
 use Rattle.plain.specs.Reads.{live-count, live-slots}
-use Rattle.plain.specs.Compaction.{EdgeRecord, Survivors, rank, survivors, surviving-edge, surviving-list, source-of, target-of}
+use Rattle.plain.specs.Compaction.{Survivors, rank, survivors, surviving-list}
 use Rattle.plain.specs.Joining.{raised}
-use Rattle.plain.specs.WellFormed.{Sound}
 use Rattle.plain.specs.Laws.ListLaws.{map-same, count-length}
-use Rattle.plain.specs.Laws.Rank.{live-below, member-live-slots}
-use Rattle.plain.specs.Laws.Compacting.{survivors-sound, length-surviving-nodes, length-surviving-edges}
-use Rattle.plain.specs.Laws.ImageBits.{record-low, record-high}
 use Rattle.liveness.specs.Flags.{live-flags}
 use Rattle.liveness.specs.FlagLaws.{length-flags}
 use Rattle.shape.specs.Columns.{end-at}
-use Rattle.shape.specs.Shape.{Words, capacities, node-live, edge-live, axis-words, shape-of, plain-of, lists, node-capacity, edge-capacity}
+use Rattle.shape.specs.Shape.{Words, node-live, edge-live, axis-words, lists, node-capacity, edge-capacity}
 use Rattle.shape.specs.Checked.{Checked}
-use Rattle.shape.specs.Laws.Reading.{plain-node-flags, plain-edge-flags, plain-end, node-at, edge-at}
+use Rattle.shape.specs.Laws.Reading.{plain-node-flags}
 use Rattle.adjacency.specs.StoreWalks.{checked-walkable}
-use Rattle.relocate.specs.Stores.{checked-end}
 use Rattle.compact.specs.ListsStore.{lists-renumbered, lists-live, lists-total}
 use Rattle.compact.specs.Lists.{live-walks}
-use Rattle.join.specs.Slots.{live-words-of, LiveReadable}
+use Rattle.compact.specs.Left.{slot-low, end-in, ends-left}
+use Rattle.join.specs.Slots.{LiveReadable}
 use Rattle.join.specs.Sides.{Side, side, side-ends, side-entries, EndsReadable, EntriesReadable}
-
--- a live slot is below its bound
-slot-low : (live : List ℕ) (bound x : ℕ) → getD (live-flags live bound) x false ≡ true → x < bound
-slot-low live bound x l = let low = live-below (live-flags live bound) x l in omega (arith, length-flags live bound)
 
 -- no more slots are live than there are
 few-live : (live : List ℕ) (bound : ℕ) → live-count (live-flags live bound) ≤ bound
 few-live live bound = omega (arith, count-length (λ f. f) (live-flags live bound), length-flags live bound)
 
--- functions that agree on the live slots
-live-same : {A : Type 0} (f g : ℕ → A) (flags : List Bool) → ((x : ℕ) → getD flags x false ≡ true → f x ≡ g x) → map f (live-slots flags) ≡ map g (live-slots flags)
-live-same f g flags each = map-same f g (live-slots flags) (λ x m. each x (sym (member-live-slots flags x) ∙ m))
-
--- the end of a record in a direction, and the lists of survivors
-abbrev pub end-in : TraversalDirection → EdgeRecord → ℕ
-end-in Outgoing = source-of
-end-in Incoming = target-of
-
+-- the lists of survivors in a direction
 abbrev pub lists-in : TraversalDirection → Survivors → List (List ℕ)
 lists-in Outgoing s = s .outs
 lists-in Incoming s = s .ins
 
 module _ {w : Words} (k : Checked w) where
-  -- what is left of the book
-  abbrev pub left : Survivors
-  left = survivors (lists w)
-
-  pub left-sound : Sound left
-  left-sound = survivors-sound (capacities w) (lists w) (k .walks) (k .axis Outgoing .sized .nodes-within) (k .axis Outgoing .sized .edges-within)
-
-  pub left-nodes : length (left .nodes) ≡ w .counts .nodes .live
-  left-nodes = length-surviving-nodes (lists w) ∙ ap live-count (plain-node-flags w) ∙ sym (k .nodes .live .live-right)
-
-  pub left-edges : length (left .edges) ≡ w .counts .edges .live
-  left-edges = length-surviving-edges (lists w) ∙ ap live-count (plain-edge-flags w) ∙ sym (k .edges .live .live-right)
-
   -- within the limit
   pub nodes-few : w .counts .nodes .bound ≤ LIMIT
   nodes-few = omega (arith, k .nodes .bounded .bound-within, k .axis Outgoing .sized .nodes-within)
@@ -96,29 +67,6 @@ module _ {w : Words} (k : Checked w) where
   pub highs-readable : LiveReadable (w .highs) (w .live-edges) (w .counts .edges .bound)
   highs-readable = record { there = edges-there; room = omega (arith, k .highs-long, k .edges .bounded .bound-within) }
 
-  pub book-nodes : live-words-of (w .nodes) (node-live w) ≡ left .nodes
-  unfolding plain-of survivors
-  book-nodes =
-      live-same (λ x. getD (w .nodes) x 0) (λ x. getD (shape-of w .nodes) x no-node .payload) (node-live w)
-      (λ x l. sym (node-at w x (slot-low (w .live-nodes) (w .counts .nodes .bound) x l)))
-      ∙ ap (λ (f : List Bool). map (λ x. getD (shape-of w .nodes) x no-node .payload) (live-slots f)) (sym (plain-node-flags w))
-
-  pub book-lows : live-words-of (w .lows) (edge-live w) ≡ map record-low (left .edges)
-  unfolding plain-of survivors
-  book-lows =
-      live-same (λ e. getD (w .lows) e 0) (λ e. getD (shape-of w .edges) e no-edge .payload .low) (edge-live w)
-      (λ e l. ap low-of (sym (edge-at w e (slot-low (w .live-edges) (w .counts .edges .bound) e l))))
-      ∙ ap (λ (f : List Bool). map (λ e. getD (shape-of w .edges) e no-edge .payload .low) (live-slots f)) (sym (plain-edge-flags w))
-      ∙ sym (map-map record-low (surviving-edge (lists w)) (live-slots (edge-flags (lists w))))
-
-  pub book-highs : live-words-of (w .highs) (edge-live w) ≡ map record-high (left .edges)
-  unfolding plain-of survivors
-  book-highs =
-      live-same (λ e. getD (w .highs) e 0) (λ e. getD (shape-of w .edges) e no-edge .payload .high) (edge-live w)
-      (λ e l. ap high-of (sym (edge-at w e (slot-low (w .live-edges) (w .counts .edges .bound) e l))))
-      ∙ ap (λ (f : List Bool). map (λ e. getD (shape-of w .edges) e no-edge .payload .high) (live-slots f)) (sym (plain-edge-flags w))
-      ∙ sym (map-map record-high (surviving-edge (lists w)) (live-slots (edge-flags (lists w))))
-
 -- ---- one direction
 
 -- The maps of a book: at each live slot its rank, counted from `nodes-from` and `edges-from` on.
@@ -131,13 +79,6 @@ pub record Mapped (w : Words) (nodes-from edges-from : ℕ) (node-map edge-map :
 -- a book in one direction, with its maps
 abbrev pub side-of : TraversalDirection → Words → List ℕ → List ℕ → Side
 side-of d w node-map edge-map = side (w .counts) (edge-capacity w) (node-capacity w) (axis-words d w) (w .live-nodes) (w .live-edges) node-map edge-map
-
--- the ends of the survivors are the new ends of the live edges
-ends-survive : (w : Words) (d : TraversalDirection)
-    → map (λ e. rank (node-flags (lists w)) (end-of d (lists w) e)) (live-slots (edge-flags (lists w))) ≡ map (end-in d) (survivors (lists w) .edges)
-unfolding survivors
-ends-survive w Outgoing = sym (map-map source-of (surviving-edge (lists w)) (live-slots (edge-flags (lists w))))
-ends-survive w Incoming = sym (map-map target-of (surviving-edge (lists w)) (live-slots (edge-flags (lists w))))
 
 lists-survive : (w : Words) (d : TraversalDirection) → joined (map (surviving-list d (lists w)) (live-slots (node-flags (lists w)))) ≡ joined (lists-in d (survivors (lists w)))
 unfolding survivors
@@ -165,15 +106,7 @@ module _ {w : Words} (k : Checked w) {a b : ℕ} {node-map edge-map : List ℕ} 
 
   -- the ends by the new numbers
   pub book-ends : side-ends (side-of d w node-map edge-map) ≡ raised a (map (end-in d) (survivors (lists w) .edges))
-  book-ends =
-      let flags = edge-live w in
-      map-map (λ x. getD node-map x 0) (λ e. getD (axis-words d w) e 0) (live-slots flags)
-      ∙ live-same (λ e. getD node-map (getD (axis-words d w) e 0) 0) (λ e. a + rank (node-flags (lists w)) (end-of d (lists w) e)) flags
-      (λ e l. m .nodes (end-at (axis-words d w) e) (checked-end k d e l)
-      ∙ ap₂ (λ (f : List Bool) (x : ℕ). a + rank f x) (sym (plain-node-flags w)) (sym (plain-end w d e (slot-low (w .live-edges) (w .counts .edges .bound) e l))))
-      ∙ ap (λ (f : List Bool). map (λ e. a + rank (node-flags (lists w)) (end-of d (lists w) e)) (live-slots f)) (sym (plain-edge-flags w))
-      ∙ sym (map-map (λ x. a + x) (λ e. rank (node-flags (lists w)) (end-of d (lists w) e)) (live-slots (edge-flags (lists w))))
-      ∙ ap (raised a) (ends-survive w d)
+  book-ends = map-map (λ x. getD node-map x 0) (λ e. getD (axis-words d w) e 0) (live-slots (edge-live w)) ∙ ends-left k a node-map (m .nodes) d
 
   -- the lists by the new numbers
   pub book-entries : side-entries (side-of d w node-map edge-map) ≡ raised b (joined (lists-in d (survivors (lists w))))

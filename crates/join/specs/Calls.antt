@@ -23,18 +23,18 @@ abbrev pub no-counts : Counts
 no-counts = record { nodes = based 0; edges = based 0 }
 
 -- The slices lent for the maps: nodes and edges of the first book, then of the second.
-pub record Lent : Type 0 where
+pub record LentMaps : Type 0 where
   pub first-nodes : List ℕ
   pub first-edges : List ℕ
   pub second-nodes : List ℕ
   pub second-edges : List ℕ
 
-abbrev pub lent-maps : List ℕ → List ℕ → List ℕ → List ℕ → Lent
+abbrev pub lent-maps : List ℕ → List ℕ → List ℕ → List ℕ → LentMaps
 lent-maps first-nodes first-edges second-nodes second-edges =
     record { first-nodes = first-nodes; first-edges = first-edges; second-nodes = second-nodes; second-edges = second-edges }
 
 -- what document 02 says of joining two books into a memory, number 1 included
-abbrev pub joining-of : Words → Words → Words → Lent → Joining
+abbrev pub joining-of : Words → Words → Words → LentMaps → Joining
 joining-of first second w maps =
     join (broken first) (broken second) (lengths-of w) (lists first) (lists second)
     (record {
@@ -45,7 +45,7 @@ joining-of first second w maps =
     })
 
 -- Joining two books: w is what was in the third memory, with no counts, v is what is there then.
-pub record JoinOf (first second w : Words) (maps : Lent) (number value : ℕ) (v : Words) (maps' : Lent) : Type 0 where
+pub record JoinOf (first second w : Words) (maps : LentMaps) (number value : ℕ) (v : Words) (maps' : LentMaps) : Type 0 where
   pub answered : _≡_ {A = Answer} (record { number = number; value = value }) (joining-of first second w maps .answer)
   -- a refusal writes nothing, and words past the answers keep their content
   pub first-nodes-mapped : maps' .first-nodes ≡ written (joining-of first second w maps .maps .first-nodes) (maps .first-nodes)

@@ -9,9 +9,9 @@ use Rattle.plain.specs.Compaction.{survivors, kept-node}
 use Rattle.plain.specs.Joining.{joined-survivors}
 use Rattle.shape.specs.Shape.{Words, Shape, shape-of, lists}
 use Rattle.compact.specs.Survivors.{shape-of-survivors}
-use Rattle.join.specs.Calls.{Lent, JoinOf}
+use Rattle.join.specs.Calls.{LentMaps, JoinOf}
 
-module _ {first second w : Words} {maps : Lent} {value : ℕ} {v : Words} {maps' : Lent} (does : JoinOf first second w maps 0 value v maps') where
+module _ {first second w : Words} {maps : LentMaps} {value : ℕ} {v : Words} {maps' : LentMaps} (does : JoinOf first second w maps 0 value v maps') where
   -- the second book has a live lot, and what is left is the first's
   pub join-takes-the-second : 0 < length (survivors (lists second) .nodes) → shape-of v ≡ shape-of-survivors (survivors (lists first)) → ⊥
   unfolding shape-of-survivors joined-survivors

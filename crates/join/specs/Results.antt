@@ -26,14 +26,14 @@ use Rattle.shape.specs.Rules.{broken}
 use Rattle.compact.specs.Survivors.{shape-of-survivors}
 use Rattle.compact.specs.Calls.{CompactOf}
 use Rattle.join.specs.Answers.{Accepted, accepted, join-done}
-use Rattle.join.specs.Books.{left-sound}
-use Rattle.join.specs.Calls.{Lent, joining-of, JoinOf}
+use Rattle.compact.specs.Left.{left-sound}
+use Rattle.join.specs.Calls.{LentMaps, joining-of, JoinOf}
 
 -- the survivors of a store
 abbrev left-of : Words → Survivors
 left-of w = survivors (lists w)
 
-module _ {first second w : Words} {maps : Lent} {value : ℕ} {v : Words} {maps' : Lent} (a : Checked first) (b : Checked second)
+module _ {first second w : Words} {maps : LentMaps} {value : ℕ} {v : Words} {maps' : LentMaps} (a : Checked first) (b : Checked second)
     (r : JoinOf first second w maps 0 value v maps') where
   -- none of the refusals holds
   rooms : MapRooms
@@ -131,7 +131,7 @@ module _ {first second w : Words} {maps : Lent} {value : ℕ} {v : Words} {maps'
 -- ---- two joins
 
 -- books with the same survivors have joins with the same image, whatever their slots, links and memories are
-pub joins-alike : {first second w v first' second' w' v' : Words} {maps maps' lent lent' : Lent} {value value' : ℕ} → Checked first → Checked second → Checked first'
+pub joins-alike : {first second w v first' second' w' v' : Words} {maps maps' lent lent' : LentMaps} {value value' : ℕ} → Checked first → Checked second → Checked first'
     → Checked second' → JoinOf first second w maps 0 value v maps' → JoinOf first' second' w' lent 0 value' v' lent' → left-of first ≡ left-of first'
     → left-of second ≡ left-of second' → (shape-of v ≡ shape-of v') × (image (survivors (lists v)) ≡ image (survivors (lists v')))
 joins-alike a b c d r s one two =
@@ -140,7 +140,7 @@ joins-alike a b c d r s one two =
 
 -- joining is associative: the first two books and then the third, or the first and the last two joined
 module _ {one two three : Words} (a : Checked one) (b : Checked two) (c : Checked three)
-    {w-front w-left w-back w-right front left back right : Words} {m-front n-front m-left n-left m-back n-back m-right n-right : Lent}
+    {w-front w-left w-back w-right front left back right : Words} {m-front n-front m-left n-left m-back n-back m-right n-right : LentMaps}
     {x-front x-left x-back x-right : ℕ} (to-front : JoinOf one two w-front m-front 0 x-front front n-front) (to-left : JoinOf front three w-left m-left 0 x-left left n-left)
     (to-back : JoinOf two three w-back m-back 0 x-back back n-back) (to-right : JoinOf one back w-right m-right 0 x-right right n-right) where
   regrouped : joined-survivors (left-of front) (left-of three) ≡ joined-survivors (left-of one) (left-of back)

@@ -37,13 +37,14 @@ use Rattle.shape.specs.Laws.Indexing.{joined-append, map-from-same}
 use Rattle.compact.specs.Slots.{written-from, mapped-long}
 use Rattle.compact.specs.Bases.{Rebuildable, rebuilt-base, rebuilt-renewed}
 use Rattle.compact.specs.Holding.{based, front, Holding, reset-same, reset-word, sized-as}
-use Rattle.join.specs.Slots.{live-words-of, BothCopyable, MapsFit, MapsWritten}
+use Rattle.join.specs.Slots.{BothCopyable, MapsFit, MapsWritten}
 use Rattle.join.specs.Sides.{Side, side-ends, side-entries, AxisJoinable, AxisJoined, compressible, all-entries-long}
-use Rattle.join.specs.Books.{end-in, lists-in, left-sound, left-nodes, left-edges, nodes-few, edges-few, live-nodes-few, live-edges-few, nodes-there, edges-there, nodes-readable, lows-readable, highs-readable, book-nodes, book-lows, book-highs, Mapped, side-of, ends-readable, entries-readable, book-ends, book-entries}
-use Rattle.join.specs.Calls.{Lent}
+use Rattle.compact.specs.Left.{live-words-of, end-in, left-sound, left-nodes, left-edges, nodes-left, lows-left, highs-left}
+use Rattle.join.specs.Books.{lists-in, nodes-few, edges-few, live-nodes-few, live-edges-few, nodes-there, edges-there, nodes-readable, lows-readable, highs-readable, Mapped, side-of, ends-readable, entries-readable, book-ends, book-entries}
+use Rattle.join.specs.Calls.{LentMaps}
 
 -- Two checked books, memory as a store's has to be, the survivors of both within its capacities, and maps "as long as the bounds before".
-pub record Settleable (first second w : Words) (maps : Lent) : Type 0 where
+pub record Settleable (first second w : Words) (maps : LentMaps) : Type 0 where
   pub first-checked : Checked first
   pub second-checked : Checked second
   pub takes : Takes box (lengths-of w .capacities)
@@ -55,7 +56,7 @@ pub record Settleable (first second w : Words) (maps : Lent) : Type 0 where
   pub second-nodes : second .counts .nodes .bound ≤ length (maps .second-nodes)
   pub second-edges : second .counts .edges .bound ≤ length (maps .second-edges)
 
-pub record Settled (first second w : Words) (maps : Lent) (v : Words) (maps' : Lent) : Type 0 where
+pub record Settled (first second w : Words) (maps : LentMaps) (v : Words) (maps' : LentMaps) : Type 0 where
   pub lengths : SameLengths w v
   pub counts : v .counts
       ≡ record { nodes = based (first .counts .nodes .live + second .counts .nodes .live); edges = based (first .counts .edges .live + second .counts .edges .live) }
@@ -100,7 +101,7 @@ behind-written xs entry i h =
     ap (λ (k : ℕ). getD (written xs entry) k 0) (sym place) ∙ getD-append-add xs (drop (length xs) entry) (i - length xs) 0
     ∙ getD-drop (length xs) entry (i - length xs) 0 ∙ ap (λ (k : ℕ). getD entry k 0) place
 
-module _ {first second w : Words} {maps : Lent} (pre : Settleable first second w maps) where
+module _ {first second w : Words} {maps : LentMaps} (pre : Settleable first second w maps) where
   abbrev n : ℕ
   n = first .counts .nodes .live + second .counts .nodes .live
 
@@ -292,7 +293,7 @@ module _ {first second w : Words} {maps : Lent} (pre : Settleable first second w
 
 -- ---- the store afterwards
 
-module _ {first second w : Words} {maps : Lent} {v : Words} {maps' : Lent} (pre : Settleable first second w maps) (r : Settled first second w maps v maps') where
+module _ {first second w : Words} {maps : LentMaps} {v : Words} {maps' : LentMaps} (pre : Settleable first second w maps) (r : Settled first second w maps v maps') where
   abbrev left : Survivors
   left = joined-survivors (survivors (lists first)) (survivors (lists second))
 
@@ -305,18 +306,18 @@ module _ {first second w : Words} {maps : Lent} {v : Words} {maps' : Lent} (pre 
   -- payloads of both
   nodes-are : live-words-of (first .nodes) (node-live first) ++ live-words-of (second .nodes) (node-live second) ≡ left .nodes
   unfolding joined-survivors
-  nodes-are = ap₂ (λ (a b : List ℕ). a ++ b) (book-nodes (pre .first-checked)) (book-nodes (pre .second-checked))
+  nodes-are = ap₂ (λ (a b : List ℕ). a ++ b) (nodes-left (pre .first-checked)) (nodes-left (pre .second-checked))
 
   lows-are : live-words-of (first .lows) (edge-live first) ++ live-words-of (second .lows) (edge-live second) ≡ map record-low (left .edges)
   unfolding joined-survivors
   lows-are =
-      ap₂ (λ (a b : List ℕ). a ++ b) (book-lows (pre .first-checked)) (book-lows (pre .second-checked))
+      ap₂ (λ (a b : List ℕ). a ++ b) (lows-left (pre .first-checked)) (lows-left (pre .second-checked))
       ∙ sym (columns-of-both record-low (length (survivors (lists first) .nodes)) (survivors (lists first) .edges) (survivors (lists second) .edges) (λ r. refl))
 
   highs-are : live-words-of (first .highs) (edge-live first) ++ live-words-of (second .highs) (edge-live second) ≡ map record-high (left .edges)
   unfolding joined-survivors
   highs-are =
-      ap₂ (λ (a b : List ℕ). a ++ b) (book-highs (pre .first-checked)) (book-highs (pre .second-checked))
+      ap₂ (λ (a b : List ℕ). a ++ b) (highs-left (pre .first-checked)) (highs-left (pre .second-checked))
       ∙ sym (columns-of-both record-high (length (survivors (lists first) .nodes)) (survivors (lists first) .edges) (survivors (lists second) .edges) (λ r. refl))
 
   -- payloads that were written

@@ -15,11 +15,8 @@ use Rattle.plain.specs.Laws.Rank.{length-live-slots}
 use Rattle.liveness.specs.Flags.{live-flags}
 use Rattle.shape.specs.Index.{Rewritten}
 use Rattle.compact.specs.Slots.{kept-word, MapFits, rewritten-list}
+use Rattle.compact.specs.Left.{live-words-of}
 use Rattle.join.specs.Written.{rest, with-rest, room-behind, written-behind}
-
--- the words of the live slots, in slot order
-abbrev pub live-words-of : List ℕ → List Bool → List ℕ
-live-words-of words flags = map (λ x. getD words x 0) (live-slots flags)
 
 -- as many as are live
 pub length-live-words : (words : List ℕ) (flags : List Bool) → length (live-words-of words flags) ≡ live-count flags

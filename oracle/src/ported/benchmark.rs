@@ -515,12 +515,13 @@ fn part(slots: u32, rng: &mut Rng) -> LotBook {
 
 /// Two books joined, beside the compactions of both; all three calls make their checks.
 fn compare_joins(rng: &mut Rng) {
+    const TIMES: usize = 41;
     for slots in [SLOTS / 8, SLOTS / 4, SLOTS / 2] {
         let books = [(); 2].map(|()| part(slots, rng));
         let [one, two] = &books;
         let room = slots as usize;
         let mut times = [const { Vec::new() }; 2];
-        for _ in 0..REPEATS {
+        for _ in 0..TIMES {
             let mut third = LotBook::new(2 * room, 2 * room).expect("within the limit");
             let mut maps = [(); 4].map(|()| vec![0; room]);
             let [a, b, c, d] = &mut maps;

@@ -7,7 +7,7 @@ use super::damaged::{damage, written};
 use super::memory::Memory;
 use super::strips::{Lengths, any_memory, operations, others_fit};
 use super::words::Words;
-use super::{Port, kept, lent};
+use super::{Port, lent};
 use crate::calls::{self, Lots};
 use crate::checked::read;
 use crate::generate::{Generator, MEDIUM, MIXES, SHORT};
@@ -230,8 +230,13 @@ impl Found {
             unreachable!("a broken book is refused");
         };
         let (plain, maps) = joining::joined([first, second]);
-        let given: Vec<Vec<u32>> = slices.into_iter().map(kept).collect();
-        tally.same(Thing::BookJoin, place, &maps[..], &given)?;
+        // The maps at the start of their slices, and the words past them as they were.
+        let expected: Vec<Vec<u32>> = maps
+            .iter()
+            .zip(untouched)
+            .map(|(map, slice)| [map, &slice[map.len()..]].concat())
+            .collect();
+        tally.same(Thing::BookJoin, place, expected, slices)?;
         tally.same(Thing::BookJoin, place, spare(&words), spare(&memory))?;
         memory.counts = changed.counts;
         let mut book = LotBook::from_memory(memory);

@@ -4,7 +4,7 @@ use borrow.Author.Needs.{needs}
 use Rattle.plain.specs.declared.Slots.{Slots}
 use Rattle.plain.specs.declared.Counts.{Counts}
 use Rattle.shape.specs.Shape.{Words, store}
-use Rattle.join.specs.Calls.{no-counts, lent-maps, Lent}
+use Rattle.join.specs.Calls.{no-counts, lent-maps, LentMaps}
 use Rattle.join.proofs.Entry.{join-refused, settleable, joined}
 use Rattle.join.proofs.join.Statement.{statement}
 use Rattle.join.proofs.join.Tie as tie
@@ -25,7 +25,7 @@ third counts s =
     let a = s .args in
     store counts (a .nodes .now) (a .lows .now) (a .highs .now) (a .live-nodes .now) (a .live-edges .now) (a .outgoing .now) (a .incoming .now)
 
-abbrev maps : tie.Start → Lent
+abbrev maps : tie.Start → LentMaps
 maps s = let a = s .args in lent-maps (a .first-node-map .now) (a .first-edge-map .now) (a .second-node-map .now) (a .second-edge-map .now)
 
 -- the places on the way, each from the next one
