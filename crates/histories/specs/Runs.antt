@@ -81,7 +81,7 @@ first-state (ImageOf bytes) = read-state bytes
 first-state (StoreOf s) = s
 
 -- Store w is made so on the device: the entry answered 0, or it passes the check "in a memory that is never larger" than the device takes. A box takes every store that
--- passes the check (law `checked-within`).
+-- passes the check (law `made-on-a-box`).
 pub data Made (device : Device) (w : Words) : Origin → Type 0 where
   made-fresh : FreshOf device w 0 0 → Made device w FreshStore
   made-by-reading : {memory : Words} {bytes : List ℕ} {value : ℕ} → ReadOf device memory bytes 0 value w → Made device w (ImageOf bytes)

@@ -11,7 +11,7 @@ use Rattle.plain.specs.declared.Answer.{Answer}
 use Rattle.plain.specs.Lists.{written}
 use Rattle.plain.specs.Step.{Capacities, State}
 use Rattle.plain.specs.Memory.{exact}
-use Rattle.plain.specs.Devices.{Device, Takes, Proper}
+use Rattle.plain.specs.Devices.{Device, box, Takes, Proper}
 use Rattle.plain.specs.Calls.{Stripped, strip, judged-strip, Compacted, compaction, judged-compaction, read-image, read-state}
 use Rattle.plain.specs.History.{Call, Strip, Compaction, Reading, call, called-from, history-from}
 use Rattle.plain.specs.Laws.Histories.{Within, call-refused}
@@ -25,7 +25,7 @@ use Rattle.strip.specs.Fresh.{fresh-takes}
 use Rattle.strip.specs.Strip.{StripOf, stripped}
 use Rattle.compact.specs.Calls.{compacting-of, CompactOf}
 use Rattle.image.specs.Calls.{ReadOf}
-use Rattle.histories.specs.Runs.{Request, StripInto, CompactionInto, ReadingOf, call-of, Heard, Turn, Turned, stripped as by-strip, compacted as by-compaction, read as by-reading, Turns, no-turn, turn, Origin, first-state, Made, made-fresh, made-by-reading, made-elsewhere, Ran}
+use Rattle.histories.specs.Runs.{Request, StripInto, CompactionInto, ReadingOf, call-of, Heard, Turn, Turned, stripped as by-strip, compacted as by-compaction, read as by-reading, Turns, no-turn, turn, Origin, StoreOf, first-state, Made, made-fresh, made-by-reading, made-elsewhere, Ran}
 use Rattle.histories.specs.Follows.{told, CanAnswer, no-answer, one-answer, RefusalKeeps, no-refusal, one-kept, Follows}
 use Rattle.histories.specs.Laws.Calling.{roomy-read, checked-long, call-numbers}
 
@@ -34,6 +34,10 @@ use Rattle.histories.specs.Laws.Calling.{roomy-read, checked-long, call-
 -- its capacities are within the limit
 pub checked-within : {w : Words} → Checked w → Within (capacities w)
 checked-within k = record { nodes = k .axis Outgoing .sized .nodes-within; edges = k .axis Outgoing .sized .edges-within }
+
+-- so a run on a box may start from any
+pub made-on-a-box : {w : Words} → Checked w → Made box w (StoreOf (state-of (shape-of w)))
+made-on-a-box k = made-elsewhere k (checked-within k)
 
 -- a compaction of a checked store is that of the definition
 pub compacting-is : {w : Words} → Checked w → (node-map edge-map work : ℕ)
