@@ -909,10 +909,11 @@ fn clear_words(words: &[u32; 2048]) -> u64 {
     let mut n: u64 = 0;
     let mut i: usize = 0;
     while i < 2048 {
-        if words[i] == 0 {
+        let word = words[i];
+        i += 1;
+        if word == 0 {
             n += 1;
         }
-        i += 1;
     }
     n
 }
