@@ -4,6 +4,7 @@ use mathlib.Core.Path.{_≡_, sym, ap, subst, subst₂, _∙_}
 use mathlib.Core.Logic.{_↔_}
 use mathlib.Core.List.{List}
 use Rattle.plain.specs.Step.{State}
+use Rattle.plain.specs.Devices.{Device, Proper}
 use Rattle.plain.specs.Compaction.{survivors}
 use Rattle.plain.specs.Image.{image}
 use Rattle.plain.specs.Laws.ImageLaws.{image-injective}
@@ -27,20 +28,20 @@ direct-images {w₁} {w₂} k₁ k₂ a₁ a₂ d₁ d₂ =
     )
 
 -- What holds of two runs, each closed by an image writing alone: the same as of those closed by a compaction and an image writing (`Demand3`).
-pub record DirectImages (origin₁ origin₂ : Origin) (w₁ w₂ : Words) (requests₁ requests₂ : List Request) (turns₁ turns₂ : List Turn)
+pub record DirectImages (device₁ device₂ : Device) (origin₁ origin₂ : Origin) (w₁ w₂ : Words) (requests₁ requests₂ : List Request) (turns₁ turns₂ : List Turn)
     (a₁ : Writing (final w₁ turns₁)) (a₂ : Writing (final w₂ turns₂)) : Type 0 where
-  pub first : Images (history-of origin₁ w₁ requests₁ .lists) a₁
-  pub second : Images (history-of origin₂ w₂ requests₂ .lists) a₂
+  pub first : Images (history-of device₁ origin₁ w₁ requests₁ .lists) a₁
+  pub second : Images (history-of device₂ origin₂ w₂ requests₂ .lists) a₂
   pub images : a₁ .answer .number ≡ 0 → a₂ .answer .number ≡ 0
-      → (image-in a₁ ≡ image-in a₂) ↔ (survivors (history-of origin₁ w₁ requests₁ .lists) ≡ survivors (history-of origin₂ w₂ requests₂ .lists))
+      → (image-in a₁ ≡ image-in a₂) ↔ (survivors (history-of device₁ origin₁ w₁ requests₁ .lists) ≡ survivors (history-of device₂ origin₂ w₂ requests₂ .lists))
 
--- every two runs
-pub run-images : {origin₁ origin₂ : Origin} {w₁ w₂ : Words} {requests₁ requests₂ : List Request} {turns₁ turns₂ : List Turn}
-    → Ran origin₁ w₁ requests₁ turns₁ → Ran origin₂ w₂ requests₂ turns₂ → (a₁ : Writing (final w₁ turns₁)) (a₂ : Writing (final w₂ turns₂))
-    → DirectImages origin₁ origin₂ w₁ w₂ requests₁ requests₂ turns₁ turns₂ a₁ a₂
-run-images ran₁ ran₂ a₁ a₂ =
-    let f₁ = run-follows ran₁ in
-    let f₂ = run-follows ran₂ in
+-- every two runs, each on its device
+pub run-images : {device₁ device₂ : Device} → Proper device₁ → Proper device₂ → {origin₁ origin₂ : Origin} {w₁ w₂ : Words} {requests₁ requests₂ : List Request} {turns₁ turns₂ : List Turn}
+    → Ran device₁ origin₁ w₁ requests₁ turns₁ → Ran device₂ origin₂ w₂ requests₂ turns₂ → (a₁ : Writing (final w₁ turns₁)) (a₂ : Writing (final w₂ turns₂))
+    → DirectImages device₁ device₂ origin₁ origin₂ w₁ w₂ requests₁ requests₂ turns₁ turns₂ a₁ a₂
+run-images p₁ p₂ ran₁ ran₂ a₁ a₂ =
+    let f₁ = run-follows p₁ ran₁ in
+    let f₂ = run-follows p₂ ran₂ in
     record {
       first = subst (λ (s : State). Images (s .lists) a₁) (f₁ .ends) (checked-image (f₁ .checked) a₁);
       second = subst (λ (s : State). Images (s .lists) a₂) (f₂ .ends) (checked-image (f₂ .checked) a₂);

@@ -24,21 +24,25 @@ use Rattle.plain.specs.Reads.{Reply, answer-unless, reply-unless, lent, listing
 use Rattle.plain.specs.Reads.{walk as walk-of, neighbors as neighbors-of, degree as degree-of, total as total-of, node-payload as payload-of, edge-record as record-of, live-edge-record as live-record-of, contains-node as node-in, contains-edge as edge-in, is-empty as empty-answer, is-compact as compact-answer, node-count as nodes-counted, edge-count as edges-counted, find as find-of}
 use Rattle.plain.specs.Renumbering.{composed, lookup-answer, compose as compose-of, is-identity as identity-answer}
 use Rattle.plain.specs.Memory.{Lengths, first-short, other-slices}
-use Rattle.plain.specs.Calls.{judged, judged-reply, judged-record, judged-total, Stripped, judged-strip, short-answer, limits, within, fresh-within, Compacted, compacting, compaction, compaction-slices, judged-compaction, readable, reading-slices, read-within}
+use Rattle.plain.specs.Devices.{Device, box, skid}
+use Rattle.plain.specs.Calls.{judged, judged-reply, judged-record, judged-total, Stripped, judged-strip, short-answer, within, Compacted, compacting, compaction, compaction-slices, judged-compaction, readable, reading-slices, asked, reading}
 use Rattle.plain.specs.Calls.{check as check-answer, strip as strip-of, fresh as fresh-of, read-image as read-of}
+use Rattle.plain.specs.Joining.{Sizes, sizes, MapRooms, map-slices, exceeds, join-answer, join as join-of}
 use Rattle.plain.specs.Image.{broken-image, nodes-in, edges-in}
 use Rattle.plain.specs.Laws.Booleans.{by-test}
 use Rattle.plain.specs.Laws.Histories.{write-number}
 use Rattle.plain.specs.Laws.Strips.{length-answers}
 use Rattle.renumbering.specs.Calls.{Lookup, Compose, IsIdentity}
-use Rattle.shape.specs.Shape.{Words, capacities, lengths-of, shape-of, lists}
+use Rattle.shape.specs.Shape.{Words, capacities, lengths-of, node-capacity, shape-of, lists}
 use Rattle.shape.specs.Rules.{broken}
 use Rattle.shape.specs.Steps.{state-of}
 use Rattle.strip.specs.Fresh.{FreshOf}
 use Rattle.strip.specs.Strip.{StripOf}
 use Rattle.view.specs.Calls.{Answered, Recorded, Totalled, Replied}
 use Rattle.compact.specs.Calls.{CompactOf}
+use Rattle.join.specs.Calls.{Lent, JoinOf}
 use Rattle.image.specs.Calls.{WriteOf, ReadOf}
+use Rattle.nearest.specs.Calls.{Searched, judged-search, search-unless, work-needed, chain-answer, nearest-lot, NearestOf}
 
 -- a number that is not 11
 abbrev pub Other : ℕ → Type 0
@@ -171,11 +175,11 @@ answers-other caps s (o ∷ ops) (suc i) h =
 
 -- ---- the calls that make or change a store
 
-within-other : (limits caps : Capacities) (number : ℕ) (a : Answer) → Other number → Other (a .number) → Other (within limits number caps a .number)
+within-other : (device : Device) (caps : Capacities) (a : Answer) → Other (device .number) → Other (a .number) → Other (within device caps a .number)
 unfolding within
-within-other limits caps number a h k =
-    by-test (ltb (limits .nodes) (caps .nodes)) (λ q. rw q h)
-    (λ q. rw q (by-test (ltb (limits .edges) (caps .edges)) (λ r. rw r h) (λ r. rw r k)))
+within-other device caps a h k =
+    by-test (ltb (device .limits .nodes) (caps .nodes)) (λ q. rw q h)
+    (λ q. rw q (by-test (ltb (device .limits .edges) (caps .edges)) (λ r. rw r h) (λ r. rw r k)))
 
 short-other : (short : Option ℕ) → Other (short-answer short .number)
 short-other none = λ e. omega arith
@@ -185,15 +189,26 @@ readable-other : (rule : ℕ) (a : Answer) → Other (a .number) → Other (read
 readable-other zero a h = h
 readable-other (suc rule) a h = λ e. omega arith
 
-fresh-other : (l : Lengths) → Other (fresh-of l .number)
-unfolding fresh-of fresh-within
-fresh-other l = within-other limits (l .capacities) 13 _ (λ e. omega arith) (short-other (first-short (other-slices l)))
+-- on a device whose number is another
+module _ (device : Device) (h : Other (device .number)) where
+  fresh-other : (l : Lengths) → Other (fresh-of device l .number)
+  unfolding fresh-of
+  fresh-other l = within-other device (l .capacities) _ h (short-other (first-short (other-slices l)))
 
-read-other : (l : Lengths) (bytes : List ℕ) → Other (read-of l bytes .number)
-unfolding read-of read-within
-read-other l bytes =
-    within-other limits (l .capacities) 13 _ (λ e. omega arith)
-    (readable-other (broken-image bytes) _ (short-other (first-short (reading-slices (nodes-in bytes) (edges-in bytes) l))))
+  read-other : (l : Lengths) (bytes : List ℕ) → Other (read-of device l bytes .number)
+  unfolding read-of reading
+  read-other l bytes =
+      within-other device (l .capacities) _ h
+      (readable-other (broken-image bytes) _
+      (within-other device (asked (nodes-in bytes) (edges-in bytes)) _ h (short-other (first-short (reading-slices (nodes-in bytes) (edges-in bytes) l)))))
+
+-- joining two books
+join-other : (l : Lengths) (s t : Sizes) (rooms : MapRooms) → Other (join-answer l s t rooms .number)
+unfolding join-answer
+join-other l s t rooms =
+    by-test (eqb (fresh-of box l .number) 0)
+    (λ q. rw q (by-test (exceeds (l .capacities) s t) (λ r. rw r (λ e. omega arith)) (λ r. rw r (short-other (first-short (map-slices s t rooms))))))
+    (λ q. rw q (fresh-other box (λ e. omega arith) l))
 
 strips-other : (caps : Capacities) (s : State) (words : List ℕ) (room : ℕ) → Other (strip-of caps s words room .number)
 unfolding strip-of
@@ -219,6 +234,27 @@ payloads-other : (slot : Option NodeSlot) → Other (payload-answer slot .number
 payloads-other none = λ e. omega arith
 payloads-other (some s) = λ e. omega arith
 
+-- ---- the nearest lot
+
+search-other : (rule : ℕ) (s : Searched) → Other (s .number) → Other (judged-search rule s .number)
+search-other zero s h = h
+search-other (suc rule) s h = λ e. omega arith
+
+unless-search : (n : ℕ) (s : Searched) → Other n → Other (s .number) → Other (search-unless n s .number)
+unless-search zero s h k = k
+unless-search (suc n) s h k = h
+
+chain-other : (capacity room : ℕ) (chain : Option (List ℕ)) → Other (chain-answer capacity room chain .number)
+chain-other capacity room none = λ e. omega arith
+chain-other capacity room (some c) = by-test (ltb room (length c)) (λ q. rw q (λ e. omega arith)) (λ q. rw q (λ e. omega arith))
+
+nearest-other : (capacity : ℕ) (p : Plain) (first second work room : ℕ) → Other (nearest-lot capacity p first second work room .number)
+unfolding nearest-lot
+nearest-other capacity p first second work room =
+    unless-search (node-fault p first) _ (node-other p first)
+    (unless-search (node-fault p second) _ (node-other p second)
+    (by-test (ltb work (work-needed capacity)) (λ q. rw q (λ e. omega arith)) (λ q. rw q (chain-other capacity room _))))
+
 -- ---- the theorem
 
 -- from what a read's record says
@@ -236,14 +272,17 @@ replied-other : {w : Words} {read : Words → ℕ → Reply} {entry exit : List 
 replied-other {w} {read} {entry} h r = same-other (r .number) (reply-other (broken w) (read w (length entry)) h)
 
 pub record NeverEleven : Type 0 where
-  pub fresh : {w : Words} {number value : ℕ} → FreshOf w number value → Other number
+  pub fresh : {w : Words} {number value : ℕ} → FreshOf box w number value → Other number
+  pub skid-fresh : {w : Words} {number value : ℕ} → FreshOf skid w number value → Other number
   pub strip : {w v : Words} {words entry exit : List ℕ} {number value : ℕ} → StripOf w words entry number value v exit → Other number
   -- each operation of a strip that is done, in the words that it leaves
   pub operation : {w v : Words} {words entry exit : List ℕ} {value : ℕ} → StripOf w words entry 0 value v exit → (i : ℕ) → i < length (operations words)
       → Other (getD exit (2 * i) 0)
   pub compact : {w v : Words} {node-map edge-map work node-map' edge-map' work' : List ℕ} {number value : ℕ}
       → CompactOf w node-map edge-map work number value v node-map' edge-map' work' → Other number
-  pub read-image : {w v : Words} {bytes : List ℕ} {number value : ℕ} → ReadOf w bytes number value v → Other number
+  pub read-image : {w v : Words} {bytes : List ℕ} {number value : ℕ} → ReadOf box w bytes number value v → Other number
+  pub skid-read-image : {w v : Words} {bytes : List ℕ} {number value : ℕ} → ReadOf skid w bytes number value v → Other number
+  pub join : {first second w v : Words} {maps maps' : Lent} {number value : ℕ} → JoinOf first second w maps number value v maps' → Other number
   pub write-image : {w : Words} {work bytes work' bytes' : List ℕ} {answer : Answer} → WriteOf w work bytes answer work' bytes' → Other (answer .number)
   pub check : (w : Words) {answer : Answer} → answer ≡ check-answer (broken w) → Other (answer .number)
   pub walk : {w : Words} (d : TraversalDirection) (x : ℕ) {entry exit : List ℕ} {answer : Answer}
@@ -266,6 +305,7 @@ pub record NeverEleven : Type 0 where
   pub node-ids : {w : Words} {entry exit : List ℕ} {answer : Answer} → Replied w (λ w room. node-slots (lists w) room) entry answer exit → Other (answer .number)
   pub edge-ids : {w : Words} {entry exit : List ℕ} {answer : Answer} → Replied w (λ w room. edge-slots (lists w) room) entry answer exit → Other (answer .number)
   pub find : {w : Words} (a b : ℕ) {answer : Answer} → Answered w (λ w. find-of (lists w) a b) answer → Other (answer .number)
+  pub nearest : {w : Words} (a b : ℕ) {work chain work' chain' : List ℕ} {answer : Answer} → NearestOf w a b work chain answer work' chain' → Other (answer .number)
   pub lookup : {renumbering : List ℕ} {slot : ℕ} {answer : Answer} → Lookup renumbering slot answer → Other (answer .number)
   pub compose : {first second result exit : List ℕ} {answer : Answer} → Compose first second result answer exit → Other (answer .number)
   pub is-identity : {nodes edges : List ℕ} {answer : Answer} → IsIdentity nodes edges answer → Other (answer .number)
@@ -296,16 +336,20 @@ operation-other {w} {words = words} {entry} {exit} r i h =
     (answers-other (capacities w) (state-of (shape-of w)) (operations words) i h)
 
 pub never-eleven : NeverEleven
-unfolding compaction check-answer walk-of neighbors-of degree-of total-of payload-of record-of live-record-of node-in edge-in empty-answer compact-answer node-bound-answer edge-bound-answer nodes-counted edges-counted node-slots edge-slots find-of lookup-answer compose-of identity-answer
+unfolding compaction join-of check-answer walk-of neighbors-of degree-of total-of payload-of record-of live-record-of node-in edge-in empty-answer compact-answer node-bound-answer edge-bound-answer nodes-counted edges-counted node-slots edge-slots find-of lookup-answer compose-of identity-answer
 never-eleven = record {
-  fresh = λ {w} r. same-other (ap (λ (a : Answer). a .number) (r .answered)) (fresh-other (lengths-of w));
+  fresh = λ {w} r. same-other (ap (λ (a : Answer). a .number) (r .answered)) (fresh-other box (λ e. omega arith) (lengths-of w));
+  skid-fresh = λ {w} r. same-other (ap (λ (a : Answer). a .number) (r .answered)) (fresh-other skid (λ e. omega arith) (lengths-of w));
   strip = λ {w} {words = words} {entry} r. same-other (r .numbered)
       (strip-other (broken w) (state-of (shape-of w)) _ (strips-other (capacities w) (state-of (shape-of w)) words (length entry)));
   operation = operation-other;
   compact = λ {w} {node-map = node-map} {edge-map} {work} r. same-other (r .numbered)
       (compaction-other (broken w) (state-of (shape-of w)) _
       (compacting-other (first-short (compaction-slices (lists w) (length node-map) (length edge-map) (length work))) (state-of (shape-of w))));
-  read-image = λ {w} {bytes = bytes} r. same-other (ap (λ (a : Answer). a .number) (r .answered)) (read-other (lengths-of w) bytes);
+  read-image = λ {w} {bytes = bytes} r. same-other (ap (λ (a : Answer). a .number) (r .answered)) (read-other box (λ e. omega arith) (lengths-of w) bytes);
+  skid-read-image = λ {w} {bytes = bytes} r. same-other (ap (λ (a : Answer). a .number) (r .answered)) (read-other skid (λ e. omega arith) (lengths-of w) bytes);
+  join = λ {first} {second} {w} r. same-other (ap (λ (a : Answer). a .number) (r .answered))
+      (judged-other (broken first) _ (judged-other (broken second) _ (join-other (lengths-of w) (sizes (lists first)) (sizes (lists second)) _)));
   write-image = λ {w} {work} {bytes} r. replied-other
       (⊎-elim (λ z. same-other z zero-other) (λ z. same-other z (λ e. omega arith)) (write-number (lists w) (length work) (length bytes))) (r .replied);
   check = λ w is. same-other (ap (λ (a : Answer). a .number) is) (judged-other (broken w) _ zero-other);
@@ -328,6 +372,8 @@ never-eleven = record {
   edge-ids = λ {w} {entry} r. replied-other (listing-other (length entry) (live-slots (edge-flags (lists w)))) r;
   find = λ {w} a b r. answered-other
       (unless-answer (node-missing (lists w) a) _ (missing-other (lists w) a) (unless-answer (node-missing (lists w) b) _ (missing-other (lists w) b) zero-other)) r;
+  nearest = λ {w} a b {work} {chain} r. same-other (r .numbered)
+      (search-other (broken w) _ (nearest-other (node-capacity w) (lists w) a b (length work) (length chain)));
   lookup = λ r. same-other (ap (λ (a : Answer). a .number) (r .answers)) zero-other;
   compose = λ {first} {second} {result} r. same-other (r .number) (lent-other (length result) 0 (composed first second));
   is-identity = λ r. same-other (ap (λ (a : Answer). a .number) (r .answers)) zero-other;

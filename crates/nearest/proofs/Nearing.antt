@@ -11,6 +11,7 @@ use Rattle.plain.specs.declared.TraversalDirection.the-variants.{Outgoing, Inco
 use Rattle.plain.specs.declared.Counts.{Counts}
 use Rattle.plain.specs.Lists.{member, keep, written}
 use Rattle.plain.specs.Plain.{list-of}
+use Rattle.plain.specs.Laws.Booleans.{by-test}
 use Rattle.plain.specs.Laws.ListLaws.{member-first, member-later}
 use Rattle.liveness.specs.Flags.{live-flags}
 use Rattle.shape.specs.Columns.{end-at}
@@ -19,9 +20,10 @@ use Rattle.adjacency.specs.declared.cursor.AdjacencyCursor.{AdjacencyCursor}
 use Rattle.adjacency.specs.declared.cursor.Found.the-variants.{Edge}
 use Rattle.adjacency.specs.declared.cursor.Step.{Step}
 use Rattle.adjacency.specs.declared.cursor.Start.{Start}
-use Rattle.adjacency.specs.Cursor.{listed, listed-left, remaining, Sought}
-use Rattle.adjacency.specs.Reading.{sought-edge, write-one}
-use Rattle.adjacency.specs.Finding.{first-of, Searching, search-start, search-on}
+use Rattle.adjacency.specs.Cursor.{listed, listed-left, remaining, step-of}
+use Rattle.adjacency.specs.CursorLaws.{step-edge}
+use Rattle.adjacency.specs.Reading.{write-one}
+use Rattle.adjacency.specs.Finding.{first-of, Searching, search-start, search-skip, search-on}
 use Rattle.adjacency.specs.Walk.{walk-in, tombstoned-in, entries-column, next-column, Started}
 use Rattle.adjacency.specs.WalkLaws.{given-walk, given-seekable, next-length}
 use Rattle.nearest.specs.Search.{Distance}
@@ -43,15 +45,26 @@ pub nearing-start : {wanted test : ℕ → Bool} {linked : Bool} {entries next l
 nearing-start h = record { searching = search-start (h .ready); words-long = h .words-long }
 
 module _ {wanted test : ℕ → Bool} {linked : Bool} {entries next ends words : List ℕ} {c₀ c : AdjacencyCursor} (i : Nearing wanted test linked entries next ends words c₀ c)
-    {s : Step} (found : Sought test linked entries next c s) where
-  pub nearing-word : {e : ℕ} → s .found ≡ Edge e → getD ends e 0 < length words
-  nearing-word {e} q = i .words-long e (rw (sought-edge found q) (member-first e (keep test (remaining linked entries next (s .cursor)))))
+    {s : Step} (r : s ≡ step-of linked entries next c) {e : ℕ} (q : s .found ≡ Edge e) where
+  -- what is left behind the entry was left before it
+  later : (k : ℕ) → member k (keep test (remaining linked entries next (s .cursor))) ≡ true → member k (keep test (remaining linked entries next c)) ≡ true
+  unfolding keep
+  later k m =
+      rw (step-edge (i .searching .ready) r test q)
+      (by-test (test e) (λ t. rw t (member-later k e (keep test (remaining linked entries next (s .cursor))) m)) (λ t. rw t m))
 
-  pub nearing-on : {e : ℕ} → s .found ≡ Edge e → wanted e ≡ false → Nearing wanted test linked entries next ends words c₀ (s .cursor)
-  nearing-on {e} q t = record {
-    searching = search-on (i .searching) found q t;
-    words-long = λ k m. i .words-long k (rw (sought-edge found q) (member-later k e (keep test (remaining linked entries next (s .cursor))) m));
-  }
+  -- the end of an entry that passes has a word
+  pub nearing-word : test e ≡ true → getD ends e 0 < length words
+  unfolding keep
+  nearing-word t = i .words-long e (rw (step-edge (i .searching .ready) r test q, t) (member-first e (keep test (remaining linked entries next (s .cursor)))))
+
+  -- past an entry that is not wanted
+  pub nearing-on : wanted e ≡ false → Nearing wanted test linked entries next ends words c₀ (s .cursor)
+  nearing-on t = record { searching = search-on (i .searching) r q t; words-long = λ k m. i .words-long k (later k m) }
+
+  -- past one that does not pass
+  pub nearing-skip : test e ≡ false → Nearing wanted test linked entries next ends words c₀ (s .cursor)
+  nearing-skip t = record { searching = search-skip (i .searching) r q t; words-long = λ k m. i .words-long k (later k m) }
 
 -- ---- of a lot's out-list
 

@@ -14,6 +14,7 @@ ghost use Rattle.adjacency.specs.Walk.{walk-in};
 ghost use Rattle.nearest.specs.Forwards.{leads, Nearer, NearerLot, Forward, way-in};
 use adjacency::cursor::AdjacencyCursor;
 use adjacency::cursor::Found;
+use adjacency::cursor::is_listed;
 use adjacency::walk;
 use plain::Counts;
 use plain::NONE;
@@ -37,13 +38,15 @@ fn nearer(
 {
     let mut cursor = from;
     loop {
-        let step = cursor.seek(linked, entries, next, tombstoned, live, slots);
+        let step = cursor.step(linked, entries, next);
         let found = step.found;
         match found {
             Found::Edge(edge) => {
-                let end = ends[edge as usize];
-                if words[end as usize] == word {
-                    return edge;
+                if is_listed(tombstoned, live, slots, edge) {
+                    let end = ends[edge as usize];
+                    if words[end as usize] == word {
+                        return edge;
+                    }
                 }
             }
             Found::Done => {
