@@ -483,7 +483,7 @@ pub fn compare_searched(
 fn compare_refused(memory: &Words, refused: Refused, rng: &mut Rng, tally: &mut Tally) -> Same {
     let place = || format!("a damaged store, {memory:?}");
     let mut book = LotBook::from_memory(memory.clone());
-    let mut slots = [NONE - 1; 8];
+    let (mut slots, mut work) = ([NONE - 1; 8], [NONE - 1; 8]);
     let (first, second) = (rng.word() % 8, rng.word() % 8);
     let words = [5, first, second, 0, 0];
     let nothing = |_: u32| ();
@@ -498,7 +498,7 @@ fn compare_refused(memory: &Words, refused: Refused, rng: &mut Rng, tally: &mut 
         book.out_degree(first).map(nothing),
         book.in_degree(first).map(nothing),
         book.find(first, second).map(|_| ()),
-        book.nearest_into(first, second, &mut [], &mut slots)
+        book.nearest_into(first, second, &mut work, &mut slots)
             .map(nothing),
         book.node_payload(first).map(nothing),
         book.edge_record(first).map(|_| ()),
@@ -523,8 +523,9 @@ fn compare_refused(memory: &Words, refused: Refused, rng: &mut Rng, tally: &mut 
         let given = memory.total(direction, first);
         tally.same(Thing::BookRefused, place, expected, given)?;
     }
-    let expected = (memory, [NONE - 1; 8]);
-    tally.same(Thing::BookRefused, place, expected, (book.memory(), slots))
+    let expected = (memory, [[NONE - 1; 8]; 2]);
+    let given = (book.memory(), [slots, work]);
+    tally.same(Thing::BookRefused, place, expected, given)
 }
 
 /// How many operations there were, and damaged stores.
