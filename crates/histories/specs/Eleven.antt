@@ -10,6 +10,7 @@ use native.Mathlib.Omega.{arith}
 use lib.ListN.{length, getD, drop, List·getD-append}
 use lib.Dec.{eqb, leb, ltb}
 use Rattle.plain.specs.declared.TraversalDirection.{TraversalDirection}
+use Rattle.plain.specs.declared.TraversalDirection.the-variants.{Outgoing, Incoming}
 use Rattle.plain.specs.declared.Answer.{Answer}
 use Rattle.plain.specs.declared.Record.{Record}
 use Rattle.plain.specs.declared.Total.{Total}
@@ -40,8 +41,9 @@ use Rattle.strip.specs.Fresh.{FreshOf}
 use Rattle.strip.specs.Strip.{StripOf}
 use Rattle.view.specs.Calls.{Answered, Recorded, Totalled, Replied}
 use Rattle.compact.specs.Calls.{CompactOf}
-use Rattle.join.specs.Calls.{Lent, JoinOf}
+use Rattle.join.specs.Calls.{LentMaps, JoinOf}
 use Rattle.image.specs.Calls.{WriteOf, ReadOf}
+use Rattle.nearest.specs.Chains.{nearest as nearest-chain}
 use Rattle.nearest.specs.Calls.{Searched, judged-search, search-unless, work-needed, chain-answer, nearest-lot, NearestOf}
 
 -- a number that is not 11
@@ -253,7 +255,7 @@ unfolding nearest-lot
 nearest-other capacity p first second work room =
     unless-search (node-fault p first) _ (node-other p first)
     (unless-search (node-fault p second) _ (node-other p second)
-    (by-test (ltb work (work-needed capacity)) (λ q. rw q (λ e. omega arith)) (λ q. rw q (chain-other capacity room _))))
+    (by-test (ltb work (work-needed capacity)) (λ q. rw q (λ e. omega arith)) (λ q. rw q (chain-other capacity room (nearest-chain (list-of Outgoing p) (end-of Incoming p) capacity first second)))))
 
 -- ---- the theorem
 
@@ -282,7 +284,7 @@ pub record NeverEleven : Type 0 where
       → CompactOf w node-map edge-map work number value v node-map' edge-map' work' → Other number
   pub read-image : {w v : Words} {bytes : List ℕ} {number value : ℕ} → ReadOf box w bytes number value v → Other number
   pub skid-read-image : {w v : Words} {bytes : List ℕ} {number value : ℕ} → ReadOf skid w bytes number value v → Other number
-  pub join : {first second w v : Words} {maps maps' : Lent} {number value : ℕ} → JoinOf first second w maps number value v maps' → Other number
+  pub join : {first second w v : Words} {maps maps' : LentMaps} {number value : ℕ} → JoinOf first second w maps number value v maps' → Other number
   pub write-image : {w : Words} {work bytes work' bytes' : List ℕ} {answer : Answer} → WriteOf w work bytes answer work' bytes' → Other (answer .number)
   pub check : (w : Words) {answer : Answer} → answer ≡ check-answer (broken w) → Other (answer .number)
   pub walk : {w : Words} (d : TraversalDirection) (x : ℕ) {entry exit : List ℕ} {answer : Answer}
