@@ -5,23 +5,29 @@ use mathlib.Core.Bool.{Bool, true, false, _&&_, _||_, not}
 use mathlib.Core.List.{List}
 use native.Mathlib.Omega.{arith}
 use lib.ListN.{getD}
-use lib.Dec.{eqb}
+use lib.Dec.{eqb, ltb}
+use borrow.Author.Tests.{ltb-true}
 use Rattle.plain.specs.declared.Answer.{Answer}
 use Rattle.plain.specs.declared.TraversalDirection.{TraversalDirection}
+use Rattle.plain.specs.declared.TraversalDirection.the-variants.{Outgoing, Incoming}
 use Rattle.plain.specs.Calls.{check}
 use Rattle.plain.specs.Lists.{member, distinct, all, from}
 use Rattle.plain.specs.Plain.{Plain, node-bound, edge-bound, node-flags, edge-flags, list-of, end-of}
 use Rattle.shape.specs.Columns.{end-at}
 use Rattle.shape.specs.Shape.{Words, node-capacity, edge-capacity, node-live, edge-live, axis-words, shape-of, plain-of}
-use Rattle.shape.specs.Rules.{walks-right, rule-1}
-use Rattle.shape.specs.Laws.Judging.{Structured, sizes-sound, edges-live-sound, axis-sound}
+use Rattle.plain.specs.Laws.Booleans.{and-left, and-right}
+use Rattle.shape.specs.Rules.{both-axes, ends-right, weights-right, index-right, ring-right, walks-right, rule-1, rule-3, rule-4, rule-5}
+use Rattle.shape.specs.Laws.Checking.{all-below, ring-sound, ring-own, index-sound}
+use Rattle.shape.specs.Laws.Judging.{Structured, sizes-sound, nodes-live-sound, edges-live-sound, axis-sound}
 use Rattle.shape.specs.Laws.Reading.{plain-node-bound, plain-edge-bound, plain-node-flags, plain-edge-flags, plain-end}
 use Rattle.adjacency.specs.Walk.{Walkable}
 use Rattle.adjacency.specs.WalkLaws.{walk-below}
 use Rattle.adjacency.specs.StoreWalks.{list-is-walk}
 use Rattle.validate.specs.Passing.{entries-agree, slots-agree}
 use Rattle.validate.specs.Sizes.{axis-sized, live-there}
+use Rattle.validate.specs.Broken.{Threaded}
 use Rattle.validate.specs.Runs.{RunsReadable}
+use Rattle.validate.specs.Flat.{ListsReadable}
 use Rattle.validate.specs.Walks.{WalksReadable, node-walk, walk-test, listed-test, walks-test}
 
 -- Rule 7 of plain lists by what they are read from: the walks, the ends and the flags.
@@ -52,6 +58,11 @@ walks-read p d walk ends nodes edges nb eb node-size edge-size node-live edge-li
         (ap (λ (b : Bool). distinct (walk x) && b)
         (entries-agree (λ e. eqb (end-of d p e) x) (λ e. eqb (ends e) x) (walk x) (λ e m. ap (λ (y : ℕ). eqb y x) (ends-are e (below x e l m)))))
 
+-- a test of both directions, in one of them
+axis-passes : (test : List ℕ → Bool) (w : Words) → both-axes test w ≡ true → (d : TraversalDirection) → test (axis-words d w) ≡ true
+axis-passes test w h Outgoing = and-left (test (w .outgoing)) (test (w .incoming)) h
+axis-passes test w h Incoming = and-right (test (w .outgoing)) (test (w .incoming)) h
+
 module _ (w : Words) (d : TraversalDirection) where
   abbrev ws : List ℕ
   ws = axis-words d w
@@ -67,6 +78,26 @@ module _ (w : Words) (d : TraversalDirection) where
   runs-readable h =
       let s = sizes-sound w h in
       record { axis = axis-sized w h d; nodes-long = live-there (s .nodes); edges-long = live-there (s .edges) }
+
+  -- the lists can be looked at after rule 5
+  pub lists-readable : Threaded w → ListsReadable ws ce cn (w .counts) (w .live-nodes) (w .live-edges)
+  unfolding rule-3 rule-4 rule-5
+  lists-readable t =
+      let s = sizes-sound w (t .counted .r1) in
+      let nb = w .counts .nodes .bound in
+      let be = w .counts .edges .base in
+      let eb = w .counts .edges .bound in
+      let ring = all-below (ring-right ce be eb ws) nb (axis-passes (λ a. all (ring-right ce be eb a) (from 0 nb)) w (t .r5) d) in
+      let three = axis-passes (ends-right (w .counts)) w (and-left (both-axes (ends-right (w .counts)) w) (weights-right eb (w .lows) (w .highs)) (t .r3)) d in
+      record {
+        axis = axis-sized w (t .counted .r1) d;
+        index = index-sound ce cn (w .counts .nodes .base) be ws (axis-passes (index-right ce cn (w .counts .nodes .base) be) w (t .r4) d);
+        rings = record { ring = λ x l. ring-sound ce be eb ws x (ring x l); own = λ x e l. ring-own ce be eb ws x (ring x l) e };
+        ends-below = λ e l. ltb-true (end-at ws e) nb (all-below (λ e. ltb (end-at ws e) nb) eb three e l);
+        nodes-long = live-there (s .nodes);
+        edges-long = live-there (s .edges);
+        live = nodes-live-sound w (t .counted .r2);
+      }
 
   module _ (t : Structured w) where
     -- every node can be walked after rule 6

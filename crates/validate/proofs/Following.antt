@@ -1,15 +1,18 @@
 -- Following a list of entries and marking each, up to the first that does not pass.
 use Prim.Native.Nat.{ℕ}
 use mathlib.Core.Path.{_≡_, refl, sym, ap, subst, _∙_}
-use mathlib.Core.Bool.{Bool, true, false, _||_, false≢true}
-use mathlib.Core.List.{List, [], _∷_}
+use mathlib.Core.Bool.{Bool, true, false, _&&_, _||_, not, false≢true}
+use mathlib.Core.Logic.{_⊎_, inl, inr, ⊎-elim}
+use mathlib.Core.List.{List, [], _∷_, _++_}
 use lib.ListN.{length}
 use lib.Dec.{eqb}
 use borrow.Author.Tests.{not-true, not-false}
-use Rattle.plain.specs.Lists.{member, keep}
-use Rattle.plain.specs.Laws.Booleans.{by-test, or-false}
+use Rattle.plain.specs.Lists.{member, distinct, all, keep}
+use Rattle.plain.specs.Laws.Booleans.{by-test, true-false, refuted, and-left, and-right, both-true, or-other, or-false, or-true}
+use Rattle.plain.specs.Laws.ListLaws.{all-of, all-member, member-append, distinct-append}
+use Rattle.shape.specs.Laws.Chains.{in-front}
 use Rattle.validate.specs.Passing.{passed}
-use Rattle.validate.specs.Marks.{marked, Marked, Entered, passes, Followed}
+use Rattle.validate.specs.Marks.{marked, Marked, Entered, fresh, passes, Followed, Adds}
 use Rattle.validate.specs.Fresh.{or-swap, passes-none, passes-fails, passes-marked, passes-more}
 
 -- Of a list of entries the rest is still to be followed; those before are marked.
@@ -108,3 +111,62 @@ module _ (listed : ℕ → Bool) {test : ℕ → Bool} {l seen₀ seen rest exit
       (λ h. by-test (test e) (λ t. follow-more f (is-first h) t (n .marking h t) a long) (λ t. absurd (false≢true (sym (n .failing h t) ∙ a))))
       (λ h. subst (λ (s : List ℕ). Following test l seen₀ s (keep listed later)) (sym (n .unlisted h .1))
       (subst (λ (r : List ℕ). Following test l seen₀ seen r) (is-passed h) f))
+
+-- ---- a list that was followed to its end
+
+pub followed-yes : {test : ℕ → Bool} {final answer : Bool} {l entry exit : List ℕ} → Followed test final l entry answer exit → answer ≡ true → Followed test final l entry true exit
+followed-yes {test} {final} {l = l} {entry} {exit} f q = subst (λ (r : Bool). Followed test final l entry r exit) q f
+
+module _ {test : ℕ → Bool} {final : Bool} {l entry exit : List ℕ} (f : Followed test final l entry true exit) where
+  -- every entry has passed
+  pub followed-all : all test l ≡ true
+  unfolding passes
+  followed-all =
+      and-left (all test l) (fresh (marked entry) l) (and-left (all test l && fresh (marked entry) l) final (sym (f .answers)))
+
+  followed-fresh : fresh (marked entry) l ≡ true
+  unfolding passes
+  followed-fresh =
+      and-right (all test l) (fresh (marked entry) l) (and-left (all test l && fresh (marked entry) l) final (sym (f .answers)))
+
+  -- none came twice
+  pub followed-once : distinct l ≡ true
+  unfolding fresh
+  followed-once = and-left (distinct l) (all (λ e. not (marked entry e)) l) followed-fresh
+
+  -- and none was marked
+  pub followed-new : (e : ℕ) → member e l ≡ true → marked entry e ≡ false
+  unfolding fresh
+  followed-new e m =
+      not-true (marked entry e) (all-member (λ e. not (marked entry e)) l (and-right (distinct l) (all (λ e. not (marked entry e)) l) followed-fresh) e m)
+
+  -- the last test holds
+  pub followed-final : final ≡ true
+  followed-final = and-right (passes test (marked entry) l) final (sym (f .answers))
+
+  -- what is marked
+  pub followed-adds : Adds l entry exit
+  followed-adds = record {
+    marks = λ e h. by-test (marked entry e) (λ q. inl q) (λ q. inr (or-other (sym (f .marks refl e) ∙ h) q));
+  }
+
+-- one list after the other: none comes twice in both together
+module _ {test : ℕ → Bool} {final last : Bool} {l m a b c : List ℕ} (f : Followed test final l a true b) (g : Followed test last m b true c) where
+  pub both-once : distinct (l ++ m) ≡ true
+  both-once =
+      distinct-append l m
+      ∙ both-true (followed-once f)
+      (both-true (followed-once g)
+      (all-of (λ e. not (member e m)) l
+      (λ e k. ap not (refuted (member e m) (λ q. true-false (f .marks refl e ∙ ap (λ (b : Bool). marked a e || b) k ∙ or-true (marked a e)) (followed-new g e q))))))
+
+  pub both-adds : Adds (l ++ m) a c
+  both-adds = record {
+    marks = λ e h. ⊎-elim
+        (λ q. ⊎-elim (λ k. inl k) (λ k. inr (in-front e l m k)) (followed-adds f .marks e q))
+        (λ q. inr (member-append e l m ∙ ap (λ (b : Bool). member e l || b) q ∙ or-true (member e l))) (followed-adds g .marks e h);
+  }
+
+-- adding nothing
+pub adds-none : (entry : List ℕ) → Adds [] entry entry
+adds-none entry = record { marks = λ e h. inl h }

@@ -7,4 +7,5 @@ pub mod Following
 pub mod Running
 pub mod Walking
 pub mod Flattening
+pub mod Listing
 pub mod Deciding

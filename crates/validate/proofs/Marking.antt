@@ -1,5 +1,7 @@
--- Marking an edge: the two ways through `mark`.
-use Prim.Native.Nat.{ℕ, _+_, _/_, _%_, _^_, _<_}
+-- Marking an edge: the two ways through `mark`. And words whose bits are bits of other words.
+use Prim.Native.Nat.{ℕ, zero, suc, _+_, _/_, _%_, _^_, _<_}
+use native.Mathlib.Omega.{arith}
+use lib.Bits.{bitAnd, and-step}
 use mathlib.Core.Path.{_≡_, refl, sym, ap, _∙_}
 use mathlib.Core.Bool.{true, false, _||_, not}
 use mathlib.Core.List.{List}
@@ -8,9 +10,10 @@ use lib.Dec.{eqb}
 use borrow.Author.Tests.{eq-eqb, eqb-true, eqb-false}
 use Rattle.plain.specs.Laws.Booleans.{by-test}
 use Rattle.liveness.specs.Flags.{bit}
-use Rattle.liveness.specs.Bits.{mark-here, mark-other}
+use Rattle.liveness.specs.Bits.{bit-zero, bit-suc, mark-here, mark-other}
 use Rattle.liveness.specs.FlagLaws.{bit-in, bit-of, bit-other}
 use Rattle.validate.specs.Marks.{marked, Marked}
+use Rattle.validate.specs.Walks.{Within}
 
 module _ (words : List ℕ) (edge : ℕ) where
   -- what is marked: an edge that is marked in the end, where the others are as they were
@@ -36,3 +39,13 @@ module _ (words : List ℕ) (edge : ℕ) where
     where
       w : ℕ
       w = getD words (edge / 64) 0 + 2 ^ (edge % 64)
+
+-- a word whose bits in common with another are all it has
+and-within : (k a b : ℕ) → bitAnd a b ≡ a → bit a k ≡ 1 → bit b k ≡ 1
+and-within zero a b h q = bit-zero b ∙ omega (arith, and-step a b, bit-zero a)
+and-within (suc k) a b h q =
+    let half : bitAnd (a / 2) (b / 2) ≡ a / 2 = omega (arith, and-step a b) in
+    bit-suc b k ∙ and-within k (a / 2) (b / 2) half (sym (bit-suc a k) ∙ q)
+
+pub within-and : (a b : ℕ) → bitAnd a b ≡ a → Within a b
+within-and a b h = record { bits = λ k q. and-within k a b h q }

@@ -8,14 +8,14 @@ use lib.ListN.{getD}
 use lib.Dec.{eqb, ltb}
 use borrow.Author.Tests.{eq-eqb, ne-eqb, ltb-true}
 use Rattle.plain.specs.Lists.{member, distinct, all, from, joined}
-use Rattle.plain.specs.Laws.Booleans.{true-false, refuted, and-left, and-right, both-true}
-use Rattle.shape.specs.Columns.{cell, tail-at, mark-at, count-at, first-at}
+use Rattle.plain.specs.Laws.Booleans.{true-false, refuted, and-left, and-right, and-false, both-true}
+use Rattle.shape.specs.Columns.{cell, end-at, tail-at, mark-at, count-at, first-at}
 use Rattle.shape.specs.Chains.{chain}
 use Rattle.shape.specs.Shape.{run-list}
 use Rattle.shape.specs.Rules.{last-of, run-right}
 use Rattle.validate.specs.Passing.{slots-from, slots-more, slots-none}
 use Rattle.validate.specs.Marks.{marked, fresh, passes, Followed}
-use Rattle.validate.specs.Runs.{entry-test, ends-in}
+use Rattle.validate.specs.Runs.{entry-test, run-test, ends-in}
 use Rattle.validate.proofs.Following.{follow-start, follow-done}
 use Rattle.validate.specs.Fresh.{fresh-clear, fresh-append}
 
@@ -33,6 +33,17 @@ no-run test tail seen = rw (eq-eqb tail tail refl) (follow-done (follow-start te
 pub entry-below : (eb : ℕ) (live : Bool) (flags : List Bool) (e : ℕ) → entry-test eb live flags e ≡ true → e < eb
 unfolding entry-test
 entry-below eb live flags e h = ltb-true e eb (and-left (ltb e eb) (live || not (getD flags e false)) h)
+
+-- the tests of an entry, one after the other
+module _ (ws : List ℕ) (strict : Bool) (x eb : ℕ) (live : Bool) (flags : List Bool) (e : ℕ) where
+  pub run-fails : entry-test eb live flags e ≡ false → run-test ws strict x eb live flags e ≡ false
+  run-fails h = rw (h, and-false (not strict || eqb (end-at ws e) x))
+
+  pub run-away : (not strict || eqb (end-at ws e) x) ≡ false → run-test ws strict x eb live flags e ≡ false
+  run-away h = rw h
+
+  pub run-entry : entry-test eb live flags e ≡ true → (not strict || eqb (end-at ws e) x) ≡ true → run-test ws strict x eb live flags e ≡ true
+  run-entry h own = both-true own h
 
 module _ (link : ℕ → ℕ) where
   -- an entry of a chain, and those after it

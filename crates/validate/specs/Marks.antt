@@ -3,6 +3,7 @@ use Prim.Native.Nat.{ℕ}
 use mathlib.Core.Path.{_≡_}
 use mathlib.Core.Bool.{Bool, true, false, _&&_, _||_, not}
 use mathlib.Core.List.{List}
+use mathlib.Core.Logic.{_⊎_}
 use lib.Dec.{eqb}
 use Rattle.plain.specs.Lists.{member, distinct, all}
 use Rattle.liveness.specs.Flags.{live-bit}
@@ -34,3 +35,7 @@ passes test marks l = all test l && fresh marks l
 pub record Followed (test : ℕ → Bool) (final : Bool) (l entry : List ℕ) (answer : Bool) (exit : List ℕ) : Type 0 where
   pub answers : answer ≡ (passes test (marked entry) l && final)
   pub marks : answer ≡ true → (e : ℕ) → marked exit e ≡ (marked entry e || member e l)
+
+-- What is marked in the end was marked before or is in a list.
+pub record Adds (l entry exit : List ℕ) : Type 0 where
+  pub marks : (e : ℕ) → marked exit e ≡ true → (marked entry e ≡ true) ⊎ (member e l ≡ true)

@@ -6,13 +6,17 @@ use lib.ListN.{length, getD}
 use lib.Dec.{eqb, ltb}
 use Rattle.plain.specs.declared.Counts.{Counts}
 use Rattle.plain.specs.Numbers.{LIMIT}
-use Rattle.shape.specs.Columns.{Sized}
+use Rattle.shape.specs.Columns.{Sized, end-at}
 use Rattle.shape.specs.Rules.{last-of}
 use Rattle.validate.specs.Sizes.{AxisSized}
 
 -- an entry below the bound that is not live where the node is removed
 unfoldable pub entry-test : ℕ → Bool → List Bool → ℕ → Bool
 entry-test eb live flags e = ltb e eb && (live || not (getD flags e false))
+
+-- and, where that is asked for, one that ends at the node
+abbrev pub run-test : List ℕ → Bool → ℕ → ℕ → Bool → List Bool → ℕ → Bool
+run-test ws strict x eb live flags e = (not strict || eqb (end-at ws e) x) && entry-test eb live flags e
 
 -- the last entry is the tail
 abbrev pub ends-in : List ℕ → ℕ → Bool

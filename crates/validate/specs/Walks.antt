@@ -7,7 +7,8 @@ use lib.Dec.{eqb}
 use Rattle.plain.specs.declared.Counts.{Counts}
 use Rattle.plain.specs.Numbers.{LIMIT}
 use Rattle.plain.specs.Lists.{member, distinct, all, from}
-use Rattle.liveness.specs.Flags.{live-flags}
+use mathlib.Core.Path.{_≡_}
+use Rattle.liveness.specs.Flags.{bit, live-flags}
 use Rattle.shape.specs.Columns.{end-at}
 use Rattle.adjacency.specs.declared.cursor.AdjacencyCursor.{AdjacencyCursor}
 use Rattle.adjacency.specs.Cursor.{Seekable}
@@ -37,6 +38,10 @@ pub record WalksReadable (ws : List ℕ) (ce cn : ℕ) (counts : Counts) (live-n
   pub edges-long : counts .edges .bound ≤ 64 * length live-edges
   pub walkable : (x : ℕ) → x < counts .nodes .bound → Walkable ws ce cn counts live-edges x
   pub ends-below : (e : ℕ) → e < counts .edges .bound → end-at ws e < counts .nodes .bound
+
+-- The bits of one word are bits of another.
+pub record Within (a b : ℕ) : Type 0 where
+  pub bits : (k : ℕ) → bit a k ≡ 1 → bit b k ≡ 1
 
 -- a slot that is live is marked
 unfoldable pub marked-if-live : List Bool → List Bool → ℕ → Bool

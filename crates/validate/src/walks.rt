@@ -1,11 +1,8 @@
 // Rule 7 for one direction: the walks, on a store that the rules before it have passed. Every entry is marked as it is passed, so that a walk that lists an edge
-// twice, or one that does not end at its node, ends the check; the live edges that no walk has listed are those that are not marked in the end. Where no node is
-// removed or has a run, the walks are not followed if one pass over the compressed index and one over the edges of the delta tell that each edge is in its place.
+// twice, or one that does not end at its node, ends the check; the live edges that no walk has listed are those that are not marked in the end. Where the quick
+// test of flat.rt has told that the walks are right they are not followed.
 
-use crate::axes::words_below;
-use crate::counts::live_right;
 use crate::marks::mark;
-use crate::rings::edge_linked;
 use adjacency::cursor::AdjacencyCursor;
 use adjacency::cursor::Found;
 use adjacency::cursor::is_listed;
@@ -23,8 +20,7 @@ ghost use Rattle.shape.specs.Columns.{end-at};
 ghost use Rattle.adjacency.specs.Cursor.{listed, listed-left};
 ghost use Rattle.adjacency.specs.Walk.{walk-in};
 ghost use Rattle.validate.specs.Marks.{Entered, Followed};
-ghost use Rattle.validate.specs.Flat.{PlaceReadable, EntryPlaced, FlatReadable, BaseFlat, DeltaFlat};
-ghost use Rattle.validate.specs.Walks.{EntryReadable, ListReadable, WalkReadable, WalksReadable, marked-if-live, walks-test};
+ghost use Rattle.validate.specs.Walks.{EntryReadable, ListReadable, WalkReadable, WalksReadable, Within, marked-if-live, walks-test};
 
 // An entry that is listed ends at the node, by the column `ends`, and is not marked yet. Marks it where it is listed.
 fn entry_right(
@@ -128,14 +124,14 @@ fn marked_if_live(words: &[u64], seen: &[u64], slots: usize, slot: usize) -> boo
     true
 }
 
-// Whether the first words are the same in two maps; only the yes is promised.
-fn words_same(words: &[u64], seen: &[u64], count: usize) -> bool
+// Whether the bits of the first words of one map are set in those of another; only the yes is promised.
+fn words_within(words: &[u64], seen: &[u64], count: usize) -> bool
     requires { ⌜ (count ≤ length (now words)) × (count ≤ length (now seen)) ⌝ }
-    ensures { λ r. ⌜ (r ≡ true → (i : ℕ) → i < count → getD (now (words .entry)) i 0 ≡ getD (now (seen .entry)) i 0) ⌝ }
+    ensures { λ r. ⌜ (r ≡ true → (i : ℕ) → i < count → Within (getD (now (words .entry)) i 0) (getD (now (seen .entry)) i 0)) ⌝ }
 {
     let mut i: usize = 0;
     while i < count {
-        if words[i] != seen[i] {
+        if words[i] & seen[i] != words[i] {
             return false;
         }
         i += 1;
@@ -143,17 +139,17 @@ fn words_same(words: &[u64], seen: &[u64], count: usize) -> bool
     true
 }
 
-// Every live slot is marked. In a store that passes the maps are the same, word by word; only where they are not is each slot looked at.
-fn live_marked(words: &[u64], seen: &[u64], slots: usize) -> bool
+// Every live slot is marked. In a store that passes a word of live bits is within its word of marks; only where one is not is each slot looked at.
+pub fn live_marked(words: &[u64], seen: &[u64], slots: usize) -> bool
     requires { ⌜ (slots ≤ 64 * length (now words)) × (slots ≤ 64 * length (now seen)) ⌝ }
     ensures { λ r. ⌜ r ≡ all (marked-if-live (live-flags (now (words .entry)) slots) (live-flags (now (seen .entry)) slots)) (from 0 slots) ⌝ }
 {
     let full = slots / 64;
-    if words_same(words, seen, full) {
+    if words_within(words, seen, full) {
         if slots % 64 == 0 {
             return true;
         }
-        if words[full] == seen[full] {
+        if words[full] & seen[full] == words[full] {
             return true;
         }
     }
@@ -167,98 +163,7 @@ fn live_marked(words: &[u64], seen: &[u64], slots: usize) -> bool
     true
 }
 
-// Whether entry i of the compressed index, edge `edge`, stands in the part of its end; only the yes is promised.
-fn entry_placed(axis: &[u32], edges: usize, nodes: usize, base: u32, i: u32, edge: u32) -> bool
-    requires { ⌜ PlaceReadable (now axis) edges nodes base edge ⌝ }
-    ensures { λ r. ⌜ (r ≡ true → EntryPlaced (now (axis .entry)) edges nodes base i edge) ⌝ }
-{
-    let node = axis[edge as usize];
-    if node >= base {
-        return false;
-    }
-    let at = 4 * edges + 5 * nodes + node as usize;
-    if i < axis[at] {
-        return false;
-    }
-    i < axis[at + 1]
-}
-
-// Whether every entry of the compressed index stands in the part of its end, and none comes twice; only the yes is promised.
-fn base_flat(axis: &[u32], edges: usize, nodes: usize, counts: Counts) -> bool
-    requires { ⌜ FlatReadable (now axis) edges nodes counts ⌝ }
-    ensures { λ r. ⌜ (r ≡ true → BaseFlat (now (axis .entry)) edges nodes (counts .nodes .base) (counts .edges .base)) ⌝ }
-{
-    let base = counts.edges.base;
-    let base_nodes = counts.nodes.base;
-    let mut seen = [0u64; 512];
-    let mut i: u32 = 0;
-    while i < base {
-        let e = axis[edges + i as usize];
-        if !entry_placed(axis, edges, nodes, base_nodes, i, e) {
-            return false;
-        }
-        if !mark(&mut seen, e as usize) {
-            return false;
-        }
-        i += 1;
-    }
-    true
-}
-
-// Whether every edge of the delta is linked, and none is linked to twice; only the yes is promised.
-fn delta_flat(axis: &[u32], edges: usize, nodes: usize, counts: Counts) -> bool
-    requires { ⌜ FlatReadable (now axis) edges nodes counts ⌝ }
-    ensures { λ r. ⌜ (r ≡ true → DeltaFlat (now (axis .entry)) edges (counts .edges .base) (counts .edges .bound)) ⌝ }
-{
-    let base = counts.edges.base;
-    let bound = counts.edges.bound;
-    let mut seen = [0u64; 512];
-    let mut e = base;
-    while e < bound {
-        if !edge_linked(axis, edges, nodes, base, bound, e) {
-            return false;
-        }
-        if !mark(&mut seen, axis[2 * edges + e as usize] as usize) {
-            return false;
-        }
-        e += 1;
-    }
-    true
-}
-
-// Whether no node is removed or has a run, and base and delta are flat, which is quick to see and enough; only the yes is promised.
-fn walks_flat(
-    axis: &[u32],
-    edges: usize,
-    nodes: usize,
-    counts: Counts,
-    live_nodes: &[u64],
-    live_edges: &[u64],
-) -> bool
-    requires { ⌜ WalksReadable (now axis) edges nodes counts (now «live_nodes») (now «live_edges») ⌝ }
-    ensures { λ r. ⌜ (r ≡ true → walks-test (now (axis .entry)) edges nodes counts (now («live_nodes» .entry)) (now («live_edges» .entry)) ≡ true) ⌝ }
-{
-    let bound = counts.nodes.bound;
-    if bound == 0 {
-        return false;
-    }
-    if counts.nodes.live != bound {
-        return false;
-    }
-    let slots = counts.nodes;
-    if !live_right(live_nodes, slots) {
-        return false;
-    }
-    if !words_below(axis, 4 * edges + 4 * nodes, bound as usize, 1) {
-        return false;
-    }
-    if !base_flat(axis, edges, nodes, counts) {
-        return false;
-    }
-    delta_flat(axis, edges, nodes, counts)
-}
-
-// Rule 7: the walks of all nodes list each live edge once, at its end, and nothing else.
+// Rule 7: the walks of all nodes list each live edge once, at its end, and nothing else. They are not followed where a quick test has told that they are right.
 pub fn walks_right(
     axis: &[u32],
     edges: usize,
@@ -266,13 +171,14 @@ pub fn walks_right(
     counts: Counts,
     live_nodes: &[u64],
     live_edges: &[u64],
+    known: bool,
 ) -> bool
-    requires { ⌜ WalksReadable (now axis) edges nodes counts (now «live_nodes») (now «live_edges») ⌝ }
+    requires { ⌜ WalksReadable (now axis) edges nodes counts (now «live_nodes») (now «live_edges») × (known ≡ true → walks-test (now axis) edges nodes counts (now «live_nodes») (now «live_edges») ≡ true) ⌝ }
     ensures { λ r. ⌜ r ≡ walks-test (now (axis .entry)) edges nodes counts (now («live_nodes» .entry)) (now («live_edges» .entry)) ⌝ }
 {
     let slots = counts.edges.bound as usize;
     let node_bound = counts.nodes.bound;
-    if walks_flat(axis, edges, nodes, counts, live_nodes, live_edges) {
+    if known {
         return true;
     }
     let mut seen = [0u64; 512];

@@ -1,4 +1,4 @@
--- `validate::broken_lists` meets its contract: the runs of both directions, then the walks.
+-- `validate::broken_lists` meets its contract: the runs of both directions, then the walks, each known to be right where the quick test has told so.
 use mathlib.Core.Path.{_≡_, sym, _∙_}
 use mathlib.Core.Bool.{true}
 use Rattle.plain.specs.declared.TraversalDirection.the-variants.{Outgoing, Incoming}
@@ -8,7 +8,7 @@ use Rattle.shape.specs.Rules.{runs-right, rule-6, walks-right, rule-7}
 use Rattle.shape.specs.Laws.Judging.{Structured}
 use Rattle.validate.specs.Passing.{refused, accepted}
 use Rattle.validate.specs.Broken.{structured, broken-lists}
-use Rattle.validate.proofs.Deciding.{runs-readable, walks-readable, walks-rule}
+use Rattle.validate.proofs.Deciding.{lists-readable, runs-readable, walks-readable, walks-rule}
 use Rattle.validate.proofs.broken_lists.Statement.{statement}
 use Rattle.validate.proofs.broken_lists.Tie as tie
 
@@ -17,7 +17,7 @@ abbrev lent : tie.Start → Words
 lent s = let a = s .args in store (a .counts) (a .nodes .now) (a .lows .now) (a .highs .now) (a .live-nodes .now) (a .live-edges .now) (a .outgoing .now) (a .incoming .now)
 
 abbrev start : tie.After-runs-right → tie.Start
-start r = r .before .before .before .before .before .before .before .before
+start r = r .before .before .before .before .before .before .before .before .before .before
 
 -- the runs of one direction pass
 runs-out : (c : tie.Else1)
@@ -65,20 +65,18 @@ returns-5 c =
     let k = h .before .before in
     rw (six k, walks-out h, sym (walks-rule _ Incoming (passed-six k)) ∙ accepted (c .before .walks-right2 .ensures) (c .if4 .left))
 
--- places behind the slices
-abbrev at-start : tie.After-shared-slice-known7 → tie.Start
-at-start c = c .before .before .before .before .before .before .before
-
 pub broken-lists-spec : {M : Type 1} → statement M
 broken-lists-spec =
     tie.close
     (tie.spec
-    (λ c κs. runs-readable (lent (at-start c)) Outgoing (at-start c .pre .counted .r1))
+    (λ c κs. let s = c .before .before .before .before .before .before .before in lists-readable (lent s) Outgoing (s .pre))
+    (λ c κs. let s = c .before .before .before .before .before .before .before .before in lists-readable (lent s) Incoming (s .pre))
+    (λ c κs. let s = c .before .before .before .before .before .before .before .before .before in (runs-readable (lent s) Outgoing (s .pre .counted .r1), λ h. c .before .lists-flat .ensures h .0))
     returns
-    (λ c κs. runs-readable (lent (start (c .before))) Incoming (start (c .before) .pre .counted .r1))
+    (λ c κs. let s = start (c .before) in (runs-readable (lent s) Incoming (s .pre .counted .r1), λ h. c .before .before .lists-flat2 .ensures h .0))
     returns-2
-    (λ c κs. walks-readable _ Outgoing (passed-six c))
+    (λ c κs. (walks-readable _ Outgoing (passed-six c), λ h. c .before .before .before .before .before .lists-flat .ensures h .1))
     returns-3
-    (λ c κs. walks-readable _ Incoming (passed-six (c .before .before)))
+    (λ c κs. (walks-readable _ Incoming (passed-six (c .before .before)), λ h. c .before .before .before .before .before .before .lists-flat2 .ensures h .1))
     returns-4
     returns-5)

@@ -1,36 +1,36 @@
 -- `validate::walks::live_marked` meets its contract. The loop's invariant: the slots from e on decide. The measure is the number of slots left.
-use Prim.Native.Nat.{ℕ, _-_, _/_, _≤_, _<_}
-use mathlib.Core.Path.{_≡_, refl, sym, _∙_}
-use mathlib.Core.Bool.{Bool, true, false, _||_, not}
+use Prim.Native.Nat.{ℕ, _-_, _/_, _%_, _≤_, _<_}
+use mathlib.Core.Path.{_≡_, sym, _∙_}
+use mathlib.Core.Bool.{true}
 use mathlib.Core.List.{List}
 use mathlib.Core.Logic.{⊎-elim}
 use lib.ListN.{getD}
-use borrow.Author.Tests.{ltb-true}
-use Rattle.plain.specs.Laws.Booleans.{below-or-not}
+use borrow.Author.Tests.{ltb-true, eq-eqb, eqb-true}
+use Rattle.plain.specs.Laws.Booleans.{by-test, below-or-not}
 use Rattle.plain.specs.Laws.ListLaws.{all-of, member-below}
-use Rattle.liveness.specs.Flags.{live-bit}
+use Rattle.liveness.specs.Flags.{bit, live-bit}
 use Rattle.liveness.specs.FlagLaws.{flag-at}
 use native.Mathlib.Omega.{arith}
 use borrow.Author.Needs.{needs}
 use Rattle.plain.specs.Lists.{all, from}
 use Rattle.liveness.specs.Flags.{live-flags}
 use Rattle.validate.specs.Passing.{refused, accepted, rest, rest-first, rest-more, rest-fails, rest-none}
-use Rattle.validate.specs.Walks.{marked-if-live}
+use Rattle.validate.specs.Walks.{Within, marked-if-live}
+use Rattle.validate.proofs.Marking.{within-and}
 use Rattle.validate.proofs.walks.live_marked.Statement.{statement}
 use Rattle.validate.proofs.walks.live_marked.Tie as tie
 
--- where the words that hold the slots are the same, every live slot is marked
-same-marked : (words seen : List ℕ) (slots : ℕ) → ((e : ℕ) → e < slots → getD words (e / 64) 0 ≡ getD seen (e / 64) 0)
+-- where the words that hold the slots are within those of the other map, every live slot is marked
+within-marked : (words seen : List ℕ) (slots : ℕ) → ((e : ℕ) → e < slots → Within (getD words (e / 64) 0) (getD seen (e / 64) 0))
     → true ≡ all (marked-if-live (live-flags words slots) (live-flags seen slots)) (from 0 slots)
 unfolding marked-if-live live-bit
-same-marked words seen slots same =
+within-marked words seen slots within =
     sym (all-of (marked-if-live (live-flags words slots) (live-flags seen slots)) (from 0 slots)
     (λ e m. let l = ltb-true e slots (sym (member-below e slots) ∙ m) in
-    rw (flag-at words slots e l, flag-at seen slots e l, same e l) (either (live-bit seen e))))
-  where
-    either : (b : Bool) → (not b || b) ≡ true
-    either true = refl
-    either false = refl
+    by-test (live-bit words e)
+    (λ q. rw (flag-at words slots e l, flag-at seen slots e l, q)
+    (eq-eqb (bit (getD seen (e / 64) 0) (e % 64)) 1 (within e l .bits (e % 64) (eqb-true (bit (getD words (e / 64) 0) (e % 64)) 1 q))))
+    (λ q. rw (flag-at words slots e l, q))))
 
 abbrev Inv-loop : tie.InvT-loop
 Inv-loop words seen slots full e₀ e =
@@ -45,15 +45,15 @@ loop-holds c = rest-first _ _
 returns : tie.Need-returns Inv-loop μ-loop
 returns c =
     let k = c .before in
-    same-marked _ _ _ (λ e l. k .before .words-same .ensures (k .if1 .taken) (e / 64) (omega (arith, c .if2 .taken)))
+    within-marked _ _ _ (λ e l. k .before .words-within .ensures (k .if1 .taken) (e / 64) (omega (arith, c .if2 .taken)))
 
 returns-2 : tie.Need-returns-2 Inv-loop μ-loop
 returns-2 c =
-    let k = c .before .before .before .before in
+    let k = c .before .before .before .before .before in
     let slots = k .before .before .before .before .args .slots in
-    same-marked _ _ _
-    (λ e l. ⊎-elim (λ b. k .before .words-same .ensures (k .if1 .taken) (e / 64) b)
-    (λ (b : slots / 64 ≤ e / 64). let at : e / 64 ≡ slots / 64 = omega arith in rw at (c .if3 .taken)) (below-or-not (e / 64) (slots / 64)))
+    within-marked _ _ _
+    (λ e l. ⊎-elim (λ b. k .before .words-within .ensures (k .if1 .taken) (e / 64) b)
+    (λ (b : slots / 64 ≤ e / 64). let at : e / 64 ≡ slots / 64 = omega arith in rw at (within-and _ _ (c .if3 .taken))) (below-or-not (e / 64) (slots / 64)))
 
 returns-3 : tie.Need-returns-3 Inv-loop μ-loop
 returns-3 c =
@@ -76,6 +76,8 @@ live-marked-spec =
     μ-loop
     (λ c κs. search needs)
     returns
+    (λ c. omega arith)
+    (λ c. omega arith)
     (λ c. omega arith)
     (λ c. omega arith)
     (λ c. omega arith)

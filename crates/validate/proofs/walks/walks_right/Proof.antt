@@ -12,27 +12,18 @@ use Rattle.validate.proofs.walks.walks_right.Statement.{statement}
 use Rattle.validate.proofs.walks.walks_right.Tie as tie
 
 abbrev Inv-loop : tie.InvT-loop
-Inv-loop axis edges nodes counts live-nodes live-edges slots node-bound seen₀ x₀ seen x = Walking axis edges nodes counts live-nodes live-edges x seen
+Inv-loop axis edges nodes counts live-nodes live-edges known slots node-bound seen₀ x₀ seen x = Walking axis edges nodes counts live-nodes live-edges x seen
 
 abbrev μ-loop : tie.MeasureT-loop
-μ-loop axis edges nodes counts live-nodes live-edges slots node-bound seen₀ x₀ seen x = node-bound - x
+μ-loop axis edges nodes counts live-nodes live-edges known slots node-bound seen₀ x₀ seen x = node-bound - x
 
 loop-holds : tie.Need-loop-holds Inv-loop μ-loop
 loop-holds c = walking-start _ _ _ _ _ _ (replicate 512 0) (clear-map 512) refl
 
--- places behind the slices
-abbrev at-start : tie.After-struct-known Inv-loop μ-loop → tie.Start Inv-loop μ-loop
-at-start c = c .before .before .before .before
-
 walk-right-requires : tie.Need-walk-right-requires Inv-loop μ-loop
 walk-right-requires c κs =
     let k = c .before .before in
-    let s = at-start (k .before .before .before .before) in
-    record { walkable = s .pre .walkable _ (k .loop-test .taken); marks-long = omega (arith, k .before .loop .inv .long) }
-
--- the walks are flat
-returns : tie.Need-returns Inv-loop μ-loop
-returns c = sym (c .before .walks-flat .ensures (c .if1 .taken))
+    record { walkable = c .before .before .before .before .before .before .before .before .before .pre .0 .walkable _ (k .loop-test .taken); marks-long = omega (arith, k .before .loop .inv .long) }
 
 returns-2 : tie.Need-returns-2 Inv-loop μ-loop
 returns-2 c =
@@ -50,7 +41,7 @@ loop-again c =
 returns-3 : tie.Need-returns-3 Inv-loop μ-loop
 returns-3 c =
     let k = c .before .before in
-    c .live-marked .ensures ∙ walking-done _ _ _ _ _ _ (k .before .loop .inv) (k .loop-test .left) (at-start (k .before .before .before .before) .pre .ends-below)
+    c .live-marked .ensures ∙ walking-done _ _ _ _ _ _ (k .before .loop .inv) (k .loop-test .left) (c .before .before .before .before .before .before .before .before .before .pre .0 .ends-below)
 
 pub walks-right-spec : {M : Type 1} → statement M
 walks-right-spec =
@@ -59,8 +50,7 @@ walks-right-spec =
     Inv-loop
     μ-loop
     (λ c. omega arith)
-    (λ c κs. search needs)
-    returns
+    (λ c. sym (c .before .before .before .before .before .pre .1 (c .if1 .taken)))
     loop-holds
     (λ c. omega arith)
     (λ c. omega arith)

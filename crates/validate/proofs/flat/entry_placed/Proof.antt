@@ -1,11 +1,11 @@
--- `validate::walks::entry_placed` meets its contract: where no test fails the entry is placed.
+-- `validate::flat::entry_placed` meets its contract: where no test fails the entry is placed.
 use mathlib.Core.Path.{refl}
 use borrow.Author.Needs.{needs}
 use borrow.Author.Tests.{ltb-true}
 use Rattle.plain.specs.Laws.Booleans.{true-false}
 use Rattle.validate.proofs.Flattening.{place-tested}
-use Rattle.validate.proofs.walks.entry_placed.Statement.{statement}
-use Rattle.validate.proofs.walks.entry_placed.Tie as tie
+use Rattle.validate.proofs.flat.entry_placed.Statement.{statement}
+use Rattle.validate.proofs.flat.entry_placed.Tie as tie
 
 returns-3 : tie.Need-returns-3
 returns-3 c =
