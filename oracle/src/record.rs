@@ -174,19 +174,13 @@ impl Recorder<'_> {
         Ok(())
     }
 
-    /// The store joined with itself, into memory with room for both, or with one slot too
-    /// few; each map is lent as many words.
+    /// The store joined with itself, into memory with room for any two that are recorded;
+    /// each map is lent as many words.
     fn join(&mut self, trio: &Trio) -> Result<(), Difference> {
-        let [nodes, edges] = trio.rust.counts();
-        let mut capacities = [2 * nodes, 2 * edges];
-        let which = self.rng.below(2);
-        if self.rng.one_in(4) {
-            capacities[which] = capacities[which].saturating_sub(1);
-        }
+        let capacities = [LOTSTRIP.nodes, LOTSTRIP.edges].map(|slots| 2 * slots as usize);
         let [nodes, edges] = trio.rust.bounds();
         let length = self.length(nodes.max(edges));
-        let [nodes, edges] = capacities;
-        let call = format!("join {nodes} {edges} {length}");
+        let call = format!("join {length}");
         let answered = |plain: &Plain, joined: fn([&Plain; 2]) -> (Plain, Maps)| {
             let answer = joining::answer([plain; 2], capacities, [length; 4]);
             let done = answer.number == 0;
@@ -517,21 +511,22 @@ impl Replay {
     /// A join: number and value beside each of the four maps and of the image that it
     /// leaves where it is done.
     fn join<'l>(&mut self, numbers: &[u64], lines: &mut impl Iterator<Item = &'l str>) {
-        self.call(22, &numbers[..3]);
+        self.call(22, &numbers[..1]);
+        let done = numbers[1] == 0;
         for _ in 0..4 {
-            let mut told = numbers[3..].to_vec();
-            if numbers[3] == 0 {
+            let mut told = numbers[1..].to_vec();
+            if done {
                 let text = lines.next().expect("a map a line");
                 let (_, words) = text.split_once(' ').unwrap_or((text, ""));
                 let map = numbers_of(words);
                 // All words lent are printed; those past the map are 0.
-                let past = numbers[2] as usize - map.len();
+                let past = numbers[0] as usize - map.len();
                 told.extend(map);
                 told.extend(vec![0; past]);
             }
             self.answer(&told);
         }
-        if numbers[3] == 0 {
+        if done {
             let text = lines.next().expect("the image");
             let bytes = bytes_of(text.strip_prefix("joined ").expect("its bytes"));
             let mut told = vec![0, bytes.len() as u64];

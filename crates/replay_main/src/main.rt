@@ -5,8 +5,7 @@
 // words lent for the answers, lines that follow: the five words of an operation each), 2 and 3 walk out and in (node, words lent), 4 and 5 live nodes and edges
 // (0, words lent), 6 node payload, 7 and 8 record in both readings, 9 bounds, counts, empty and compact, 10 and 11 degree out and in, 12 compaction (words lent for
 // the node map, the edge map and the work), 13 finding (two nodes), 14 writing the image (bytes lent), 15 reading an image (bytes, lines that follow: sixteen bytes
-// each, in the last four words), 16 and 17 total out and in, 22 the store joined with itself (node and edge capacity of the third memory, words lent for each of the four
-// maps).
+// each, in the last four words), 16 and 17 total out and in, 22 the store joined with itself (words lent for each of the four maps).
 
 use plain::Answer;
 use plain::Counts;
@@ -390,7 +389,7 @@ fn print_image(
     io::write_all(1, b"\n");
 }
 
-// The store joined with itself in a memory of the recorded capacities; where it is done, the four maps and the image of what is there.
+// The store joined with itself in a memory with room for any two that are recorded; where it is done, the four maps and the image of what is there.
 fn join_with_itself(
     counts: Counts,
     nodes: &[u32],
@@ -414,9 +413,7 @@ fn join_with_itself(
     let mut second_node_map: [u32; 2048] = [0; 2048];
     let mut second_edge_map: [u32; 2048] = [0; 2048];
     let mut bytes: [u8; 32768] = [0; 32768];
-    let n = within(call.first, &all_nodes);
-    let e = within(call.second, &all_lows);
-    let room = within(call.third, &first_node_map);
+    let room = within(call.first, &first_node_map);
     let changed = join::join(
         counts,
         nodes,
@@ -434,8 +431,8 @@ fn join_with_itself(
         live_edges,
         outgoing,
         incoming,
-        &mut all_nodes[..n],
-        &mut all_lows[..e],
+        &mut all_nodes,
+        &mut all_lows,
         &mut all_highs,
         &mut all_live_nodes,
         &mut all_live_edges,
@@ -446,7 +443,7 @@ fn join_with_itself(
         &mut second_node_map[..room],
         &mut second_edge_map[..room],
     );
-    let lent = wide(call.third);
+    let lent = wide(call.first);
     print_written(changed.number, changed.value, &first_node_map, lent);
     print_written(changed.number, changed.value, &first_edge_map, lent);
     print_written(changed.number, changed.value, &second_node_map, lent);
@@ -454,8 +451,8 @@ fn join_with_itself(
     if changed.number == 0 {
         print_image(
             changed.counts,
-            &all_nodes[..n],
-            &all_lows[..e],
+            &all_nodes,
+            &all_lows,
             &all_highs,
             &all_live_nodes,
             &all_live_edges,
