@@ -75,8 +75,8 @@ fn main() {
     fs::write(out.join("graph.rs"), declaration).expect("OUT_DIR can be written");
 }
 
-/// The proved code: `ORACLE_PORT` names the directory with its static libraries,
-/// which are linked, and `cfg(ported)` is set.
+/// The proved code: `ORACLE_PORT` names the directory with its static library,
+/// which is linked, and `cfg(ported)` is set.
 fn link_port() {
     println!("cargo::rustc-check-cfg=cfg(ported)");
     println!("cargo::rerun-if-env-changed=ORACLE_PORT");
@@ -84,11 +84,9 @@ fn link_port() {
         return;
     };
     println!("cargo::rustc-link-search=native={}", directory.display());
-    for library in ["layers", "boundary"] {
-        let file = directory.join(format!("lib{library}.a"));
-        println!("cargo::rerun-if-changed={}", file.display());
-        println!("cargo::rustc-link-lib=static={library}");
-    }
+    let file = directory.join("libboundary.a");
+    println!("cargo::rerun-if-changed={}", file.display());
+    println!("cargo::rustc-link-lib=static=boundary");
     println!("cargo::rustc-cfg=ported");
 }
 

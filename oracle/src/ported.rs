@@ -1,12 +1,7 @@
-//! The proved Rattle code beside the Rust store: the static libraries of crates
-//! `layers` and `boundary` are linked, the latter through its Rust wrapper, the same steps are made on both, and what
-//! both tell is compared.
-//!
-//! The modules below own the memory and test what each contract requires before
-//! the call. What does not hold after a step is a difference, and what does not
-//! hold in the middle of one panics, which is a difference too.
+//! The proved Rattle code beside the Rust store: the static library of crate
+//! `boundary` is linked through its Rust wrapper, the same steps are made on both,
+//! and what both tell is compared. The public entries require nothing.
 
-mod axis;
 #[cfg(feature = "serde")]
 pub mod benchmark;
 #[cfg(feature = "serde")]
@@ -16,16 +11,13 @@ mod chains;
 mod columns;
 #[cfg(feature = "serde")]
 mod damaged;
-mod exports;
 mod images;
 #[cfg(feature = "serde")]
 mod joins;
-mod live;
 mod maps;
 mod memory;
 #[cfg(feature = "serde")]
 mod ranges;
-#[cfg(feature = "serde")]
 mod rules;
 mod skid;
 mod strips;
@@ -35,17 +27,14 @@ use crate::calls::{self, Lots};
 use crate::compare::Touched;
 use crate::generate::Step;
 use crate::graph::store::{Graph, Renumbering};
-#[cfg(feature = "serde")]
-use crate::lots::LotBook;
+use crate::lots::{Compaction, Counts, LotBook, Refused, Slots};
 use crate::model::{Answer, Capacities, DIRECTIONS, Model, NONE, Operation};
 use crate::rust_store::{self, RustStore, edge, node, record};
 use crate::sequences::{self, Same, Sides};
-use crate::shape::{Shape, side_of};
-use crate::tally::{Difference, Tally, Thing};
-use exports::{Counts, Slots};
-use live::Live;
-use memory::{Memory, Reader};
-use words::Words;
+use crate::shape::Shape;
+use crate::tally::{Tally, Thing};
+use columns::Column;
+use words::{LISTS, answer, listed};
 
 /// What stands past a list in a lent slice, to see that it stays.
 const PAST: [u32; 2] = [0xdead_beef, 7];
@@ -64,21 +53,13 @@ fn kept(mut words: Vec<u32>) -> Vec<u32> {
     words
 }
 
-/// What makes strips by the proved code.
-trait Port {
-    /// The call's own answer.
-    fn strip(&mut self, words: &[u32], answers: &mut [u32]) -> Answer;
-    /// A copy of all that is lent for a store.
-    fn words(&self) -> Words;
-}
-
 /// Makes a strip on all sides, with an answer slice of so many words. Where the
 /// strip or each of its operations is refused, every word of the memory stays.
 fn compare_strip(
     model: &mut Model,
     shape: &mut Shape,
     rust: &mut RustStore,
-    port: &mut impl Port,
+    book: &mut LotBook,
     words: &[u32],
     length: usize,
     tally: &mut Tally,
@@ -102,12 +83,12 @@ fn compare_strip(
             shape.operation(operation, answer.value);
         }
     }
-    let before = refused.then(|| port.words());
+    let before = refused.then(|| book.memory().clone());
     let expected = (answered.err().unwrap_or(Answer::done(0)), expected);
-    let given = (port.strip(words, &mut given), given);
+    let given = (answer(book.strip_words(words, &mut given)), given);
     tally.same(Thing::PortAnswer, place, expected, given)?;
     if let Some(before) = before {
-        tally.same(Thing::PortRefusal, place, before, port.words())?;
+        tally.same(Thing::PortRefusal, place, &before, book.memory())?;
     }
     Ok(())
 }
@@ -118,7 +99,7 @@ pub struct Ported {
     /// What the port's runs hold, dead entries included.
     shape: Shape,
     rust: RustStore,
-    memory: Memory,
+    book: LotBook,
     /// The latest compaction's maps.
     renumbering: Option<Renumbering>,
 }
@@ -131,7 +112,7 @@ impl Sides for Ported {
             model: Lots::fresh(capacities),
             shape: Shape::of(&Graph::new()),
             rust: RustStore::fresh(capacities),
-            memory: Memory::fresh(capacities),
+            book: LotBook::from_memory(memory::fresh(capacities)),
             renumbering: None,
         }
     }
@@ -156,10 +137,9 @@ impl Sides for Ported {
         if everything {
             return self.compare_everything(tally);
         }
-        let reader = self.compare_whole(tally)?;
-        let bound = self.rust.graph.node_bound() as u32;
-        for node in touched.into_iter().filter(|&node| node < bound) {
-            self.compare_node(&reader, node, tally)?;
+        self.compare_whole(tally)?;
+        for node in touched {
+            self.compare_node(node, tally)?;
         }
         Ok(())
     }
@@ -170,7 +150,7 @@ impl Ported {
     #[cfg(feature = "serde")]
     pub fn foreign(model: Model, rust: RustStore) -> Self {
         Self {
-            memory: Memory::of(&rust),
+            book: LotBook::from_memory(memory::of(&rust)),
             shape: Shape::of(&rust.graph),
             model,
             rust,
@@ -183,79 +163,94 @@ impl Ported {
             model,
             shape,
             rust,
-            memory,
+            book,
             ..
         } = self;
-        compare_strip(model, shape, rust, memory, words, length, tally)
+        compare_strip(model, shape, rust, book, words, length, tally)
     }
 
     fn compact(&mut self, tally: &mut Tally) -> Same {
+        let place = || "a compaction".to_string();
+        let given = self.book.compact().map_err(Answer::from);
         let kept = self.model.compact().plain;
         let (renumbering, _) = self.rust.compact_as(&kept);
+        let [node_map, edge_map] = rust_store::maps(&renumbering);
+        let [outgoing, incoming] = self.rust.graph.compressed_base().map(|(_, joined)| joined);
+        let expected = Compaction {
+            node_map,
+            edge_map,
+            outgoing: outgoing.to_vec(),
+            incoming: incoming.to_vec(),
+        };
+        tally.same(Thing::PortCompaction, place, Ok(expected), given)?;
         self.shape = Shape::compacted(&kept);
         maps::compare_lookups(&renumbering, tally)?;
         if let Some(earlier) = &self.renumbering {
             maps::compare_composed(earlier, &renumbering, tally)?;
         }
         self.renumbering = Some(renumbering);
-        self.rebuild(tally)
+        self.compare_offsets(tally)
     }
 
     fn read(&mut self, bytes: &[u8], tally: &mut Tally) -> Same {
+        let place = || "reading an image".to_string();
+        let given = answer(self.book.read_image(bytes));
+        tally.same(Thing::PortReading, place, Answer::done(0), given)?;
         let Capacities { nodes, edges } = self.model.capacities;
         let read = calls::read_image(nodes.into(), edges.into(), bytes);
         self.model = read.expect("a written image can be read");
         self.rust.put(&self.model.plain);
         self.shape = Shape::compacted(&self.model.plain);
         self.renumbering = None;
-        self.rebuild(tally)
+        self.compare_offsets(tally)
     }
 
-    /// Puts the Rust's new base into the memory: its ends and joined lists, from
-    /// which the proved functions count the offsets and place the edges.
-    fn rebuild(&mut self, tally: &mut Tally) -> Same {
-        let graph = &self.rust.graph;
-        let edges = 0..graph.edge_bound() as u32;
-        let ends = DIRECTIONS.map(side_of).map(|side| -> Vec<u32> {
-            let end = |slot| record(graph, slot)[side];
-            edges.clone().map(end).collect()
-        });
+    /// The offsets of a new base; its joined lists are the base parts.
+    fn compare_offsets(&self, tally: &mut Tally) -> Same {
+        let (graph, memory) = (&self.rust.graph, self.book.memory());
         let bases = graph.compressed_base();
-        let sides = [(&*ends[0], bases[0].1), (&*ends[1], bases[1].1)];
-        let payloads = rust_store::payloads(graph);
-        self.memory.rebuild([&payloads[0], &payloads[1]], sides);
-
-        for (side, direction) in DIRECTIONS.into_iter().enumerate() {
+        for ((side, direction), base) in memory.sides().iter().zip(DIRECTIONS).zip(bases) {
             let place = || format!("base, {direction:?}");
             let (offsets, _) = graph.compress_again(direction);
-            let given = self.memory.offsets(side);
+            let given = side.offsets(memory.counts.nodes.base as usize);
             tally.same(Thing::PortIndex, place, &*offsets, &*given)?;
             // The Rust has no offsets before the first compaction.
-            if !bases[side].0.is_empty() {
-                tally.same(Thing::PortIndex, place, bases[side].0, &*given)?;
+            if !base.0.is_empty() {
+                tally.same(Thing::PortIndex, place, base.0, &*given)?;
             }
         }
         Ok(())
     }
 
     pub fn compare_everything(&self, tally: &mut Tally) -> Same {
-        let reader = self.compare_whole(tally)?;
+        self.compare_whole(tally)?;
         let place = || "the store".to_string();
-        let answer = self.memory.words().check();
-        tally.same(Thing::PortCheck, place, Answer::done(0), answer)?;
+        tally.same(
+            Thing::PortRules,
+            place,
+            0,
+            self.book.memory().first_broken(),
+        )?;
         self.compare_live(tally)?;
         self.compare_records(tally)?;
-        self.compare_parts(&reader, tally)?;
-        for node in 0..self.rust.graph.node_bound() as u32 {
-            self.compare_node(&reader, node, tally)?;
+        self.compare_parts(tally)?;
+        for node in self.some(self.rust.graph.node_bound()) {
+            self.compare_node(node, tally)?;
         }
         Ok(())
     }
 
-    /// Bounds, base counts and counts of live slots, kept and counted, and the
-    /// rules that reading requires; then the memory can be read.
-    fn compare_whole(&self, tally: &mut Tally) -> Result<Reader<'_>, Difference> {
-        let (graph, memory) = (&self.rust.graph, &self.memory);
+    /// All slots below a bound; of a large store some, not always the same: each call
+    /// that reads one checks the whole store.
+    fn some(&self, bound: usize) -> impl Iterator<Item = u32> + use<> {
+        let step = 1 + bound / 64;
+        let first = self.rust.graph.edge_count() % step;
+        (first as u32..bound as u32).step_by(step)
+    }
+
+    /// Bounds, base counts and counts of live slots, and the check.
+    fn compare_whole(&self, tally: &mut Tally) -> Same {
+        let graph = &self.rust.graph;
         let place = || "the store".to_string();
         let [base_nodes, base_edges] = graph.base_counts();
         let slots = |bound: usize, base: usize, live: usize| Slots {
@@ -267,106 +262,112 @@ impl Ported {
             nodes: slots(graph.node_bound(), base_nodes, graph.node_count()),
             edges: slots(graph.edge_bound(), base_edges, graph.edge_count()),
         };
-        tally.same(Thing::PortCount, place, expected, memory.counts())?;
-        let expected = [graph.node_count(), graph.edge_count()].map(Some);
-        let given = [memory.nodes.count(), memory.edges.count()];
-        tally.same(Thing::PortCount, place, expected, given)?;
-        let reader = memory.reader();
-        tally.same(Thing::PortRules, place, None, reader.as_ref().err())?;
-        Ok(reader.expect("no rule is broken"))
+        tally.same(Thing::PortCount, place, expected, self.book.memory().counts)?;
+        let given = answer(self.book.check());
+        tally.same(Thing::PortCheck, place, Answer::done(0), given)
     }
 
+    /// The lists of live slots; slots, and some past the last, whether each is live.
     fn compare_live(&self, tally: &mut Tally) -> Same {
-        let (graph, memory) = (&self.rust.graph, &self.memory);
-        compare_slots(&memory.nodes, |slot| graph.contains_node(node(slot)), tally)?;
-        compare_slots(&memory.edges, |slot| graph.contains_edge(edge(slot)), tally)
-    }
-
-    /// Payloads of nodes, ends and payloads of edges, removed ones too.
-    fn compare_records(&self, tally: &mut Tally) -> Same {
-        let (graph, memory) = (&self.rust.graph, &self.memory);
-        for slot in 0..graph.node_bound() as u32 {
-            let place = || format!("node {slot}");
-            let (expected, given) = (*graph.node(node(slot)), memory.node_payload(slot as usize));
-            tally.same(Thing::PortRecord, place, expected, given)?;
-        }
-        for slot in 0..graph.edge_bound() as u32 {
-            let place = || format!("edge {slot}");
-            let (expected, given) = (record(graph, slot), memory.record(slot as usize));
-            tally.same(Thing::PortRecord, place, expected, given)?;
-        }
-        Ok(())
-    }
-
-    /// Base parts, runs and rings of every node, as the columns hold them.
-    fn compare_parts(&self, reader: &Reader, tally: &mut Tally) -> Same {
-        let graph = &self.rust.graph;
-        for (side, direction) in reader.sides.iter().zip(DIRECTIONS) {
-            for (node, part) in graph.parts(direction).into_iter().enumerate() {
-                let place = || format!("node {node}, {direction:?}");
-                let given = side.part(node);
-                tally.ran(given.run.as_ref().map_or(0, Vec::len));
-                let held = self.shape.part(direction, node);
-                tally.same(Thing::PortRun, place, held, &given)?;
-                let live = |slot| graph.contains_edge(edge(slot));
-                let [part, given] = [part, given].map(|part| part.struck(live));
-                tally.same(Thing::PortPart, place, &part, &given)?;
-                let ends = [part.ring.first(), part.ring.last()];
-                let expected = ends.map(|end| end.copied().unwrap_or(NONE));
-                let given = side.ring_ends(node);
-                tally.same(Thing::PortRingEnds, place, expected, given)?;
+        type Contains = fn(&LotBook, u32) -> Result<bool, Refused>;
+        let (graph, book) = (&self.rust.graph, &self.book);
+        let kinds: [(_, &dyn Fn(u32) -> bool, _, Contains); 2] = [
+            (
+                graph.node_bound(),
+                &|slot| graph.contains_node(node(slot)),
+                book.node_ids(),
+                LotBook::contains_node,
+            ),
+            (
+                graph.edge_bound(),
+                &|slot| graph.contains_edge(edge(slot)),
+                book.edge_ids(),
+                LotBook::contains_edge,
+            ),
+        ];
+        for (bound, live, given, contains) in kinds {
+            let place = || "live slots".to_string();
+            let expected = (0..bound as u32).filter(|&slot| live(slot)).collect();
+            tally.same(Thing::PortLive, place, Ok::<Vec<u32>, _>(expected), given)?;
+            let past = [bound as u32, bound as u32 + 1, bound as u32 + 64, NONE];
+            for slot in self.some(bound).chain(past) {
+                let place = || format!("slot {slot}");
+                let given = contains(book, slot);
+                tally.same(Thing::PortLive, place, Ok(live(slot)), given)?;
             }
         }
         Ok(())
     }
 
-    /// Walk, count, degree and neighbors of a node, both ways.
-    fn compare_node(&self, reader: &Reader, slot: u32, tally: &mut Tally) -> Same {
-        let graph = &self.rust.graph;
-        let live = reader.nodes.is_live(slot);
-        let [outgoing, incoming] = &reader.sides;
-        let sides = [(outgoing, incoming), (incoming, outgoing)];
-        for ((side, far), direction) in sides.into_iter().zip(DIRECTIONS) {
+    /// Payloads of nodes, ends and payloads of edges, removed ones too, as the memory
+    /// holds them.
+    fn compare_records(&self, tally: &mut Tally) -> Same {
+        let (graph, memory) = (&self.rust.graph, self.book.memory());
+        for (slot, &given) in (0..graph.node_bound() as u32).zip(&memory.nodes) {
+            let place = || format!("node {slot}");
+            tally.same(Thing::PortRecord, place, *graph.node(node(slot)), given)?;
+        }
+        let [outgoing, incoming] = memory.sides();
+        for slot in 0..graph.edge_bound() {
+            let place = || format!("edge {slot}");
+            let expected = record(graph, slot as u32);
+            let [source, target] = [outgoing, incoming].map(|side| side.word(Column::Ends, slot));
+            let given = [source, target, memory.lows[slot], memory.highs[slot]];
+            tally.same(Thing::PortRecord, place, expected, given)?;
+        }
+        Ok(())
+    }
+
+    fn compare_parts(&self, tally: &mut Tally) -> Same {
+        let things = [Thing::PortRun, Thing::PortPart];
+        compare_parts(&self.rust, &self.shape, &self.book, things, tally)
+    }
+
+    /// Walk, degree and far ends of a node, both ways.
+    fn compare_node(&self, slot: u32, tally: &mut Tally) -> Same {
+        let (rust, book) = (&self.rust, &self.book);
+        for (direction, [edges, ends], degree) in LISTS {
             let place = || format!("node {slot}, {direction:?}");
-            let node = slot as usize;
-            let expected = rust_store::walk(graph, direction, slot);
-            let expected = (expected.len(), expected.clone(), expected);
-            let given = (
-                side.count(node, live),
-                side.walk(node, live),
-                side.steps(node, live),
-            );
-            tally.same(Thing::PortWalk, place, expected, given)?;
-            let expected = rust_store::degree(graph, direction, slot) as usize;
-            let given = side.degree(node, live);
+            let walk = calls::walk(rust, direction, slot, usize::MAX);
+            let needed = walk.as_ref().map_or(0, Vec::len);
+            let far = walk.clone().map(|_| rust.neighbors(direction, slot));
+            let expected = walk.clone().map(|_| rust.degree(direction, slot));
+            let given = degree(book, slot).map_err(Answer::from);
             tally.same(Thing::PortDegree, place, expected, given)?;
-            let expected = rust_store::neighbors(graph, direction, slot);
-            let given = side.neighbors(far, node, live);
-            tally.same(Thing::PortNeighbors, place, expected, given)?;
+            for (thing, expected, call) in [
+                (Thing::PortWalk, walk, edges),
+                (Thing::PortNeighbors, far, ends),
+            ] {
+                let expected = expected.map(|list| (list.len(), list));
+                let given = listed(needed, |slots| call(book, slot, slots));
+                tally.same(thing, place, expected, given)?;
+            }
         }
         Ok(())
     }
 }
 
-/// Every slot and some above: whether it is live, how many live ones stand
-/// before it, and the next live one, all by the Rust's own answer.
-fn compare_slots(live: &Live, rust: impl Fn(u32) -> bool, tally: &mut Tally) -> Same {
-    let bound = live.bound() as u32;
-    let mut rank = 0;
-    let mut next = (0..bound).find(|&slot| rust(slot)).unwrap_or(bound);
-    for slot in (0..bound).chain([bound, bound + 1, bound + 64, NONE]) {
-        let place = || format!("slot {slot}");
-        if slot < bound && slot > next {
-            next = (slot..bound).find(|&slot| rust(slot)).unwrap_or(bound);
+/// Base parts, runs and rings of every node, as the memory holds them: by the model
+/// with dead entries, and by the Rust without those of runs.
+fn compare_parts(
+    rust: &RustStore,
+    shape: &Shape,
+    book: &LotBook,
+    [by_model, by_rust]: [Thing; 2],
+    tally: &mut Tally,
+) -> Same {
+    let (graph, memory) = (&rust.graph, book.memory());
+    for (side, direction) in memory.sides().iter().zip(DIRECTIONS) {
+        for (node, part) in graph.parts(direction).into_iter().enumerate() {
+            let place = || format!("node {node}, {direction:?}");
+            let given = side.part(memory.counts, node);
+            tally.ran(given.run.as_ref().map_or(0, Vec::len));
+            let held = shape.part(direction, node);
+            tally.same(by_model, place, held, &given)?;
+            let live = |slot| graph.contains_edge(edge(slot));
+            let [part, given] = [part, given].map(|part| part.struck(live));
+            tally.same(by_rust, place, part, given)?;
         }
-        let expected = (rust(slot), rank, next.max(slot.min(bound)) as usize);
-        let given = (
-            live.is_live(slot),
-            live.rank(slot as usize),
-            live.next(slot as usize),
-        );
-        tally.same(Thing::PortLive, place, expected, given)?;
-        rank += usize::from(rust(slot));
     }
     Ok(())
 }
@@ -394,7 +395,7 @@ pub fn compare(operations: u64, depth: usize, seed: u64, tally: &mut Tally) -> S
 /// The out-list of node 0 after a compaction by the proved code.
 #[cfg(feature = "serde")]
 pub fn compacted_walk(rust: &RustStore) -> Vec<u32> {
-    let mut book = LotBook::from_memory(Memory::of(rust).words());
+    let mut book = LotBook::from_memory(memory::of(rust));
     book.compact().expect("a store");
     book.outgoing(0).expect("a store")
 }

@@ -299,7 +299,7 @@ pub fn record(graph: &Graph<u32, u32>, slot: u32) -> [u32; 4] {
 }
 
 /// The payloads of all nodes and of all edges, removed ones too.
-#[cfg(ported)]
+#[cfg(all(ported, feature = "serde"))]
 pub fn payloads(graph: &Graph<u32, u32>) -> [Vec<u32>; 2] {
     let nodes = 0..graph.node_bound() as u32;
     let edges = 0..graph.edge_bound() as u32;

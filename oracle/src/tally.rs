@@ -98,11 +98,11 @@ things! {
         "Each operation leaves two words in the answer slice: number and value.";
     PortRefusal: "port: words after a refused strip, or a strip of refused operations",
         "A refused operation changes nothing";
-    PortCount: "port: counts, and live bits counted",
+    PortCount: "port: counts",
         "a new slot is the bound, which rises by one; a bound or count itself";
-    PortLive: "port: live bits, ranks and next live slots",
+    PortLive: "port: lists of live slots, and yes or no: live",
         "it is live until removed; Out of range is not live.";
-    PortRules: "port: rules 1, 2, 4, 5 and 6, which the contracts require",
+    PortRules: "port: rules 1 to 7, by the oracle's own reading of the words",
         "Rules 1 to 5 and 7 are those of `validate.rs` in its order";
     PortRecord: "port: node payloads, ends and payloads of edges",
         "a payload is the one last given; Removed edges keep their last ends.";
@@ -112,11 +112,13 @@ things! {
         "Against the Rust, run contents are from now on matched after dead entries are struck from both sides.";
     PortRun: "port: base parts, runs and rings, dead entries included, by the model",
         "`sweep` now drops dead slots at every edit of a run";
-    PortRingEnds: "port: ends of rings",
-        "Adding an edge appends it to its source's out-list and target's in-list.";
-    PortIndex: "port: offsets and joined lists",
+    PortCompaction: "port: compactions, their maps and work slices",
+        "Compaction drops the dead slots, numbers the live ones from 0 in slot order";
+    PortReading: "port: images read",
+        "and the result equals what compaction leaves";
+    PortIndex: "port: offsets",
         "the out-lists of nodes 0 up to n−1 joined, then the in-lists";
-    PortWalk: "port: walks, whole and edge by edge, and counted",
+    PortWalk: "port: walks",
         "A walk is the list";
     PortDegree: "port: degrees",
         "a degree its length";

@@ -4,8 +4,8 @@
 //! Workloads of operations: the same operations to the Rust's own calls, one after
 //! another, and to the wrapper's lot book in strips. Each strip checks the whole
 //! store before it begins; what that takes is timed by itself on the same store
-//! just before the strip. Reads: every list through the public entries, which check
-//! the whole store for each, and through the internal functions behind them.
+//! just before the strip. Reads: lists of some nodes through the public entries,
+//! which check the whole store for each.
 //!
 //! The check: timed are one call of `lot_check` and one of `Graph::try_from` in `validate.rs`
 //! on the decoded columns of the same store, in turns; not timed are the decoding
@@ -18,8 +18,8 @@ mod shapes;
 
 use std::time::{Duration, Instant};
 
-use super::Port;
-use super::memory::Memory;
+use super::memory;
+use super::words::LISTS;
 use crate::calls::Lots;
 use crate::checked::{put_ring, read, written};
 use crate::graph::store::Graph;
@@ -63,7 +63,7 @@ fn median(mut times: Vec<Duration>) -> f64 {
 }
 
 fn compare(name: &str, rust: &RustStore) {
-    let book = LotBook::from_memory(Memory::of(rust).words());
+    let book = LotBook::from_memory(memory::of(rust));
     let written = serde_json::to_value(&rust.graph).expect("a store can be written");
     let mut times = [const { Vec::new() }; 3];
     for _ in 0..TIMES {
@@ -100,7 +100,7 @@ const IMAGES: usize = 51;
 
 impl Pair {
     fn of(rust: RustStore) -> Self {
-        let book = LotBook::from_memory(Memory::of(&rust).words());
+        let book = LotBook::from_memory(memory::of(&rust));
         Self { rust, book }
     }
 
@@ -241,87 +241,57 @@ impl Pair {
         );
     }
 
-    /// Every list and every degree, both ways: by the internal functions, and by
-    /// the public entries for some nodes.
+    /// Lists and degrees of some nodes, both ways. Each public call checks the whole
+    /// store, which takes far longer than a short list: what walking takes is told by
+    /// the reads of a hub (`shapes.rs`).
     fn compare_reads(&self) {
         const SOME: u32 = 256;
-        let memory = Memory::of(&self.rust);
-        let reader = memory.reader().expect("no rule is broken");
         let graph = &self.rust.graph;
-        let nodes = 0..graph.node_bound() as u32;
-        let mut sums = [0usize; 2];
-        let mut timed = |action: &mut dyn FnMut() -> usize, side: usize| {
+        let each = |call: &mut dyn FnMut(usize, u32) -> usize| -> usize {
+            let sides = (0..2).flat_map(|side| (0..SOME).map(move |node| (side, node)));
+            sides.map(|(side, node)| call(side, node)).sum()
+        };
+        let timed = |call: &mut dyn FnMut(usize, u32) -> usize| {
+            let mut sum = 0;
             let mut times = Vec::new();
             for _ in 0..REPEATS {
                 let began = Instant::now();
-                sums[side] = action();
+                sum = each(call);
                 times.push(began.elapsed());
             }
-            (median(times), sums[side])
+            (median(times) / f64::from(2 * SOME), sum)
         };
-        let tell = |name: &str, port: (f64, usize), public: f64, rust: (f64, usize)| {
+        let tell = |name: &str, port: (f64, usize), rust: (f64, usize)| {
             assert_eq!(port.1, rust.1, "both sides read the same");
             println!(
-                "{name} of all nodes, both ways: port {:.0} µs without checks, Rust {:.0} µs, ratio {:.2}; \
-                 a public call, with its check, {public:.0} µs",
-                port.0,
-                rust.0,
-                port.0 / rust.0
+                "{name}, a node: a public call, with its check, {:.0} µs; Rust {:.3} µs",
+                port.0, rust.0
             );
-        };
-        let each = |call: &mut dyn FnMut(usize, u32) -> usize| {
-            let nodes = nodes.clone();
-            let sides = (0..2).flat_map(|side| nodes.clone().map(move |node| (side, node)));
-            sides.map(|(side, node)| call(side, node)).sum()
-        };
-        let some = |call: &mut dyn FnMut(u32) -> u32| -> usize {
-            (0..SOME).map(|node| call(node) as usize).sum()
         };
         // Both sides fill one buffer, again and again.
         let mut out = vec![0; graph.edge_bound()];
-        let port = timed(
-            &mut || {
-                each(&mut |side, node| {
-                    let count = reader.sides[side].write(node as usize, true, &mut out);
-                    std::hint::black_box(&out[..count]).len()
-                })
-            },
-            0,
-        );
-        let public = timed(
-            &mut || some(&mut |node| self.book.outgoing(node).expect("a store").len() as u32),
-            0,
-        );
-        let rust = timed(
-            &mut || {
-                each(&mut |side, node| {
-                    let edges = rust_store::edges_of(graph, DIRECTIONS[side], node);
-                    let mut count = 0;
-                    for (word, edge) in out.iter_mut().zip(edges) {
-                        *word = edge;
-                        count += 1;
-                    }
-                    std::hint::black_box(&out[..count]).len()
-                })
-            },
-            1,
-        );
-        tell("walks", port, public.0 / f64::from(SOME), rust);
-        let port = timed(
-            &mut || each(&mut |side, node| reader.sides[side].degree(node as usize, true)),
-            0,
-        );
-        let public = timed(
-            &mut || some(&mut |node| self.book.out_degree(node).expect("a store")),
-            0,
-        );
-        let rust = timed(
-            &mut || {
-                each(&mut |side, node| rust_store::degree(graph, DIRECTIONS[side], node) as usize)
-            },
-            1,
-        );
-        tell("degrees", port, public.0 / f64::from(SOME), rust);
+        let port = timed(&mut |side, node| {
+            let (_, [edges, _], _) = LISTS[side];
+            let count = edges(&self.book, node, &mut out).expect("a store") as usize;
+            std::hint::black_box(&out[..count]).len()
+        });
+        let rust = timed(&mut |side, node| {
+            let edges = rust_store::edges_of(graph, DIRECTIONS[side], node);
+            let mut count = 0;
+            for (word, edge) in out.iter_mut().zip(edges) {
+                *word = edge;
+                count += 1;
+            }
+            std::hint::black_box(&out[..count]).len()
+        });
+        tell("walks", port, rust);
+        let port = timed(&mut |side, node| {
+            let (_, _, degree) = LISTS[side];
+            degree(&self.book, node).expect("a store") as usize
+        });
+        let rust =
+            timed(&mut |side, node| rust_store::degree(graph, DIRECTIONS[side], node) as usize);
+        tell("degrees", port, rust);
     }
 }
 
@@ -510,7 +480,7 @@ fn part(slots: u32, rng: &mut Rng) -> LotBook {
     for edge in (0..slots).step_by(8) {
         rust.operation([3, edge, 0, 0, 0]);
     }
-    LotBook::from_memory(Memory::of(&rust).words())
+    LotBook::from_memory(memory::of(&rust))
 }
 
 /// Two books joined, beside the compactions of both; all three calls make their checks.

@@ -8,18 +8,17 @@
 use std::fmt;
 
 use super::damaged::{damage, written};
-use super::memory::Memory;
+use super::memory;
 use super::ranges::{self, Ranged};
 use super::strips::operations;
-use super::words::{Words, judge};
-use super::{Port, compare_strip, kept, lent};
+use super::words::{LISTS, Words, judge, listed};
+use super::{compare_parts, compare_strip, kept, lent};
 use crate::calls::{self, Lots, Searched};
 use crate::checked::read;
 use crate::generate::{
     Generator, MEDIUM, MIXES, Mix, SHORT, Size, WHOLE_SKID, compact_lists, one_weight,
 };
 use crate::graph::store::Graph;
-use crate::graph::traverse::TraversalDirection;
 use crate::image;
 use crate::lots::{Device, EdgePayload, EdgeRecord, LotBook, Refused, maps};
 use crate::model::{Answer, Capacities, DIRECTIONS, Model, NONE};
@@ -29,34 +28,6 @@ use crate::rust_store::{self, RustStore};
 use crate::sequences::{Same, guarded};
 use crate::shape::Shape;
 use crate::tally::{Difference, Tally, Thing};
-
-impl Port for LotBook {
-    fn strip(&mut self, words: &[u32], answers: &mut [u32]) -> Answer {
-        let result = self.strip_words(words, answers);
-        result.map_or_else(Answer::from, |()| Answer::done(0))
-    }
-
-    fn words(&self) -> Words {
-        self.memory().clone()
-    }
-}
-
-type ListRead = fn(&LotBook, u32, &mut [u32]) -> Result<u32, Refused>;
-type NodeRead = fn(&LotBook, u32) -> Result<u32, Refused>;
-
-/// The reads of a node's list: edges and far ends, and how many.
-const LISTS: [(TraversalDirection, [ListRead; 2], NodeRead); 2] = [
-    (
-        TraversalDirection::Outgoing,
-        [LotBook::outgoing_into, LotBook::successors_into],
-        LotBook::out_degree,
-    ),
-    (
-        TraversalDirection::Incoming,
-        [LotBook::incoming_into, LotBook::predecessors_into],
-        LotBook::in_degree,
-    ),
-];
 
 /// A list into a slice with words to spare, and now and then into one that is too
 /// short; refused, the slice stays.
@@ -68,12 +39,8 @@ fn compare_list(
     tally: &mut Tally,
 ) -> Same {
     let needed = expected.as_ref().map_or(0, Vec::len);
-    let mut slots = lent(needed);
-    let given = call(&mut slots).map_err(Answer::from);
-    let written = kept(slots);
-    let given = given.map(|entries| (entries as usize, written));
     let expected = expected.map(|list| (list.len(), list));
-    tally.same(Thing::BookList, &place, expected, given)?;
+    tally.same(Thing::BookList, &place, expected, listed(needed, &call))?;
     if short && needed > 0 {
         let mut slots = vec![NONE - 1; needed - 1];
         let given = call(&mut slots).map_err(Answer::from);
@@ -97,7 +64,7 @@ struct Shelf {
 impl Shelf {
     /// A fresh store on a device, over words that hold anything.
     fn fresh(device: Device, capacities: Capacities) -> Self {
-        let mut book = LotBook::from_memory_on(device, Memory::fresh(capacities).words());
+        let mut book = LotBook::from_memory_on(device, memory::fresh(capacities));
         book.fresh().expect("promised: capacities of the device");
         Self {
             model: Lots::fresh(capacities),
@@ -260,21 +227,8 @@ impl Shelf {
 
     /// Base parts, runs and rings, through the memory itself.
     fn compare_parts(&self, tally: &mut Tally) -> Same {
-        let memory = self.book.memory();
-        let graph = &self.rust.graph;
-        for (side, direction) in memory.sides().iter().zip(DIRECTIONS) {
-            for (node, part) in graph.parts(direction).into_iter().enumerate() {
-                let place = || format!("node {node}, {direction:?}");
-                let given = side.part(memory.counts, node);
-                tally.ran(given.run.as_ref().map_or(0, Vec::len));
-                let held = self.shape.part(direction, node);
-                tally.same(Thing::BookRun, place, held, &given)?;
-                let live = |slot| graph.contains_edge(rust_store::edge(slot));
-                let [part, given] = [part, given].map(|part| part.struck(live));
-                tally.same(Thing::BookPart, place, part, given)?;
-            }
-        }
-        Ok(())
+        let things = [Thing::BookRun, Thing::BookPart];
+        compare_parts(&self.rust, &self.shape, &self.book, things, tally)
     }
 }
 
@@ -621,7 +575,7 @@ impl Found {
 
 /// Compaction of a store from elsewhere, and every read after it.
 pub fn compact_foreign(rust: RustStore, rng: &mut Rng, tally: &mut Tally) -> Same {
-    let memory = Memory::of(&rust).words();
+    let memory = memory::of(&rust);
     Shelf::of(Device::Box, rust, memory).compact(rng, tally)
 }
 

@@ -2,7 +2,7 @@
 //! that they hold, and the rules of a checked store over them. The columns are
 //! those of crate `shape`, `Columns.antt`; the rules are document 01's.
 
-use super::exports::Counts;
+use crate::lots::Counts;
 use crate::model::NONE;
 use crate::shape::Part;
 

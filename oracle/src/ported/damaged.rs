@@ -7,12 +7,12 @@ use std::fmt;
 
 use serde_json::{Map, Value, json};
 
+use super::Ported;
 use super::columns::{Column, Columns};
-use super::exports::Slots;
 use super::words::Words;
-use super::{Port, Ported};
 use crate::checked::{read, rule_of};
 use crate::generate::{Generator, MEDIUM, MIXES, SHORT};
+use crate::lots::Slots;
 use crate::model::{Answer, LIMIT, NONE};
 use crate::panics::caught;
 use crate::rng::Rng;
@@ -559,7 +559,7 @@ pub fn compare(stores: u64, seed: u64, tally: &mut Tally) -> Same {
             };
             let step = generator.step(ported.model());
             ported.compare_step(&step, false, tally)?;
-            let mut words = ported.memory.words();
+            let mut words = ported.book.memory().clone();
             damage(&mut words, &mut rng);
             found.compare(&words, tally)?;
         }

@@ -4,10 +4,10 @@
 
 use super::book::Reads;
 use super::damaged::{damage, written};
-use super::memory::Memory;
+use super::lent;
+use super::memory;
 use super::strips::{Lengths, any_memory, operations, others_fit};
 use super::words::Words;
-use super::{Port, lent};
 use crate::calls::{self, Lots};
 use crate::checked::read;
 use crate::generate::{Generator, MEDIUM, MIXES, SHORT};
@@ -34,7 +34,7 @@ impl Side {
         let mix = if ranged { mix.ranged() } else { mix };
         let capacities = size.capacities(rng);
         let mut model: Model = Lots::fresh(capacities);
-        let mut book = LotBook::from_memory(Memory::fresh(capacities).words());
+        let mut book = LotBook::from_memory(memory::fresh(capacities));
         for _ in 0..rng.below(5) {
             let words = operations(120, &model, &mut Generator { rng, mix, size });
             let mut answers = vec![0; 2 * (words.len() / 5)];

@@ -2,9 +2,8 @@
 //! the Rust's payload of an edge is one word, so that it cannot hold them, and the
 //! store has to keep low and high apart.
 
-use super::Port;
 use super::book::Reads;
-use super::memory::Memory;
+use super::memory;
 use super::strips::operations;
 use super::words::Words;
 use crate::calls::{self, Lots};
@@ -35,7 +34,7 @@ impl Ranged {
     fn fresh(capacities: Capacities) -> Self {
         Self {
             model: Lots::fresh(capacities),
-            book: LotBook::from_memory(Memory::fresh(capacities).words()),
+            book: LotBook::from_memory(memory::fresh(capacities)),
         }
     }
 

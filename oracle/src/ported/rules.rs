@@ -2,9 +2,8 @@
 //! lent words, to hold the proved check against.
 
 use super::columns::{Column, Columns, Layout, RunsBroken};
-use super::exports::{Counts, Slots};
-use super::live;
 use super::words::Words;
+use crate::lots::{Counts, Slots};
 use crate::model::LIMIT;
 
 impl Columns<'_> {
@@ -25,6 +24,17 @@ impl RunsBroken {
             length: self.length || other.length,
         }
     }
+}
+
+/// As many live bits as counted, a bit for each slot, and no other bit of the last
+/// word.
+fn is_right(words: &[u64], slots: Slots) -> bool {
+    let bound = slots.bound as usize;
+    let needed = bound.div_ceil(64);
+    let ones = |words: &[u64]| words.iter().map(|word| word.count_ones()).sum::<u32>();
+    needed <= words.len()
+        && (bound.is_multiple_of(64) || words[needed - 1] >> (bound % 64) == 0)
+        && ones(&words[..needed]) == slots.live
 }
 
 fn is_live(words: &[u64], slot: usize) -> bool {
@@ -57,6 +67,7 @@ impl Words {
 
     /// The same with `validate.rs`'s own part in place of rules 3 and 6: no weights,
     /// and, "rule 6 is added", run entries below the edge bound.
+    #[cfg(feature = "serde")]
     pub fn first_broken_unadded(&self) -> u32 {
         self.first_of(|_| true, |words| !words.runs_broken().entry)
     }
@@ -108,8 +119,8 @@ impl Words {
 
     /// "(2) live bits agree with both counts and the last word's unused bits are 0"
     fn live_holds(&self) -> bool {
-        live::is_right(&self.live_nodes, self.counts.nodes)
-            && live::is_right(&self.live_edges, self.counts.edges)
+        is_right(&self.live_nodes, self.counts.nodes)
+            && is_right(&self.live_edges, self.counts.edges)
     }
 
     /// What of rule 6 is broken, in either direction.

@@ -3,10 +3,9 @@
 
 use super::Ported;
 use super::columns::Layout;
-use super::exports::{Counts, Slots};
 use super::words::{Words, judge};
 use crate::generate::{Generator, MEDIUM, MIXES, SHORT, Step};
-use crate::lots::Device;
+use crate::lots::{Counts, Device, Slots};
 use crate::model::{Answer, LIMIT, Model};
 use crate::rng::Rng;
 use crate::sequences::{Same, Sides};

@@ -3,7 +3,7 @@
 
 use std::mem::replace;
 
-#[cfg(feature = "serde")]
+use super::{kept, lent};
 use crate::graph::traverse::TraversalDirection;
 pub use crate::lots::Memory as Words;
 use crate::lots::{Device, LotBook, Refused};
@@ -15,6 +15,34 @@ impl From<Refused> for Answer {
     }
 }
 
+type ListRead = fn(&LotBook, u32, &mut [u32]) -> Result<u32, Refused>;
+type NodeRead = fn(&LotBook, u32) -> Result<u32, Refused>;
+
+/// The reads of a node's list: edges and far ends, and how many.
+pub const LISTS: [(TraversalDirection, [ListRead; 2], NodeRead); 2] = [
+    (
+        TraversalDirection::Outgoing,
+        [LotBook::outgoing_into, LotBook::successors_into],
+        LotBook::out_degree,
+    ),
+    (
+        TraversalDirection::Incoming,
+        [LotBook::incoming_into, LotBook::predecessors_into],
+        LotBook::in_degree,
+    ),
+];
+
+/// A list into a slice with words to spare: how many entries, and those written.
+pub fn listed(
+    needed: usize,
+    call: impl Fn(&mut [u32]) -> Result<u32, Refused>,
+) -> Result<(usize, Vec<u32>), Answer> {
+    let mut slots = lent(needed);
+    let given = call(&mut slots);
+    let written = kept(slots);
+    Ok((given? as usize, written))
+}
+
 /// What the model knows of a book's device.
 pub const fn judge(device: Device) -> model::Device {
     match device {
@@ -24,7 +52,7 @@ pub const fn judge(device: Device) -> model::Device {
 }
 
 /// The answer of a call whose value is 0 when it is done.
-fn answer(result: Result<(), Refused>) -> Answer {
+pub fn answer(result: Result<(), Refused>) -> Answer {
     result.map_or_else(Answer::from, |()| Answer::done(0))
 }
 
@@ -48,6 +76,7 @@ impl Words {
     }
 
     /// The answer of the check.
+    #[cfg(feature = "serde")]
     pub fn check(&self) -> Answer {
         answer(LotBook::from_memory(self.clone()).check())
     }
@@ -68,6 +97,7 @@ impl Words {
     }
 
     /// Makes the operations of a strip, and gives the call's own answer.
+    #[cfg(feature = "serde")]
     pub fn strip(&mut self, words: &[u32], answers: &mut [u32]) -> Answer {
         self.through(Device::Box, |book| book.strip_words(words, answers))
     }

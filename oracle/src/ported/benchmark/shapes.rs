@@ -7,7 +7,7 @@
 
 use std::time::{Duration, Instant};
 
-use super::{Memory, Pair, Port, SLOTS, TIMES, added, compare, median, redirected, shuffled};
+use super::{Pair, SLOTS, TIMES, added, compare, median, memory, redirected, shuffled};
 use crate::calls::Lots;
 use crate::lots::{LotBook, Memory as Lent};
 use crate::model::{Capacities, DIRECTIONS};
@@ -164,7 +164,7 @@ fn compare_moves(rust: &RustStore) {
 
 /// Writing and reading an image, by edges. The Rust has none.
 fn images(rust: &RustStore) {
-    let book = LotBook::from_memory(Memory::of(rust).words());
+    let book = LotBook::from_memory(memory::of(rust));
     let image = book.image().expect("a store with an image");
     let mut bytes = image.clone();
     let mut work = vec![0; 2 * SLOTS as usize];
@@ -196,11 +196,11 @@ fn growth(rng: &mut Rng) {
         for _ in 0..size {
             rust.operation([2, rng.word() % size, rng.word() % size, 0, 0]);
         }
-        let added = LotBook::from_memory(Memory::of(&rust).words());
+        let added = LotBook::from_memory(memory::of(&rust));
         for edge in 0..size {
             rust.operation([5, edge, rng.word() % size, 0, 0]);
         }
-        let runs = LotBook::from_memory(Memory::of(&rust).words());
+        let runs = LotBook::from_memory(memory::of(&rust));
         let [added, runs] = in_turns([
             &mut || timed(|| added.check().expect("a store")),
             &mut || timed(|| runs.check().expect("a store")),
@@ -220,27 +220,26 @@ fn hostile(rng: &mut Rng) {
     let edges = SLOTS as usize;
     let column = |k: usize| k * edges;
     let nodes = |k: usize| 4 * edges + k * edges;
-    let fresh = |rust: &RustStore| Memory::of(rust).words();
     let hub = hub();
     let mut one_run = hub.clone();
     one_run.operation([5, 0, 1, 0, 0]);
     one_run.operation([5, 0, 0, 0, 0]);
     let stores: [(&str, Lent); 5] = [
         ("a ring of all edges that closes past its last", {
-            let mut words = fresh(&hub);
+            let mut words = memory::of(&hub);
             let last = words.axes[0][nodes(0)] as usize;
             words.axes[0][column(2) + last] = 1;
             words
         }),
         ("a ring of all edges that falls", {
-            let mut words = fresh(&hub);
+            let mut words = memory::of(&hub);
             for edge in 0..edges {
                 words.axes[0][column(2) + edge] = ((edge + edges - 1) % edges) as u32;
             }
             words
         }),
         ("a run of all edges whose last is the first again", {
-            let mut words = fresh(&one_run);
+            let mut words = memory::of(&one_run);
             let tail = words.axes[0][nodes(2)] as usize;
             let before = (0..edges)
                 .find(|&edge| words.axes[0][column(3) + edge] as usize == tail)
@@ -249,7 +248,7 @@ fn hostile(rng: &mut Rng) {
             words
         }),
         ("a run of all edges in any order", {
-            let mut words = fresh(&one_run);
+            let mut words = memory::of(&one_run);
             let order = shuffled(rng);
             for pair in order.windows(2) {
                 words.axes[0][column(3) + pair[0] as usize] = pair[1];
@@ -259,7 +258,7 @@ fn hostile(rng: &mut Rng) {
             words
         }),
         ("the last edge of all listed at another node", {
-            let mut words = fresh(&added(rng));
+            let mut words = memory::of(&added(rng));
             words.axes[1][edges - 1] = (words.axes[1][edges - 1] + 1) % SLOTS;
             words
         }),
