@@ -90,6 +90,14 @@ fn print_answer(a: Answer) {
     last(a.value);
 }
 
+// The counts afterwards are answered.
+fn print_changed(c: Changed) -> Counts {
+    number(wide(c.number));
+    last(c.value);
+    let counts = c.counts;
+    counts
+}
+
 fn print_record(r: Record) {
     number(wide(r.number));
     number(r.value);
@@ -209,11 +217,8 @@ fn fresh(
         outgoing,
         incoming,
     );
-    number(wide(changed.number));
-    last(changed.value);
-    let counts = changed.counts;
     Held {
-        counts,
+        counts: print_changed(changed),
         nodes: call.first,
         edges: call.second,
     }
@@ -247,7 +252,7 @@ fn read_operations(words: &mut [u32], lines: u32) {
 
 // A strip, whole.
 fn strip_of(
-    held: Held,
+    counts: Counts,
     nodes: &mut [u32],
     lows: &mut [u32],
     highs: &mut [u32],
@@ -260,14 +265,12 @@ fn strip_of(
     let mut words: [u32; 4096] = [0; 4096];
     let mut answers: [u32; 2048] = [0; 2048];
     read_operations(&mut words, call.third);
-    let n = within(held.nodes, nodes);
-    let e = within(held.edges, lows);
     let length = within(call.first, &words);
     let room = within(call.second, &answers);
     let changed = strip::strip(
-        held.counts,
-        &mut nodes[..n],
-        &mut lows[..e],
+        counts,
+        nodes,
+        lows,
         highs,
         live_nodes,
         live_edges,
@@ -283,7 +286,7 @@ fn strip_of(
 
 // A compaction with slices of the recorded lengths; where it is done, maps and work.
 fn compact(
-    held: Held,
+    counts: Counts,
     nodes: &mut [u32],
     lows: &mut [u32],
     highs: &mut [u32],
@@ -296,15 +299,13 @@ fn compact(
     let mut node_map: [u32; 2048] = [0; 2048];
     let mut edge_map: [u32; 2048] = [0; 2048];
     let mut work: [u32; 2048] = [0; 2048];
-    let n = within(held.nodes, nodes);
-    let e = within(held.edges, lows);
     let first = within(call.first, &node_map);
     let second = within(call.second, &edge_map);
     let third = within(call.third, &work);
     let changed = compact::compact(
-        held.counts,
-        &mut nodes[..n],
-        &mut lows[..e],
+        counts,
+        nodes,
+        lows,
         highs,
         live_nodes,
         live_edges,
@@ -360,48 +361,9 @@ fn within_bytes(length: u32, bytes: &[u8]) -> usize
     bytes.len()
 }
 
-// An image read on a box or on the skid.
-fn read_by(
-    kind: u32,
-    counts: Counts,
-    nodes: &mut [u32],
-    lows: &mut [u32],
-    highs: &mut [u32],
-    live_nodes: &mut [u64],
-    live_edges: &mut [u64],
-    outgoing: &mut [u32],
-    incoming: &mut [u32],
-    bytes: &[u8],
-) -> Changed {
-    if kind == 19 {
-        return image::read::skid_read_image(
-            counts,
-            nodes,
-            lows,
-            highs,
-            live_nodes,
-            live_edges,
-            outgoing,
-            incoming,
-            bytes,
-        );
-    }
-    image::read::read_image(
-        counts,
-        nodes,
-        lows,
-        highs,
-        live_nodes,
-        live_edges,
-        outgoing,
-        incoming,
-        bytes,
-    )
-}
-
-// An image read in place of all.
+// An image read in place of all, on a box.
 fn read_image(
-    held: Held,
+    counts: Counts,
     nodes: &mut [u32],
     lows: &mut [u32],
     highs: &mut [u32],
@@ -413,14 +375,11 @@ fn read_image(
 ) -> Counts {
     let mut bytes: [u8; 4096] = [0; 4096];
     read_bytes(&mut bytes, call.second);
-    let n = within(held.nodes, nodes);
-    let e = within(held.edges, lows);
     let length = within_bytes(call.first, &bytes);
-    let changed = read_by(
-        call.kind,
-        held.counts,
-        &mut nodes[..n],
-        &mut lows[..e],
+    let changed = image::read::read_image(
+        counts,
+        nodes,
+        lows,
         highs,
         live_nodes,
         live_edges,
@@ -428,10 +387,36 @@ fn read_image(
         incoming,
         &bytes[..length],
     );
-    number(wide(changed.number));
-    last(changed.value);
-    let counts = changed.counts;
-    counts
+    print_changed(changed)
+}
+
+// An image read in place of all, on the skid.
+fn skid_read_image(
+    counts: Counts,
+    nodes: &mut [u32],
+    lows: &mut [u32],
+    highs: &mut [u32],
+    live_nodes: &mut [u64],
+    live_edges: &mut [u64],
+    outgoing: &mut [u32],
+    incoming: &mut [u32],
+    call: Call,
+) -> Counts {
+    let mut bytes: [u8; 4096] = [0; 4096];
+    read_bytes(&mut bytes, call.second);
+    let length = within_bytes(call.first, &bytes);
+    let changed = image::read::skid_read_image(
+        counts,
+        nodes,
+        lows,
+        highs,
+        live_nodes,
+        live_edges,
+        outgoing,
+        incoming,
+        &bytes[..length],
+    );
+    print_changed(changed)
 }
 
 // The image into lent bytes, and those that were written.
@@ -956,33 +941,6 @@ fn read_nearest(
 }
 
 fn read(
-    held: Held,
-    nodes: &[u32],
-    lows: &[u32],
-    highs: &[u32],
-    live_nodes: &[u64],
-    live_edges: &[u64],
-    outgoing: &[u32],
-    incoming: &[u32],
-    call: Call,
-) {
-    let counts = held.counts;
-    let n = within(held.nodes, nodes);
-    let e = within(held.edges, lows);
-    read_of(
-        counts,
-        &nodes[..n],
-        &lows[..e],
-        highs,
-        live_nodes,
-        live_edges,
-        outgoing,
-        incoming,
-        call,
-    );
-}
-
-fn read_of(
     counts: Counts,
     nodes: &[u32],
     lows: &[u32],
@@ -1104,9 +1062,9 @@ fn read_of(
     );
 }
 
-// A strip, a compaction or a reading; the counts afterwards.
+// One call but a fresh store; the counts afterwards.
 fn change(
-    held: Held,
+    counts: Counts,
     nodes: &mut [u32],
     lows: &mut [u32],
     highs: &mut [u32],
@@ -1118,7 +1076,7 @@ fn change(
 ) -> Counts {
     if call.kind == 1 {
         return strip_of(
-            held,
+            counts,
             nodes,
             lows,
             highs,
@@ -1131,7 +1089,7 @@ fn change(
     }
     if call.kind == 12 {
         return compact(
-            held,
+            counts,
             nodes,
             lows,
             highs,
@@ -1142,8 +1100,34 @@ fn change(
             call,
         );
     }
-    read_image(
-        held,
+    if call.kind == 15 {
+        return read_image(
+            counts,
+            nodes,
+            lows,
+            highs,
+            live_nodes,
+            live_edges,
+            outgoing,
+            incoming,
+            call,
+        );
+    }
+    if call.kind == 19 {
+        return skid_read_image(
+            counts,
+            nodes,
+            lows,
+            highs,
+            live_nodes,
+            live_edges,
+            outgoing,
+            incoming,
+            call,
+        );
+    }
+    read(
+        counts,
         nodes,
         lows,
         highs,
@@ -1152,10 +1136,11 @@ fn change(
         outgoing,
         incoming,
         call,
-    )
+    );
+    counts
 }
 
-// One call on the store; the store afterwards.
+// One call on the store; the store afterwards. All but a fresh store are made on slices of its own capacities.
 fn step(
     held: Held,
     nodes: &mut [u32],
@@ -1179,28 +1164,12 @@ fn step(
             incoming,
         );
     }
-    if call.kind == 1 || call.kind == 12 || call.kind == 15 || call.kind == 19 {
-        let counts = change(
-            held,
-            nodes,
-            lows,
-            highs,
-            live_nodes,
-            live_edges,
-            outgoing,
-            incoming,
-            call,
-        );
-        return Held {
-            counts,
-            nodes: held.nodes,
-            edges: held.edges,
-        };
-    }
-    read(
-        held,
-        nodes,
-        lows,
+    let n = within(held.nodes, nodes);
+    let e = within(held.edges, lows);
+    let counts = change(
+        held.counts,
+        &mut nodes[..n],
+        &mut lows[..e],
         highs,
         live_nodes,
         live_edges,
@@ -1208,7 +1177,11 @@ fn step(
         incoming,
         call,
     );
-    held
+    Held {
+        counts,
+        nodes: held.nodes,
+        edges: held.edges,
+    }
 }
 
 // The kind that stands for the end of the input.
