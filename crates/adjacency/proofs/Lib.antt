@@ -1,2 +1,9 @@
 mod Appending
 mod Emptying
+mod Summing
+mod Columns
+mod Clearing
+mod Stepping
+mod Seeking
+mod Reading
+mod Starting

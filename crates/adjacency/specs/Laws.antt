@@ -1,5 +1,4 @@
 -- The laws of index, rings, cursor and walks, for the crates above to cite.
-pub mod Index
 pub mod Cursor
 pub mod Walk
 pub mod Clear
@@ -7,3 +6,4 @@ pub mod Reading
 pub mod StoreClears
 pub mod StoreWalks
 pub mod Rings
+pub mod Finding

@@ -25,25 +25,30 @@ pub struct Axis<'a> {
 }
 
 // The column of the compressed index's offsets.
-pub fn offsets_of(axis: &[u32], edges: usize, nodes: usize) -> &[u32]
-    requires { ⌜ Sized (now axis) edges nodes ⌝ }
-    ensures { λ r. ⌜ now r ≡ offsets-column (now (axis .entry)) edges nodes ⌝ }
+pub fn offsets_of(axis: &[u32], edge_capacity: usize, node_capacity: usize) -> &[u32]
+    requires { ⌜ Sized (now axis) «edge_capacity» «node_capacity» ⌝ }
+    ensures { λ r. ⌜ now r ≡ offsets-column (now (axis .entry)) «edge_capacity» «node_capacity» ⌝ }
 {
-    let from = 4 * edges + 5 * nodes;
-    let to = from + nodes + 1;
+    let from = 4 * edge_capacity + 5 * node_capacity;
+    let to = from + node_capacity + 1;
     &axis[from..to]
 }
 
 impl<'a> Axis<'a> {
     // Of the parts of one packed slice.
-    pub fn of(words: &'a [u32], edges: usize, nodes: usize, linked: bool) -> Axis<'a>
-        requires { ⌜ Sized (now words) edges nodes ⌝ }
-        ensures { λ r. ⌜ Columns (now (words .entry)) edges nodes linked r ⌝ }
+    pub fn of(
+        words: &'a [u32],
+        edge_capacity: usize,
+        node_capacity: usize,
+        linked: bool,
+    ) -> Axis<'a>
+        requires { ⌜ Sized (now words) «edge_capacity» «node_capacity» ⌝ }
+        ensures { λ r. ⌜ Columns (now (words .entry)) «edge_capacity» «node_capacity» linked r ⌝ }
     {
         Axis {
-            offsets: offsets_of(words, edges, nodes),
-            entries: walk::entries_of(words, edges, linked),
-            next: walk::next_of(words, edges),
+            offsets: offsets_of(words, edge_capacity, node_capacity),
+            entries: walk::entries_of(words, edge_capacity, linked),
+            next: walk::next_of(words, edge_capacity),
         }
     }
 
@@ -85,18 +90,18 @@ pub fn advance<'s, 'a, 'l>(
 pub fn next_listed(
     cursor: AdjacencyCursor,
     words: &[u32],
-    edges: usize,
-    nodes: usize,
+    edge_capacity: usize,
+    node_capacity: usize,
     linked: bool,
     tombstoned: bool,
     live: &[u64],
     slots: usize,
 ) -> Step
-    requires { ⌜ Advanceable (now words) edges nodes linked (now live) slots cursor ⌝ }
-    ensures { λ r. ⌜ Advanced (now (words .entry)) edges linked tombstoned (now (live .entry)) slots cursor r ⌝ }
+    requires { ⌜ Advanceable (now words) «edge_capacity» «node_capacity» linked (now live) slots cursor ⌝ }
+    ensures { λ r. ⌜ Advanced (now (words .entry)) «edge_capacity» linked tombstoned (now (live .entry)) slots cursor r ⌝ }
 {
     let mut lent = cursor;
-    let axis = Axis::of(words, edges, nodes, linked);
+    let axis = Axis::of(words, edge_capacity, node_capacity, linked);
     let found = advance(&mut lent, axis, linked, tombstoned, live, slots);
     Step {
         cursor: lent,

@@ -30,19 +30,28 @@ fn retire(live_edges: &mut [u64], slots: usize, edge: u32) -> u32
 fn clear_left(
     from: AdjacencyCursor,
     axis: &[u32],
-    edges: usize,
-    nodes: usize,
+    edge_capacity: usize,
+    node_capacity: usize,
     linked: bool,
     live_edges: &mut [u64],
     slots: usize,
 ) -> u32
-    requires { ⌜ LeftClearable (now axis) edges nodes linked (now «live_edges») slots from ⌝ }
-    ensures { λ r. ⌜ Retired slots (remaining linked (entries-column (now (axis .entry)) edges linked) (next-column (now (axis .entry)) edges) from) (now («live_edges» .entry)) (now («live_edges» .exit)) r ⌝ }
+    requires { ⌜ LeftClearable (now axis) «edge_capacity» «node_capacity» linked (now «live_edges») slots from ⌝ }
+    ensures { λ r. ⌜ Retired slots (remaining linked (entries-column (now (axis .entry)) «edge_capacity» linked) (next-column (now (axis .entry)) «edge_capacity») from) (now («live_edges» .entry)) (now («live_edges» .exit)) r ⌝ }
 {
     let mut cursor = from;
     let mut n: u32 = 0;
     loop {
-        let step = next_listed(cursor, axis, edges, nodes, linked, true, live_edges, slots);
+        let step = next_listed(
+            cursor,
+            axis,
+            edge_capacity,
+            node_capacity,
+            linked,
+            true,
+            live_edges,
+            slots,
+        );
         let found = step.found;
         match found {
             Found::Edge(edge) => {
@@ -59,22 +68,22 @@ fn clear_left(
 // Makes every edge of the walk of a live node dead. Answers how many were live.
 pub fn clear_adjacency(
     axis: &[u32],
-    edges: usize,
-    nodes: usize,
+    edge_capacity: usize,
+    node_capacity: usize,
     counts: Counts,
     live_edges: &mut [u64],
     node: usize,
 ) -> u32
-    requires { ⌜ Clearable (now axis) edges nodes counts (now «live_edges») node ⌝ }
-    ensures { λ r. ⌜ Retired (counts .edges .bound) (walk-in (now (axis .entry)) edges nodes counts (now («live_edges» .entry)) node true) (now («live_edges» .entry)) (now («live_edges» .exit)) r ⌝ }
+    requires { ⌜ Clearable (now axis) «edge_capacity» «node_capacity» counts (now «live_edges») node ⌝ }
+    ensures { λ r. ⌜ Retired (counts .edges .bound) (walk-in (now (axis .entry)) «edge_capacity» «node_capacity» counts (now («live_edges» .entry)) node true) (now («live_edges» .entry)) (now («live_edges» .exit)) r ⌝ }
 {
-    let start = walk::start(axis, edges, nodes, counts, node, true);
+    let start = walk::start(axis, edge_capacity, node_capacity, counts, node, true);
     let slots = counts.edges.bound as usize;
     clear_left(
         start.cursor,
         axis,
-        edges,
-        nodes,
+        edge_capacity,
+        node_capacity,
         start.linked,
         live_edges,
         slots,

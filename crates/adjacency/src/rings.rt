@@ -1,6 +1,6 @@
 // The rings: of each node the edges appended since its base part was built or its run took them over. A ring is circular; the node has its last edge, and that
 // edge's link leads to the first. So an append takes constant time and the ring is read in the order of appending. What a call asks and promises of the words
-// is a record of specs/Rings.antt; `edges` and `nodes` are the capacities of the axis.
+// is a record of specs/Rings.antt; `edge_capacity` and `node_capacity` are those of the axis.
 
 use plain::NONE;
 ghost use mathlib.Core.Path.{_≡_};
@@ -15,19 +15,19 @@ pub struct RingEnds {
 // Makes `node` the end of the new edge `appended` and appends the edge to the node's ring. `bound` and `base` are the node bound and the number of base edges.
 pub fn append(
     axis: &mut [u32],
-    edges: usize,
-    nodes: usize,
+    edge_capacity: usize,
+    node_capacity: usize,
     bound: usize,
     base: usize,
     node: usize,
     appended: u32,
 )
-    requires { ⌜ Appendable (now axis) edges nodes bound base node appended ⌝ }
-    ensures { λ _. ⌜ Appended (now (axis .entry)) (now (axis .exit)) edges bound base node appended ⌝ }
+    requires { ⌜ Appendable (now axis) «edge_capacity» «node_capacity» bound base node appended ⌝ }
+    ensures { λ _. ⌜ Appended (now (axis .entry)) (now (axis .exit)) «edge_capacity» bound base node appended ⌝ }
 {
     let slot = appended as usize;
-    let at = 4 * edges + node;
-    let to = 2 * edges + slot;
+    let at = 4 * edge_capacity + node;
+    let to = 2 * edge_capacity + slot;
     let last = axis[at];
     axis[slot] = node as u32;
     axis[at] = appended;
@@ -35,26 +35,26 @@ pub fn append(
         axis[to] = appended;
         return;
     }
-    let from = 2 * edges + last as usize;
+    let from = 2 * edge_capacity + last as usize;
     axis[to] = axis[from];
     axis[from] = appended;
 }
 
 // Gives the new node slot `node` the empty ring and no run, whatever stood there.
-pub fn open_node(axis: &mut [u32], edges: usize, nodes: usize, node: usize)
-    requires { ⌜ Openable (now axis) edges nodes node ⌝ }
-    ensures { λ _. ⌜ Opened (now (axis .entry)) (now (axis .exit)) edges nodes node ⌝ }
+pub fn open_node(axis: &mut [u32], edge_capacity: usize, node_capacity: usize, node: usize)
+    requires { ⌜ Openable (now axis) «edge_capacity» «node_capacity» node ⌝ }
+    ensures { λ _. ⌜ Opened (now (axis .entry)) (now (axis .exit)) «edge_capacity» «node_capacity» node ⌝ }
 {
-    axis[4 * edges + node] = NONE;
-    axis[4 * edges + 4 * nodes + node] = 0;
+    axis[4 * edge_capacity + node] = NONE;
+    axis[4 * edge_capacity + 4 * node_capacity + node] = 0;
 }
 
 // The ends of the node's ring.
-pub fn ring_ends(axis: &[u32], edges: usize, node: usize) -> RingEnds
-    requires { ⌜ EndsReadable (now axis) edges node ⌝ }
-    ensures { λ r. ⌜ r ≡ ends-of (now (axis .entry)) edges node ⌝ }
+pub fn ring_ends(axis: &[u32], edge_capacity: usize, node: usize) -> RingEnds
+    requires { ⌜ EndsReadable (now axis) «edge_capacity» node ⌝ }
+    ensures { λ r. ⌜ r ≡ ends-of (now (axis .entry)) «edge_capacity» node ⌝ }
 {
-    let at = 4 * edges + node;
+    let at = 4 * edge_capacity + node;
     let last = axis[at];
     if last == NONE {
         return RingEnds {
@@ -62,7 +62,7 @@ pub fn ring_ends(axis: &[u32], edges: usize, node: usize) -> RingEnds
             last: NONE,
         };
     }
-    let to = 2 * edges + last as usize;
+    let to = 2 * edge_capacity + last as usize;
     RingEnds {
         first: axis[to],
         last: last,
@@ -70,9 +70,9 @@ pub fn ring_ends(axis: &[u32], edges: usize, node: usize) -> RingEnds
 }
 
 // Forgets the node's ring, whose edges a run has taken over.
-pub fn detach(axis: &mut [u32], edges: usize, node: usize)
-    requires { ⌜ Detachable (now axis) edges node ⌝ }
-    ensures { λ _. ⌜ Detached (now (axis .entry)) (now (axis .exit)) edges node ⌝ }
+pub fn detach(axis: &mut [u32], edge_capacity: usize, node: usize)
+    requires { ⌜ Detachable (now axis) «edge_capacity» node ⌝ }
+    ensures { λ _. ⌜ Detached (now (axis .entry)) (now (axis .exit)) «edge_capacity» node ⌝ }
 {
-    axis[4 * edges + node] = NONE;
+    axis[4 * edge_capacity + node] = NONE;
 }

@@ -29,7 +29,7 @@ use Rattle.plain.specs.Laws.ImageLaws.{fitted-joined, image-length}
 use Rattle.plain.specs.Laws.Width.{width-holds, width-most}
 use Rattle.liveness.specs.Flags.{live-flags}
 use Rattle.liveness.specs.Laws.Flags.{length-flags}
-use Rattle.liveness.specs.Laws.WordFlags.{count-le}
+use Rattle.liveness.specs.Laws.Flags.{count-le}
 use Rattle.liveness.specs.Ranks.{RanksFit, Ranked}
 use Rattle.shape.specs.Shape.{Words, capacities, node-live, edge-live, axis-words, plain-of, lists}
 use Rattle.shape.specs.Checked.{SlotsChecked, Checked}

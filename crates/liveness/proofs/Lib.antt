@@ -1,2 +1,5 @@
 pub mod Words
 pub mod Resets
+mod Ranking
+mod WordFlags
+mod NextWords

@@ -1,7 +1,6 @@
 -- The laws of live bits, for the crates above to cite.
 pub mod Flags
 pub mod Calls
-pub mod WordFlags
 pub mod Next
 pub mod Passed
 pub mod Bits

@@ -102,17 +102,6 @@ pub fn count_live(words: &[u64], slots: usize) -> Counted
     Counted::Unpacked
 }
 
-// How many live slots stand before a slot.
-pub fn rank(words: &[u64], slots: usize, slot: usize) -> usize
-    requires { ⌜ slots ≤ 64 * length (now words) ⌝ }
-    ensures { λ r. ⌜ r ≡ rank-of (live-flags (now (words .entry)) slots) slot ⌝ }
-{
-    if slots <= slot {
-        return count_before(words, slots);
-    }
-    count_before(words, slot)
-}
-
 // Writes how many live slots stand before each word to the start of `ranks`, for `rank_by`.
 pub fn write_ranks(words: &[u64], slots: usize, ranks: &mut [u32])
     requires { ⌜ RanksFit (now words) slots (now ranks) ⌝ }

@@ -1,10 +1,10 @@
 -- The loop that moves a ring to the end of a run, and what is left when the ring is forgotten.
-use Prim.Native.Nat.{ℕ, suc, _+_, _-_, _*_, _≤_, _<_}
+use Prim.Native.Nat.{ℕ, suc, _+_, _*_, _≤_, _<_}
 use native.Mathlib.Nat.{le-trans, le-refl}
 use native.Mathlib.Omega.{arith}
 use mathlib.Core.Path.{_≡_, refl, sym, ap, _∙_, subst}
 use mathlib.Core.Bool.{Bool, true}
-use mathlib.Core.Logic.{_⊎_, inl, ⊎-elim, _≢_}
+use mathlib.Core.Logic.{inl, ⊎-elim, _≢_}
 use mathlib.Core.List.{List, [], _∷_, _++_, append-nil, append-assoc}
 use lib.ListN.{length, getD, length-append}
 use lib.Seq.{append-snoc}
@@ -27,9 +27,10 @@ use Rattle.adjacency.specs.declared.rings.RingEnds.{RingEnds}
 use Rattle.adjacency.specs.Rings.{EndsReadable, ring-ends, Detached}
 use Rattle.adjacency.specs.Laws.Rings.{ends-readable, ends-ring}
 use Rattle.relocate.specs.Runs.{Edited, Grown, Keepable}
-use Rattle.relocate.specs.Laws.Runs.{run-of-marked, edited-none, edited-again, edited-wider, edited-list, edited-mark, edited-new, edited-rings, edited-kept, edited-writes}
+use Rattle.relocate.specs.Laws.Runs.{run-of-marked}
+use Rattle.relocate.proofs.Editing.{edited-none, edited-again, edited-wider, edited-list, edited-mark, edited-new, edited-rings, edited-kept, edited-writes}
 use Rattle.relocate.specs.Overlay.{flags-of, Ready, Remade, Drainable, Drained}
-use Rattle.relocate.specs.Laws.Overlay.{node-same, edited-base, edited-index, edited-node, remade-run}
+use Rattle.relocate.proofs.Remaking.{node-same, edited-base, edited-index, edited-node, remade-run}
 
 -- a line is what the function reads of it
 line-until : {link : ℕ → ℕ} {lo hi f t : ℕ} {xs : List ℕ} (n : ℕ) → length xs ≤ n → Line link lo hi f t xs → until link t n f ≡ xs

@@ -1,5 +1,5 @@
 -- What handing a run over does: the stores of its ways, and both runs after them.
-use Prim.Native.Nat.{ℕ, _+_, _-_, _*_, _≤_, _<_}
+use Prim.Native.Nat.{ℕ, _+_, _*_, _≤_, _<_}
 use native.Mathlib.Omega.{arith}
 use mathlib.Core.Path.{_≡_, refl, sym, ap, _∙_}
 use mathlib.Core.Bool.{true, false}
@@ -21,7 +21,7 @@ use Rattle.shape.specs.Laws.Chains.{in-front, in-none, seg-append, seg-agree, l
 use Rattle.shape.specs.Laws.Frames.{run-list-below}
 use Rattle.shape.specs.Laws.Keeping.{in-either}
 use Rattle.relocate.specs.Runs.{Editable, Edited}
-use Rattle.relocate.specs.Laws.Runs.{edited, edited-none, edited-list, edited-other}
+use Rattle.relocate.proofs.Editing.{edited, edited-none, edited-list, edited-other}
 use Rattle.relocate.specs.Moves.{HandableOver, HandedOver}
 use Rattle.relocate.proofs.Pushing.{run-before}
 

@@ -9,3 +9,6 @@ mod Preparing
 mod Redirecting
 mod Handing
 mod Moving
+mod Remaking
+mod Relinking
+mod Editing

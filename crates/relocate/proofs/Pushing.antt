@@ -3,7 +3,7 @@ use Prim.Native.Nat.{ℕ, _+_, _*_, _≤_, _<_, zero-le}
 use native.Mathlib.Omega.{arith}
 use mathlib.Core.Path.{_≡_, sym, _∙_}
 use mathlib.Core.Bool.{Bool, true, false}
-use mathlib.Core.Logic.{_⊎_, inl, inr, ⊎-elim, _≢_}
+use mathlib.Core.Logic.{inl, inr, ⊎-elim, _≢_}
 use mathlib.Core.List.{List, [], _∷_, _++_, append-nil}
 use lib.ListN.{length, getD, set, length-set, length-append}
 use lib.Seq.{getD-set-same, getD-set-other}
@@ -18,7 +18,7 @@ use Rattle.shape.specs.Steps.{live-entries}
 use Rattle.shape.specs.Laws.Chains.{in-snoc, line-one, line-more, line-last, run-short, run-empty, run-line}
 use Rattle.shape.specs.Laws.Frames.{run-list-below}
 use Rattle.relocate.specs.Runs.{Editable, Grown, Pushable, Keepable}
-use Rattle.relocate.specs.Laws.Runs.{edited, edited-none}
+use Rattle.relocate.proofs.Editing.{edited, edited-none}
 
 -- the run of a node with a mark
 pub run-before : {ws : List ℕ} {ce cn : ℕ} {counts : Counts} {node : ℕ} → Editable ws ce cn counts node → mark-at ws ce cn node ≢ 0

@@ -1,9 +1,9 @@
 -- The loop that copies the live entries of a base part to an empty run, and the start of a run.
-use Prim.Native.Nat.{ℕ, _+_, _-_, _*_, _≤_, _<_}
+use Prim.Native.Nat.{ℕ, _+_, _*_, _≤_, _<_}
 use native.Mathlib.Omega.{arith}
 use mathlib.Core.Path.{_≡_, refl, sym, ap, _∙_, subst}
 use mathlib.Core.Bool.{Bool, true}
-use mathlib.Core.Logic.{_⊎_, inl, inr, ⊎-elim, _≢_}
+use mathlib.Core.Logic.{inl, inr, ⊎-elim, _≢_}
 use mathlib.Core.Option.{Option, none, some}
 use mathlib.Core.List.{List, [], _∷_, _++_, append-nil}
 use lib.ListN.{length, getD, set, length-set}
@@ -26,9 +26,10 @@ use Rattle.shape.specs.Laws.Keeping.{in-keep, in-either, in-second}
 use Rattle.adjacency.specs.Index.{Based, base-bounds}
 use Rattle.adjacency.specs.declared.index.BaseBounds.{BaseBounds}
 use Rattle.relocate.specs.Runs.{Edited, Grown, Keepable}
-use Rattle.relocate.specs.Laws.Runs.{run-of-marked, edited, edited-none, edited-again, edited-wider, edited-list, edited-mark, edited-new, edited-other, edited-ring, edited-rings}
+use Rattle.relocate.specs.Laws.Runs.{run-of-marked}
+use Rattle.relocate.proofs.Editing.{edited, edited-none, edited-again, edited-wider, edited-list, edited-mark, edited-new, edited-other, edited-ring, edited-rings}
 use Rattle.relocate.specs.Overlay.{flags-of, Ready, Remade, Copyable, Copied, Started, Drainable, Drained, TakenOver}
-use Rattle.relocate.specs.Laws.Overlay.{edited-base, edited-index, edited-remade}
+use Rattle.relocate.proofs.Remaking.{edited-base, edited-index, edited-remade}
 
 -- ---- copying
 

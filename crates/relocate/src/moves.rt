@@ -10,21 +10,21 @@ ghost use Rattle.relocate.specs.Moves.{RunRelabelled, HandableOver, Hand
 // agree in their low bits, and a load behind such a store waits for it.
 fn relabel(
     axis: &mut [u32],
-    edges: usize,
-    nodes: usize,
+    edge_capacity: usize,
+    node_capacity: usize,
     counts: Counts,
     node: usize,
     new: u32,
 ) -> u32
-    requires { ⌜ Cuttable (now axis) edges nodes counts node ⌝ }
-    ensures { λ r. ⌜ RunRelabelled (now (axis .entry)) (now (axis .exit)) edges nodes node new r ⌝ }
+    requires { ⌜ Cuttable (now axis) «edge_capacity» «node_capacity» counts node ⌝ }
+    ensures { λ r. ⌜ RunRelabelled (now (axis .entry)) (now (axis .exit)) «edge_capacity» «node_capacity» node new r ⌝ }
 {
-    let length = axis[4 * edges + 3 * nodes + node];
-    let mut next = axis[4 * edges + nodes + node];
+    let length = axis[4 * edge_capacity + 3 * node_capacity + node];
+    let mut next = axis[4 * edge_capacity + node_capacity + node];
     let mut left = length;
     while left > 0 {
         let slot = next as usize;
-        let at = 3 * edges + slot;
+        let at = 3 * edge_capacity + slot;
         next = axis[at];
         axis[slot] = new;
         left -= 1;
@@ -33,67 +33,99 @@ fn relabel(
 }
 
 // Appends the whole run of a node to that of another, and leaves the first empty, in constant time.
-fn hand_over(axis: &mut [u32], edges: usize, nodes: usize, counts: Counts, old: usize, new: usize)
-    requires { ⌜ HandableOver (now axis) edges nodes counts old new ⌝ }
-    ensures { λ _. ⌜ HandedOver (now (axis .entry)) (now (axis .exit)) edges nodes counts old new ⌝ }
+fn hand_over(
+    axis: &mut [u32],
+    edge_capacity: usize,
+    node_capacity: usize,
+    counts: Counts,
+    old: usize,
+    new: usize,
+)
+    requires { ⌜ HandableOver (now axis) «edge_capacity» «node_capacity» counts old new ⌝ }
+    ensures { λ _. ⌜ HandedOver (now (axis .entry)) (now (axis .exit)) «edge_capacity» «node_capacity» counts old new ⌝ }
 {
-    let gone = 4 * edges + 3 * nodes + old;
-    let count = 4 * edges + 3 * nodes + new;
-    let tail = 4 * edges + 2 * nodes + new;
+    let gone = 4 * edge_capacity + 3 * node_capacity + old;
+    let count = 4 * edge_capacity + 3 * node_capacity + new;
+    let tail = 4 * edge_capacity + 2 * node_capacity + new;
     let moved = axis[gone];
     if moved == 0 {
         return;
     }
-    let first = axis[4 * edges + nodes + old];
-    let last = axis[4 * edges + 2 * nodes + old];
+    let first = axis[4 * edge_capacity + node_capacity + old];
+    let last = axis[4 * edge_capacity + 2 * node_capacity + old];
     let present = axis[count];
     let before = axis[tail];
     axis[gone] = 0;
     axis[count] = present + moved;
     axis[tail] = last;
     if present == 0 {
-        axis[4 * edges + nodes + new] = first;
+        axis[4 * edge_capacity + node_capacity + new] = first;
         return;
     }
-    axis[3 * edges + before as usize] = first;
+    axis[3 * edge_capacity + before as usize] = first;
 }
 
 // Prepares the runs of two nodes: that of `old` then holds the edges that move.
 fn meet(
     axis: &mut [u32],
-    edges: usize,
-    nodes: usize,
+    edge_capacity: usize,
+    node_capacity: usize,
     counts: Counts,
     live: &[u64],
     tombstoned: bool,
     old: usize,
     new: usize,
 )
-    requires { ⌜ Movable (now axis) edges nodes counts (now live) tombstoned old new ⌝ }
-    ensures { λ _. ⌜ Met (now (axis .entry)) (now (axis .exit)) edges nodes counts (now (live .entry)) old new ⌝ }
+    requires { ⌜ Movable (now axis) «edge_capacity» «node_capacity» counts (now live) tombstoned old new ⌝ }
+    ensures { λ _. ⌜ Met (now (axis .entry)) (now (axis .exit)) «edge_capacity» «node_capacity» counts (now (live .entry)) old new ⌝ }
 {
-    prepare(axis, edges, nodes, counts, old, live, tombstoned);
-    prepare(axis, edges, nodes, counts, new, live, tombstoned);
+    prepare(
+        axis,
+        edge_capacity,
+        node_capacity,
+        counts,
+        old,
+        live,
+        tombstoned,
+    );
+    prepare(
+        axis,
+        edge_capacity,
+        node_capacity,
+        counts,
+        new,
+        live,
+        tombstoned,
+    );
 }
 
 // Moves the live edges of `old` behind those of `new`, in their order, and answers how many they are. `old` keeps an empty run.
 pub fn move_adjacency(
     axis: &mut [u32],
-    edges: usize,
-    nodes: usize,
+    edge_capacity: usize,
+    node_capacity: usize,
     counts: Counts,
     live: &[u64],
     tombstoned: bool,
     old: u32,
     new: u32,
 ) -> u32
-    requires { ⌜ Movable (now axis) edges nodes counts (now live) tombstoned old new ⌝ }
-    ensures { λ r. ⌜ Moved (now (axis .entry)) (now (axis .exit)) edges nodes counts (now (live .entry)) old new r ⌝ }
+    requires { ⌜ Movable (now axis) «edge_capacity» «node_capacity» counts (now live) tombstoned old new ⌝ }
+    ensures { λ r. ⌜ Moved (now (axis .entry)) (now (axis .exit)) «edge_capacity» «node_capacity» counts (now (live .entry)) old new r ⌝ }
 {
     let from = old as usize;
     let to = new as usize;
-    meet(axis, edges, nodes, counts, live, tombstoned, from, to);
-    let moved = relabel(axis, edges, nodes, counts, from, new);
-    hand_over(axis, edges, nodes, counts, from, to);
+    meet(
+        axis,
+        edge_capacity,
+        node_capacity,
+        counts,
+        live,
+        tombstoned,
+        from,
+        to,
+    );
+    let moved = relabel(axis, edge_capacity, node_capacity, counts, from, new);
+    hand_over(axis, edge_capacity, node_capacity, counts, from, to);
     moved
 }

@@ -1,5 +1,5 @@
 // The run of one node: a chain of edges with first, last and length, and a mark that the node has it. What a call asks and promises of the words is a record of
-// specs/Runs.antt; `edges` and `nodes` are the capacities of the axis.
+// specs/Runs.antt; `edge_capacity` and `node_capacity` are those of the axis.
 
 use liveness::is_live;
 use plain::Counts;
@@ -14,13 +14,20 @@ ghost use Rattle.shape.specs.Steps.{live-entries};
 ghost use Rattle.relocate.specs.Runs.{Grown, Pushable, Keepable, Scannable, Scanned, Shortenable, Shortened, Appendable, Appended, Sweepable, Swept, before-in, Searchable, Unlinkable, Cuttable, TakenOut};
 
 // Appends an edge that is in no run to the run of a node.
-pub fn push(axis: &mut [u32], edges: usize, nodes: usize, counts: Counts, node: usize, entry: u32)
-    requires { ⌜ Pushable (now axis) edges nodes counts node entry ⌝ }
-    ensures { λ _. ⌜ Grown (now (axis .entry)) (now (axis .exit)) edges nodes counts node (entry ∷ []) ⌝ }
+pub fn push(
+    axis: &mut [u32],
+    edge_capacity: usize,
+    node_capacity: usize,
+    counts: Counts,
+    node: usize,
+    entry: u32,
+)
+    requires { ⌜ Pushable (now axis) «edge_capacity» «node_capacity» counts node entry ⌝ }
+    ensures { λ _. ⌜ Grown (now (axis .entry)) (now (axis .exit)) «edge_capacity» «node_capacity» counts node (entry ∷ []) ⌝ }
 {
-    let first = 4 * edges + nodes + node;
-    let tail = 4 * edges + 2 * nodes + node;
-    let count = 4 * edges + 3 * nodes + node;
+    let first = 4 * edge_capacity + node_capacity + node;
+    let tail = 4 * edge_capacity + 2 * node_capacity + node;
+    let count = 4 * edge_capacity + 3 * node_capacity + node;
     let length = axis[count];
     let last = axis[tail];
     axis[count] = length + 1;
@@ -29,26 +36,26 @@ pub fn push(axis: &mut [u32], edges: usize, nodes: usize, counts: Counts, node: 
         axis[first] = entry;
         return;
     }
-    axis[3 * edges + last as usize] = entry;
+    axis[3 * edge_capacity + last as usize] = entry;
 }
 
 // Appends an edge to the run of a node where it is live.
 pub fn keep_one(
     axis: &mut [u32],
-    edges: usize,
-    nodes: usize,
+    edge_capacity: usize,
+    node_capacity: usize,
     counts: Counts,
     node: usize,
     live: &[u64],
     entry: u32,
 )
-    requires { ⌜ Keepable (now axis) edges nodes counts node (now live) entry ⌝ }
-    ensures { λ _. ⌜ Grown (now (axis .entry)) (now (axis .exit)) edges nodes counts node (live-entries (live-flags (now (live .entry)) (counts .edges .bound)) (entry ∷ [])) ⌝ }
+    requires { ⌜ Keepable (now axis) «edge_capacity» «node_capacity» counts node (now live) entry ⌝ }
+    ensures { λ _. ⌜ Grown (now (axis .entry)) (now (axis .exit)) «edge_capacity» «node_capacity» counts node (live-entries (live-flags (now (live .entry)) (counts .edges .bound)) (entry ∷ [])) ⌝ }
 {
     let bound = counts.edges.bound as usize;
     let slot = entry as usize;
     if is_live(live, bound, slot) {
-        push(axis, edges, nodes, counts, node, entry);
+        push(axis, edge_capacity, node_capacity, counts, node, entry);
     }
 }
 
@@ -64,18 +71,18 @@ pub struct Front {
 // Reads the run of a node up to its first dead entry.
 fn live_front(
     axis: &[u32],
-    edges: usize,
-    nodes: usize,
+    edge_capacity: usize,
+    node_capacity: usize,
     counts: Counts,
     node: usize,
     live: &[u64],
 ) -> Front
-    requires { ⌜ Scannable (now axis) edges nodes counts node (now live) ⌝ }
-    ensures { λ r. ⌜ Scanned (now (axis .entry)) edges nodes counts node (now (live .entry)) r ⌝ }
+    requires { ⌜ Scannable (now axis) «edge_capacity» «node_capacity» counts node (now live) ⌝ }
+    ensures { λ r. ⌜ Scanned (now (axis .entry)) «edge_capacity» «node_capacity» counts node (now (live .entry)) r ⌝ }
 {
     let bound = counts.edges.bound as usize;
-    let length = axis[4 * edges + 3 * nodes + node];
-    let first = axis[4 * edges + nodes + node];
+    let length = axis[4 * edge_capacity + 3 * node_capacity + node];
+    let first = axis[4 * edge_capacity + node_capacity + node];
     let mut last = first;
     let mut next = first;
     let mut left = length;
@@ -89,7 +96,7 @@ fn live_front(
                 left: left,
             };
         }
-        let at = 3 * edges + slot;
+        let at = 3 * edge_capacity + slot;
         last = next;
         next = axis[at];
         left -= 1;
@@ -105,70 +112,86 @@ fn live_front(
 // Makes the run of a node end after its first `length` entries, of which `last` is the last.
 fn shorten(
     axis: &mut [u32],
-    edges: usize,
-    nodes: usize,
+    edge_capacity: usize,
+    node_capacity: usize,
     counts: Counts,
     node: usize,
     last: u32,
     length: u32,
 )
-    requires { ⌜ Shortenable (now axis) edges nodes counts node last length ⌝ }
-    ensures { λ _. ⌜ Shortened (now (axis .entry)) (now (axis .exit)) edges nodes counts node length ⌝ }
+    requires { ⌜ Shortenable (now axis) «edge_capacity» «node_capacity» counts node last length ⌝ }
+    ensures { λ _. ⌜ Shortened (now (axis .entry)) (now (axis .exit)) «edge_capacity» «node_capacity» counts node length ⌝ }
 {
-    axis[4 * edges + 2 * nodes + node] = last;
-    axis[4 * edges + 3 * nodes + node] = length;
+    axis[4 * edge_capacity + 2 * node_capacity + node] = last;
+    axis[4 * edge_capacity + 3 * node_capacity + node] = length;
 }
 
 // Appends to the run of a node the live ones of `length` edges that are chained from `first` on and are in no run.
 fn append_live(
     axis: &mut [u32],
-    edges: usize,
-    nodes: usize,
+    edge_capacity: usize,
+    node_capacity: usize,
     counts: Counts,
     node: usize,
     live: &[u64],
     first: u32,
     length: u32,
 )
-    requires { ⌜ Appendable (now axis) edges nodes counts node (now live) first length ⌝ }
-    ensures { λ _. ⌜ Appended (now (axis .entry)) (now (axis .exit)) edges nodes counts node (now (live .entry)) first length ⌝ }
+    requires { ⌜ Appendable (now axis) «edge_capacity» «node_capacity» counts node (now live) first length ⌝ }
+    ensures { λ _. ⌜ Appended (now (axis .entry)) (now (axis .exit)) «edge_capacity» «node_capacity» counts node (now (live .entry)) first length ⌝ }
 {
     let mut next = first;
     let mut left = length;
     while left > 0 {
         let entry = next;
-        let at = 3 * edges + entry as usize;
+        let at = 3 * edge_capacity + entry as usize;
         next = axis[at];
         left -= 1;
-        keep_one(axis, edges, nodes, counts, node, live, entry);
+        keep_one(
+            axis,
+            edge_capacity,
+            node_capacity,
+            counts,
+            node,
+            live,
+            entry,
+        );
     }
 }
 
 // Takes the dead edges out of the run of a node. Where no edge is removed the run is not read; else it is read once, and written from its first dead entry on.
 pub fn sweep(
     axis: &mut [u32],
-    edges: usize,
-    nodes: usize,
+    edge_capacity: usize,
+    node_capacity: usize,
     counts: Counts,
     node: usize,
     live: &[u64],
     tombstoned: bool,
 )
-    requires { ⌜ Sweepable (now axis) edges nodes counts node (now live) tombstoned ⌝ }
-    ensures { λ _. ⌜ Swept (now (axis .entry)) (now (axis .exit)) edges nodes counts node (now (live .entry)) ⌝ }
+    requires { ⌜ Sweepable (now axis) «edge_capacity» «node_capacity» counts node (now live) tombstoned ⌝ }
+    ensures { λ _. ⌜ Swept (now (axis .entry)) (now (axis .exit)) «edge_capacity» «node_capacity» counts node (now (live .entry)) ⌝ }
 {
     if !tombstoned {
         return;
     }
-    let front = live_front(axis, edges, nodes, counts, node, live);
+    let front = live_front(axis, edge_capacity, node_capacity, counts, node, live);
     if front.left == 0 {
         return;
     }
-    shorten(axis, edges, nodes, counts, node, front.last, front.length);
+    shorten(
+        axis,
+        edge_capacity,
+        node_capacity,
+        counts,
+        node,
+        front.last,
+        front.length,
+    );
     append_live(
         axis,
-        edges,
-        nodes,
+        edge_capacity,
+        node_capacity,
         counts,
         node,
         live,
@@ -178,14 +201,14 @@ pub fn sweep(
 }
 
 // The entry that stands before `entry` in the chain of `length` entries from `first` on, or NONE where there is none.
-fn find_before(axis: &[u32], edges: usize, first: u32, length: u32, entry: u32) -> u32
-    requires { ⌜ Searchable (now axis) edges first length ⌝ }
-    ensures { λ r. ⌜ r ≡ before-in entry (chain (cell (now (axis .entry)) (3 * edges)) length first) ⌝ }
+fn find_before(axis: &[u32], edge_capacity: usize, first: u32, length: u32, entry: u32) -> u32
+    requires { ⌜ Searchable (now axis) «edge_capacity» first length ⌝ }
+    ensures { λ r. ⌜ r ≡ before-in entry (chain (cell (now (axis .entry)) (3 * «edge_capacity»)) length first) ⌝ }
 {
     let mut before = first;
     let mut left = length - 1;
     while left > 0 {
-        let at = 3 * edges + before as usize;
+        let at = 3 * edge_capacity + before as usize;
         let next = axis[at];
         if next == entry {
             return before;
@@ -199,20 +222,20 @@ fn find_before(axis: &[u32], edges: usize, first: u32, length: u32, entry: u32) 
 // Takes the edge that stands after `before` in the run of a node out of it.
 fn unlink(
     axis: &mut [u32],
-    edges: usize,
-    nodes: usize,
+    edge_capacity: usize,
+    node_capacity: usize,
     counts: Counts,
     node: usize,
     before: u32,
     entry: u32,
 )
-    requires { ⌜ Unlinkable (now axis) edges nodes counts node before entry ⌝ }
-    ensures { λ _. ⌜ TakenOut (now (axis .entry)) (now (axis .exit)) edges nodes counts node entry ⌝ }
+    requires { ⌜ Unlinkable (now axis) «edge_capacity» «node_capacity» counts node before entry ⌝ }
+    ensures { λ _. ⌜ TakenOut (now (axis .entry)) (now (axis .exit)) «edge_capacity» «node_capacity» counts node entry ⌝ }
 {
-    let tail = 4 * edges + 2 * nodes + node;
-    let count = 4 * edges + 3 * nodes + node;
-    let at = 3 * edges + before as usize;
-    let after = 3 * edges + entry as usize;
+    let tail = 4 * edge_capacity + 2 * node_capacity + node;
+    let count = 4 * edge_capacity + 3 * node_capacity + node;
+    let at = 3 * edge_capacity + before as usize;
+    let after = 3 * edge_capacity + entry as usize;
     axis[count] = axis[count] - 1;
     axis[at] = axis[after];
     if axis[tail] == entry {
@@ -223,30 +246,38 @@ fn unlink(
 // Takes an edge out of the run of a node, where it is there.
 pub fn take_out(
     axis: &mut [u32],
-    edges: usize,
-    nodes: usize,
+    edge_capacity: usize,
+    node_capacity: usize,
     counts: Counts,
     node: usize,
     entry: u32,
 )
-    requires { ⌜ Cuttable (now axis) edges nodes counts node ⌝ }
-    ensures { λ _. ⌜ TakenOut (now (axis .entry)) (now (axis .exit)) edges nodes counts node entry ⌝ }
+    requires { ⌜ Cuttable (now axis) «edge_capacity» «node_capacity» counts node ⌝ }
+    ensures { λ _. ⌜ TakenOut (now (axis .entry)) (now (axis .exit)) «edge_capacity» «node_capacity» counts node entry ⌝ }
 {
-    let head = 4 * edges + nodes + node;
-    let count = 4 * edges + 3 * nodes + node;
+    let head = 4 * edge_capacity + node_capacity + node;
+    let count = 4 * edge_capacity + 3 * node_capacity + node;
     let length = axis[count];
     let first = axis[head];
     if length == 0 {
         return;
     }
     if first == entry {
-        let after = 3 * edges + first as usize;
+        let after = 3 * edge_capacity + first as usize;
         axis[count] = length - 1;
         axis[head] = axis[after];
         return;
     }
-    let before = find_before(axis, edges, first, length, entry);
+    let before = find_before(axis, edge_capacity, first, length, entry);
     if before != NONE {
-        unlink(axis, edges, nodes, counts, node, before, entry);
+        unlink(
+            axis,
+            edge_capacity,
+            node_capacity,
+            counts,
+            node,
+            before,
+            entry,
+        );
     }
 }

@@ -1,5 +1,4 @@
--- Laws of the cursor: a step finds the head of what remains and leaves the tail, and nothing is found exactly where nothing remains; a search finds the first
--- entry that passes.
+-- Laws of the cursor: a step finds the head of what remains and leaves the tail, and nothing is found exactly where nothing remains.
 use Prim.Native.Nat.{ℕ, _+_, _-_, _≤_, _<_}
 use native.Mathlib.Omega.{arith}
 use mathlib.Core.Path.{_≡_, refl, sym, ap, _∙_, subst}
@@ -20,7 +19,7 @@ use Rattle.adjacency.specs.declared.cursor.AdjacencyCursor.{AdjacencyCur
 use Rattle.adjacency.specs.declared.cursor.Found.{Found}
 use Rattle.adjacency.specs.declared.cursor.Found.the-variants.{Edge, Done}
 use Rattle.adjacency.specs.declared.cursor.Step.{Step}
-use Rattle.adjacency.specs.Cursor.{word, part-left, part-count, ring-left, remaining, base-at, delta-at, ring-step, step-of, found-then, PartWithin, Closed, Ready, from-first, Sought}
+use Rattle.adjacency.specs.Cursor.{word, part-left, part-count, ring-left, remaining, base-at, delta-at, ring-step, step-of, found-then, PartWithin, Closed, Ready}
 
 -- as many entries of the run or base part as the cursor's numbers tell
 pub part-counted : (linked : Bool) (entries : List ℕ) (at end : ℕ) → length (part-left linked entries at end) ≡ part-count linked at end
@@ -103,32 +102,6 @@ step-stepped false {entries} {next} {c} r =
     (ap (λ (l : List ℕ). l ++ ring-left next (c .delta) (c .«delta_last»)) (between-some (word entries) (c .base) (c .«base_end») some))))
     (λ q. rw q (ring-stepped r (between-none (word entries) (c .base) (c .«base_end») (ltb-false (c .base) (c .«base_end») q))))
 
--- ---- what a step reads stands in the columns
-
-module _ {linked : Bool} {entries next : List ℕ} {c : AdjacencyCursor} (r : Ready linked entries next c) where
-  -- the ring's entry
-  pub ring-within : (c .delta ≡ NONE → ⊥) → c .delta < length next
-  unfolding remaining
-  ring-within some =
-      r .below (c .delta)
-      (member-append (c .delta) (part-left linked entries (c .base) (c .«base_end»)) (ring-left next (c .delta) (c .«delta_last»))
-      ∙ rw (ne-eqb (c .delta) NONE some, first) (or-true (member (c .delta) (part-left linked entries (c .base) (c .«base_end»)))))
-    where
-      first : In (c .delta) (until (word next) (c .«delta_last») (length next) (c .delta))
-      first = ⊎-elim (λ e. absurd (some e)) (until-first (word next) (c .«delta_last») (length next) (c .delta)) (r .closed)
-
-  -- the base part's places
-  pub base-within : linked ≡ false → (c .base ≤ c .«base_end») × (c .«base_end» ≤ length entries)
-  base-within q = subst (λ (b : Bool). PartWithin b entries next (c .base) (c .«base_end»)) q (r .part)
-
-  -- the run's entry
-  pub run-within : linked ≡ true → (c .«base_end» ≡ 0 → ⊥) → c .base < length entries
-  unfolding remaining
-  run-within q some =
-      let long : length next ≤ length entries = subst (λ (b : Bool). PartWithin b entries next (c .base) (c .«base_end»)) q (r .part) in
-      let low = r .below (c .base) (rw (q, chain-some (word entries) (c .«base_end») (c .base) (omega arith)) (member-first (c .base) _)) in
-      omega arith
-
 -- ---- a loop that steps: what each turn finds
 
 module _ {linked : Bool} {entries next : List ℕ} {c : AdjacencyCursor} (ready : Ready linked entries next c) {s : Step}
@@ -159,33 +132,6 @@ module _ {linked : Bool} {entries next : List ℕ} {c : AdjacencyCursor} (ready 
   step-below {e} q = ready .below e (rw (found-is q) (member-first e (remaining linked entries next (s .cursor))))
 
 -- ---- the search for the next entry that passes
-
--- What holds at each turn of a search from c₀ that has come to c: it finds from c on what it finds from c₀ on.
-pub record Seeking (test : ℕ → Bool) (linked : Bool) (entries next : List ℕ) (c₀ c : AdjacencyCursor) : Type 0 where
-  pub ready : Ready linked entries next c
-  pub same : from-first test (remaining linked entries next c₀) ≡ from-first test (remaining linked entries next c)
-
--- where a search starts
-pub seek-start : {test : ℕ → Bool} {linked : Bool} {entries next : List ℕ} {c : AdjacencyCursor} → Ready linked entries next c
-    → Seeking test linked entries next c c
-seek-start r = record { ready = r; same = refl }
-
-module _ {test : ℕ → Bool} {linked : Bool} {entries next : List ℕ} {c₀ c : AdjacencyCursor} (i : Seeking test linked entries next c₀ c)
-    {s : Step} (r : s ≡ step-of linked entries next c) where
-  -- an entry that passes
-  pub seek-listed : {e : ℕ} → s .found ≡ Edge e → test e ≡ true → Sought test linked entries next c₀ s
-  unfolding from-first
-  seek-listed {e} q t = record { ready = turn (i .ready) r .ready; left = i .same ∙ rw (found-is (i .ready) r q, t, q) }
-
-  -- the end
-  pub seek-done : s .found ≡ Done → Sought test linked entries next c₀ s
-  unfolding from-first
-  seek-done q = record { ready = turn (i .ready) r .ready; left = i .same ∙ rw (found-is (i .ready) r q, q) }
-
-  -- past an entry that does not pass
-  pub seek-on : {e : ℕ} → s .found ≡ Edge e → test e ≡ false → Seeking test linked entries next c₀ (s .cursor)
-  unfolding from-first
-  seek-on {e} q t = record { ready = turn (i .ready) r .ready; same = i .same ∙ rw (found-is (i .ready) r q, t) }
 
 -- the same walk without the run or base part, over columns of which the first is not read
 pub ring-ready : {linked : Bool} {entries next : List ℕ} {c : AdjacencyCursor} → Ready linked entries next c → Ready false next next (base-at c 0 0)

@@ -10,7 +10,8 @@ use Rattle.plain.specs.Reads.{live-count}
 use Rattle.plain.specs.Lists.{from, count}
 use Rattle.liveness.specs.Flags.{live-flags}
 use Rattle.liveness.specs.Laws.Bits.{power}
-use Rattle.liveness.specs.Laws.WordFlags.{count-turn, count-rest, count-le}
+use Rattle.liveness.proofs.WordFlags.{count-turn, count-rest}
+use Rattle.liveness.specs.Laws.Flags.{count-le}
 use Rattle.liveness.proofs.count_before.Statement.{statement}
 use Rattle.liveness.proofs.count_before.Tie as tie
 

@@ -9,7 +9,8 @@ use lib.ListN.{getD}
 use Rattle.plain.specs.Reads.{live-count}
 use Rattle.liveness.specs.Flags.{live-flags}
 use Rattle.liveness.specs.Laws.Bits.{power}
-use Rattle.liveness.specs.Laws.WordFlags.{count-rest, count-le, rank-flags}
+use Rattle.liveness.proofs.WordFlags.{count-rest, rank-flags}
+use Rattle.liveness.specs.Laws.Flags.{count-le}
 use Rattle.liveness.proofs.rank_by.Statement.{statement}
 use Rattle.liveness.proofs.rank_by.Tie as tie
 

@@ -4,9 +4,8 @@ use mathlib.Core.Bool.{Bool, true, false}
 use mathlib.Core.Path.{_≡_, refl, sym, ap, _∙_}
 use mathlib.Core.List.{List, [], _∷_, _++_, map}
 use native.Mathlib.Omega.{arith}
-use native.Mathlib.Nat.{add-zero}
+use native.Mathlib.Nat.{add-zero, div-eq-of-lt, div-lt-iff-lt-mul}
 use native.Mathlib.Decide.{ℕ-discrete, decLe}
-use native.Mathlib.Nat.{div-eq-of-lt, div-lt-iff-lt-mul}
 use borrow.Author.Tests.{eq-eqb, ne-eqb, eqb-true}
 use lib.Dec.{eqb}
 use lib.Pow.{pow-pos}
@@ -15,6 +14,8 @@ use lib.Seq.{ext-getD, getD-take, length-take-le, getD-set-same, getD-set-other}
 use Rattle.plain.specs.Lists.{from}
 use Rattle.liveness.specs.Flags.{bit, live-bit, live-flags, packed}
 use Rattle.liveness.specs.Laws.Bits.{bit-small, same-bits}
+use Rattle.plain.specs.Reads.{live-count}
+use Rattle.plain.specs.Laws.ListLaws.{count-length}
 
 -- one number more at the end
 from-suc : (a n : ℕ) → from a (suc n) ≡ from a n ++ ((a + n) ∷ [])
@@ -169,3 +170,9 @@ words-same a b n same a-packed b-packed i h a-fits b-fits = at (decLe (64 * i + 
         let some-left : n % 64 ≡ 0 → ⊥ = λ q. omega arith in
         same-bits (n % 64) (getD a i 0) (getD b i 0) (rw last at (packed-below a n some-left a-packed)) (rw last at (packed-below b n some-left b-packed))
         (λ j l. each j (omega arith) (omega arith))
+
+-- ---- counting a word at a time
+
+-- a count is at most the number of slots
+pub count-le : (words : List ℕ) (slots : ℕ) → live-count (live-flags words slots) ≤ slots
+count-le words slots = omega (arith, count-length (λ f. f) (live-flags words slots), length-flags words slots)

@@ -10,7 +10,7 @@
 -- 6. ν is ended, and the lender's part gives the local back at that last cursor (`ref-back`, `lies-out`).
 -- 7. Cursor and answer make the step, the locals are freed, and the postcondition is `Advanced`, which `sought-along` has from 3 and 5 (`exits`).
 -- Of the two callees the proof knows only that each meets its contract.
-use mathlib.Core.Path.{_≡_, refl, ap, subst}
+use mathlib.Core.Path.{refl, ap, subst}
 use Prim.Native.Nat.{ℕ, _<_, _^_}
 use mathlib.Core.Bool.{Bool}
 use mathlib.Core.List.{List, [], _∷_}
@@ -58,7 +58,8 @@ use denote.Exit.{yes}
 use Rattle.liveness.specs.Flags.{live-flags}
 use Rattle.shape.specs.Columns.{Sized}
 use Rattle.adjacency.specs.Cursor.{listed, Seekable, Sought}
-use Rattle.adjacency.specs.Axis.{Columns, Advanceable, Advanced, stepped, seekable-along, sought-along}
+use Rattle.adjacency.specs.Axis.{Columns, Advanceable, Advanced, stepped}
+use Rattle.adjacency.proofs.Columns.{seekable-along, sought-along}
 use Rattle.adjacency.specs.declared.axis.Axis.{Axis}
 use Rattle.adjacency.specs.declared.cursor.AdjacencyCursor.{AdjacencyCursor}
 use Rattle.adjacency.specs.declared.cursor.Found.{Found}

@@ -8,8 +8,8 @@ use Rattle.adjacency.proofs.axis.offsets_of.Tie as tie
 
 returns : tie.Need-returns
 returns c =
-    let ce = c .before .args .edges in
-    let cn = c .before .args .nodes in
+    let ce = c .before .args .edge-capacity in
+    let cn = c .before .args .node-capacity in
     let size : 4 * ce + 5 * cn + cn + 1 - (4 * ce + 5 * cn) ≡ cn + 1 = omega arith in
     rw size
 

@@ -9,7 +9,7 @@ use Rattle.adjacency.proofs.rings.append.Statement.{statement}
 use Rattle.adjacency.proofs.rings.append.Tie as tie
 
 -- the last entry of the ring is an edge
-last-in : (c : tie.Else1) → let a = c .before .before .args in last-at (a .axis .now) (a .edges) (a .node) < a .appended
+last-in : (c : tie.Else1) → let a = c .before .before .args in last-at (a .axis .now) (a .edge-capacity) (a .node) < a .appended
 last-in c = last-below (c .before .before .pre) (c .if1 .left)
 
 returns : tie.Need-returns

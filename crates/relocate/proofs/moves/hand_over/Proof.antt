@@ -14,11 +14,11 @@ abbrev start : tie.After-slice-known5 → tie.Start
 start c = c .before .before .before .before .before .before
 
 -- there are entries to hand over
-some-moved : (c : tie.After-slice-known5) → let a = start c .args in count-at (a .axis .now) (a .edges) (a .nodes) (a .old) ≢ 0
+some-moved : (c : tie.After-slice-known5) → let a = start c .args in count-at (a .axis .now) (a .edge-capacity) (a .node-capacity) (a .old) ≢ 0
 some-moved c = c .before .before .before .before .if1 .left
 
 -- the last entry of the second run is an edge
-last-in : (c : tie.Else2) → let a = start (c .before) .args in tail-at (a .axis .now) (a .edges) (a .nodes) (a .new) < a .edges
+last-in : (c : tie.Else2) → let a = start (c .before) .args in tail-at (a .axis .now) (a .edge-capacity) (a .node-capacity) (a .new) < a .edge-capacity
 last-in c = hand-last (start (c .before) .pre) (c .if2 .left)
 
 pub hand-over-spec : {M : Type 1} → statement M

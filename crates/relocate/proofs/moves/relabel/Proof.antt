@@ -17,11 +17,11 @@ abbrev start : tie.At-loop Inv-loop μ-loop → tie.Start Inv-loop μ-loop
 start c = c .before .before .before
 
 -- the present entry is an edge
-next-in : (c : tie.In-loop Inv-loop μ-loop) → c .before .loop .next < start (c .before) .args .edges
+next-in : (c : tie.In-loop Inv-loop μ-loop) → c .before .loop .next < start (c .before) .args .edge-capacity
 next-in c = relabel-below (start (c .before) .pre) (start (c .before) .args .new) (c .loop-test .taken) (c .before .loop .inv)
 
 -- and the axis has a word for its end and one for its link
-long : (c : tie.After-slice-known3 Inv-loop μ-loop) → 4 * start (c .before .before) .args .edges ≤ length (c .before .before .loop .axis)
+long : (c : tie.After-slice-known3 Inv-loop μ-loop) → 4 * start (c .before .before) .args .edge-capacity ≤ length (c .before .before .loop .axis)
 long c = omega (arith, c .before .before .loop .inv .now .long, start (c .before .before) .pre .editable .sized .room)
 
 pub relabel-spec : {M : Type 1} → statement M

@@ -16,7 +16,7 @@ abbrev start : tie.At-loop Inv-loop μ-loop → tie.Start Inv-loop μ-loop
 start c = c .before .before .before .before .before .before
 
 -- the place of the present entry is in the adjacency column
-place-in : (c : tie.In-loop Inv-loop μ-loop) → c .before .loop .at < start (c .before) .args .edges
+place-in : (c : tie.In-loop Inv-loop μ-loop) → c .before .loop .at < start (c .before) .args .edge-capacity
 place-in c =
     let pre = start (c .before) .pre in
     omega (arith, c .before .loop .inv .within, pre .edges-based, pre .editable .edges-within)

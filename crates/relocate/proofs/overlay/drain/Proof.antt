@@ -18,7 +18,7 @@ abbrev start : tie.At-loop Inv-loop μ-loop → tie.Start Inv-loop μ-loop
 start c = c .before .before .before .before .before .before
 
 -- the present entry is an edge
-next-in : (c : tie.At-loop Inv-loop μ-loop) → c .loop .next < start c .args .edges
+next-in : (c : tie.At-loop Inv-loop μ-loop) → c .loop .next < start c .args .edge-capacity
 next-in c = omega (arith, drain-below (start c .pre) (c .loop .inv), start c .pre .ready .editable .edges-within)
 
 loop-less : tie.Need-loop-less Inv-loop μ-loop

@@ -12,7 +12,7 @@ abbrev μ-loop : tie.MeasureT-loop
 μ-loop axis edges first length entry before₀ left₀ before left = left
 
 -- the present entry is an edge
-before-in : (c : tie.At-loop Inv-loop μ-loop) → c .loop .before < c .before .args .edges
+before-in : (c : tie.At-loop Inv-loop μ-loop) → c .loop .before < c .before .args .edge-capacity
 before-in c = search-below (c .before .args .entry) (c .before .pre) (c .loop .inv)
 
 pub find-before-spec : {M : Type 1} → statement M

@@ -9,7 +9,7 @@ use Rattle.relocate.proofs.runs.push.Statement.{statement}
 use Rattle.relocate.proofs.runs.push.Tie as tie
 
 -- the last entry of a run that is not empty is an edge
-last-in : (c : tie.Else1) → let a = c .before .before .before .args in tail-at (a .axis .now) (a .edges) (a .nodes) (a .node) < a .edges
+last-in : (c : tie.Else1) → let a = c .before .before .before .args in tail-at (a .axis .now) (a .edge-capacity) (a .node-capacity) (a .node) < a .edge-capacity
 last-in c = push-last (c .before .before .before .pre) (c .if1 .left)
 
 returns : tie.Need-returns

@@ -13,7 +13,7 @@ abbrev start : tie.Else1 → tie.Start
 start c = c .before .before .before .before
 
 -- the first entry of a run that is not empty is an edge
-first-in : (c : tie.Else1) → let a = start c .args in first-at (a .axis .now) (a .edges) (a .nodes) (a .node) < a .edges
+first-in : (c : tie.Else1) → let a = start c .args in first-at (a .axis .now) (a .edge-capacity) (a .node-capacity) (a .node) < a .edge-capacity
 first-in c = out-first (start c .pre) (start c .args .entry) (c .if1 .left)
 
 unlink-requires : tie.Need-unlink-requires

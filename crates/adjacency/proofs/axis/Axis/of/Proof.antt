@@ -46,7 +46,8 @@ use denote.Triple.Walked.{says, needs, Stays, stay-none, stay-none-slice, walkOf
 use denote.Exit.{yes}
 use Rattle.shape.specs.Columns.{Sized}
 use Rattle.adjacency.specs.Walk.{entries-column, next-column, ColumnsThere}
-use Rattle.adjacency.specs.Axis.{offsets-column, Columns, columns-there}
+use Rattle.adjacency.specs.Axis.{offsets-column, Columns}
+use Rattle.adjacency.proofs.Columns.{columns-there}
 use Rattle.adjacency.specs.declared.axis.Axis.{Axis}
 use Rattle.adjacency.proofs.axis.Axis as T
 use Rattle.adjacency.proofs.axis.Axis.Laws as T′

@@ -1,6 +1,5 @@
 -- `adjacency::cursor::AdjacencyCursor::total` meets its contract. The loop's invariant is `Summing`, the measure how many entries remain, listed or not.
-use mathlib.Core.Path.{_≡_, sym, _∙_}
-use mathlib.Core.Bool.{true}
+use mathlib.Core.Path.{sym, _∙_}
 use mathlib.Core.Logic.{⊎-elim}
 use native.Mathlib.Nat.{lt-of-lt-of-le}
 use native.Mathlib.Omega.{arith}
@@ -9,7 +8,7 @@ use lib.ListN.{length}
 use Rattle.liveness.specs.Flags.{live-flags}
 use Rattle.adjacency.specs.Cursor.{word, remaining, listed}
 use Rattle.adjacency.specs.Laws.Cursor.{turn-less, step-below}
-use Rattle.adjacency.specs.Summing.{Summing, summing-start, low-room, high-room, summing-on, summing-skip, summing-end}
+use Rattle.adjacency.proofs.Summing.{Summing, summing-start, low-room, high-room, summing-on, summing-skip, summing-end}
 use Rattle.adjacency.proofs.cursor.AdjacencyCursor.total.Statement.{statement}
 use Rattle.adjacency.proofs.cursor.AdjacencyCursor.total.Tie as tie
 

@@ -1,4 +1,4 @@
--- Laws of axes whose edges are relocated, node after node: what an edit of one node leaves, and the axis as `axis-of` reads it after it.
+-- Edges that end elsewhere: what was so placed that it can be relocated is so afterwards.
 use Prim.Native.Nat.{ℕ, suc, _+_, _*_, _≤_, _<_}
 use native.Mathlib.Nat.{le-refl, le-trans}
 use native.Mathlib.Omega.{arith}
@@ -15,8 +15,6 @@ use Rattle.plain.specs.Lists.{member, distinct, from, set-all}
 use Rattle.plain.specs.Laws.Booleans.{by-test, true-false}
 use Rattle.plain.specs.Laws.ListLaws.{length-from}
 use Rattle.plain.specs.Laws.Deleting.{getD-set, length-set-all, getD-set-all}
-use Rattle.plain.specs.Laws.Rank.{live-below}
-use Rattle.liveness.specs.Laws.Flags.{length-flags}
 use Rattle.shape.specs.Columns.{end-at}
 use Rattle.shape.specs.Chains.{In}
 use Rattle.shape.specs.Shape.{adjacency-in, Adjacency, Axis, raw, live-in, run-list, axis-of, no-adjacency, ring-of}
@@ -25,14 +23,11 @@ use Rattle.shape.specs.Checked.{AxisChecked}
 use Rattle.shape.specs.Kept.{AxisKept}
 use Rattle.shape.specs.Laws.Frames.{run-list-below, run-of-agree, base-of-agree, ring-of-agree, index-kept, runs-kept, rings-agree}
 use Rattle.shape.specs.Laws.Reading.{made-at}
-use Rattle.relocate.specs.Laws.Runs.{same-entries}
+use Rattle.relocate.proofs.Editing.{same-entries}
 use Rattle.relocate.specs.Overlay.{flags-of, Ready, Remade}
-use Rattle.relocate.specs.Laws.Overlay.{node-same, remade-list, remade-other}
+use Rattle.relocate.proofs.Remaking.{node-same, remade-list, remade-other}
 use Rattle.relocate.specs.Redirects.{Linked, Relocatable, Placed, Relabelled, Relocated}
-
--- a live edge is below the bound
-pub alive-below : (live : List ℕ) (counts : Counts) (e : ℕ) → live-in (flags-of live counts) e ≡ true → e < counts .edges .bound
-alive-below live counts e alive = rw length-flags at (live-below (flags-of live counts) e alive)
+use Rattle.relocate.specs.Laws.Runs.{alive-below}
 
 -- a node of such an axis can be edited
 pub placed-ready : {ws : List ℕ} {ce cn : ℕ} {counts : Counts} {live : List ℕ} {node : ℕ} → Relocatable ws ce cn counts live → Placed ws ce cn counts live node

@@ -16,8 +16,8 @@ use Rattle.plain.specs.Reads.{live-count}
 use Rattle.plain.specs.Compaction.{rank}
 use Rattle.liveness.specs.Flags.{bit, live-flags}
 use Rattle.liveness.specs.Laws.Bits.{bit-zero, bit-suc}
-use Rattle.liveness.specs.Laws.Flags.{length-flags, flags-suc, flags-take, bit-of}
-use Rattle.plain.specs.Laws.ListLaws.{count-append, count-length}
+use Rattle.liveness.specs.Laws.Flags.{flags-suc, flags-take, bit-of}
+use Rattle.plain.specs.Laws.ListLaws.{count-append}
 use Rattle.plain.specs.Laws.Rank.{rank-take}
 
 -- the k lowest flags of a word
@@ -81,10 +81,6 @@ count-rest words slots =
     ∙ ap (λ (n : ℕ). live-count (live-flags words (64 * (slots / 64))) + n)
     (ap live-count (sym (word-flags-rest (slots % 64) (getD words (slots / 64) 0)))
     ∙ count-word (slots % 64) (getD words (slots / 64) 0 % 2 ^ (slots % 64)) (mod-lt (getD words (slots / 64) 0) (pow-pos (slots % 64))))
-
--- a count is at most the number of slots
-pub count-le : (words : List ℕ) (slots : ℕ) → live-count (live-flags words slots) ≤ slots
-count-le words slots = omega (arith, count-length (λ f. f) (live-flags words slots), length-flags words slots)
 
 -- the rank of a slot is the number of live flags of the slots before it
 pub rank-flags : (words : List ℕ) (slots slot : ℕ) → slot ≤ slots → rank (live-flags words slots) slot ≡ live-count (live-flags words slot)

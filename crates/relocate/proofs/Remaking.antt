@@ -1,5 +1,4 @@
--- Laws of nodes with a run in place of base part and ring, for those who combine edits: an edit of the run before and after the ring is taken over, and what
--- the edit of one node leaves of another.
+-- A node's list remade as a run: what the run holds, and that every other node has what it had.
 use Prim.Native.Nat.{ℕ, _+_, _*_, _≤_, _<_}
 use native.Mathlib.Nat.{le-trans}
 use native.Mathlib.Omega.{arith}
@@ -19,7 +18,7 @@ use Rattle.shape.specs.Checked.{Index, Rings}
 use Rattle.shape.specs.Kept.{axis-kept-again}
 use Rattle.shape.specs.Laws.Frames.{base-kept, index-kept}
 use Rattle.relocate.specs.Runs.{Edited}
-use Rattle.relocate.specs.Laws.Runs.{same-entries, list-of-run, mark-of-run, edited-ring, edited-rings, edited-kept, edited-writes}
+use Rattle.relocate.proofs.Editing.{same-entries, list-of-run, mark-of-run, edited-ring, edited-rings, edited-kept, edited-writes}
 use Rattle.relocate.specs.Overlay.{Ready, Remade}
 
 -- equal parts make equal adjacencies
