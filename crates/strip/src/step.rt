@@ -5,8 +5,10 @@ use plain::EdgePayload;
 use plain::Operation;
 use plain::TraversalDirection;
 use plain::numbers;
+use store::Removal;
 use store::reads;
 ghost use mathlib.Core.Path.{_≡_};
+ghost use mathlib.Core.Bool.{cond};
 ghost use Prim.Native.Nat.{_*_, _≤_};
 ghost use lib.ListN.{length};
 ghost use Rattle.plain.specs.Numbers.{NONE as none};
@@ -56,6 +58,25 @@ fn refused(number: u32, counts: Counts) -> Stepped
     Stepped {
         number,
         value: plain::NONE,
+        counts,
+    }
+}
+
+// A removal: 1, or 0 where nothing live was there.
+fn removal_done(removal: Removal) -> Stepped
+    ensures { λ r. ⌜ r ≡ record { number = 0; value = cond (removal .removed) 1 0; counts = removal .counts } ⌝ }
+{
+    let counts = removal.counts;
+    if removal.removed {
+        return Stepped {
+            number: numbers::DONE,
+            value: 1,
+            counts,
+        };
+    }
+    Stepped {
+        number: numbers::DONE,
+        value: 0,
         counts,
     }
 }
@@ -201,19 +222,7 @@ pub fn remove_edge(
         incoming,
         edge,
     );
-    let after = removal.counts;
-    if removal.removed {
-        return Stepped {
-            number: numbers::DONE,
-            value: 1,
-            counts: after,
-        };
-    }
-    Stepped {
-        number: numbers::DONE,
-        value: 0,
-        counts: after,
-    }
+    removal_done(removal)
 }
 
 // "Removals: 4." The edges of both walks go with the node.
@@ -245,19 +254,7 @@ pub fn remove_node(
         incoming,
         node,
     );
-    let after = removal.counts;
-    if removal.removed {
-        return Stepped {
-            number: numbers::DONE,
-            value: 1,
-            counts: after,
-        };
-    }
-    Stepped {
-        number: numbers::DONE,
-        value: 0,
-        counts: after,
-    }
+    removal_done(removal)
 }
 
 // "Redirect: 4, 7, 8, 5, 6."

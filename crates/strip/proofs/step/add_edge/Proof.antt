@@ -2,7 +2,8 @@
 use Prim.Native.Nat.{_≤_}
 use mathlib.Core.Path.{sym, _∙_}
 use borrow.Author.Needs.{needs}
-use Rattle.strip.specs.Faults.{no-node-fault, no-payload-fault}
+use Rattle.strip.specs.Laws.Faults.{no-node-fault}
+use Rattle.strip.proofs.Payloads.{no-payload-fault}
 use Rattle.strip.proofs.Additions.{edge-inverted, source-fault, target-fault, edge-full, edge-added}
 use Rattle.strip.proofs.step.add_edge.Statement.{statement}
 use Rattle.strip.proofs.step.add_edge.Tie as tie

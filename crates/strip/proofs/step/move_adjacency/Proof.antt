@@ -3,7 +3,7 @@ use mathlib.Core.Path.{sym, ap, _∙_}
 use lib.ListN.{length}
 use borrow.Author.Needs.{needs}
 use Rattle.plain.specs.Laws.ListLaws.{no-entries}
-use Rattle.strip.specs.Faults.{no-node-fault}
+use Rattle.strip.specs.Laws.Faults.{no-node-fault}
 use Rattle.strip.proofs.Relocations.{onto-itself, old-absent, nothing-moved, new-fault, old-live, edges-moved}
 use Rattle.strip.proofs.step.move_adjacency.Statement.{statement}
 use Rattle.strip.proofs.step.move_adjacency.Tie as tie

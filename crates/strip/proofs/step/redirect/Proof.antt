@@ -1,7 +1,7 @@
 -- `step::redirect` meets its contract: the faults of the edge and of the node, then the store's redirection.
 use mathlib.Core.Path.{sym, _∙_}
 use borrow.Author.Needs.{needs}
-use Rattle.strip.specs.Faults.{no-edge-fault, no-node-fault}
+use Rattle.strip.specs.Laws.Faults.{no-edge-fault, no-node-fault}
 use Rattle.strip.proofs.Relocations.{edge-fault, node-fault, edge-redirected}
 use Rattle.strip.proofs.step.redirect.Statement.{statement}
 use Rattle.strip.proofs.step.redirect.Tie as tie

@@ -2,7 +2,7 @@
 use Prim.Native.Nat.{_≤_}
 use mathlib.Core.Path.{sym, _∙_}
 use borrow.Author.Needs.{needs}
-use Rattle.strip.specs.Faults.{no-payload-fault}
+use Rattle.strip.proofs.Payloads.{no-payload-fault}
 use Rattle.strip.proofs.Additions.{payload-inverted, payload-absent, payload-set}
 use Rattle.strip.proofs.step.set_payload.Statement.{statement}
 use Rattle.strip.proofs.step.set_payload.Tie as tie

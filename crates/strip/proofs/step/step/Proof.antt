@@ -2,7 +2,7 @@
 -- `refl` where it is lent by `&`.
 use mathlib.Core.Path.{refl}
 use borrow.Author.Needs.{needs}
-use Rattle.strip.specs.Step.{unknown}
+use Rattle.strip.proofs.Stepping.{unknown}
 use Rattle.strip.proofs.step.step.Statement.{statement}
 use Rattle.strip.proofs.step.step.Tie as tie
 

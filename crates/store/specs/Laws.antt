@@ -1,0 +1,2 @@
+-- The laws of a store, for the crates above to cite.
+pub mod Slots
