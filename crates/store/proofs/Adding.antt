@@ -28,7 +28,8 @@ use Rattle.store.proofs.Keeping.{pushed-word, pushed-other, opened-kept
 use Rattle.store.proofs.Made.{slots-more, payload-here, payload-other}
 use Rattle.store.specs.Operations.{Acted, one-more, with-nodes, with-edges, Raisable, NodeAddable, EdgeAddable}
 use Rattle.store.proofs.Axes.{opened-axis, opened-checked, appended-axis, appended-checked}
-use Rattle.store.specs.Acting.{shape-ext, acted-walks, live-within, pushed-checked}
+use Rattle.store.specs.Laws.Shapes.{shape-ext}
+use Rattle.store.proofs.Acting.{acted-walks, live-within, pushed-checked}
 
 -- ---- a node
 

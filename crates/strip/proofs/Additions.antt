@@ -19,9 +19,8 @@ use Rattle.shape.specs.Steps.{acts}
 use Rattle.store.specs.Operations.{Acted, Removing, RemovedEdge, RemovedNode}
 use Rattle.store.specs.Laws.Slots.{Told, nodes-told, edges-told, node-bound-of, edge-bound-of, absent-slot, live-slot, removed-slot}
 use Rattle.strip.specs.Faults.{fault-of}
-use Rattle.strip.specs.Laws.Faults.{by-fault}
 use Rattle.strip.specs.Step.{StepOf}
-use Rattle.strip.proofs.Payloads.{by-payload}
+use Rattle.strip.proofs.Told.{told-fault, told-inverted}
 use Rattle.strip.proofs.Stepping.{stays, done}
 
 module _ {w : Words} (c : Checked w) where
@@ -38,8 +37,8 @@ module _ {w : Words} (c : Checked w) where
   -- ---- add edge
 
   module _ (source target : ℕ) (payload : EdgePayload) where
-    pub edge-inverted : (payload-fault payload ≡ 0 → ⊥) → StepOf (AddEdge source target payload) w w (payload-fault payload) NONE
-    edge-inverted = by-payload payload (λ n. StepOf (AddEdge source target payload) w w n NONE) (λ o. stays c (add-edge-inverted o) refl)
+    pub edge-inverted : {number : ℕ} → number ≡ payload-fault payload → (number ≡ 0 → ⊥) → StepOf (AddEdge source target payload) w w number NONE
+    edge-inverted = told-inverted payload (λ n. StepOf (AddEdge source target payload) w w n NONE) (λ o. stays c (add-edge-inverted o) refl)
 
   module _ (source target : ℕ) {payload : EdgePayload} (order : payload .low ≤ payload .high) where
     pub source-absent : w .counts .nodes .bound ≤ source → StepOf (AddEdge source target payload) w w 5 NONE
@@ -55,13 +54,15 @@ module _ {w : Words} (c : Checked w) where
         → StepOf (AddEdge source target payload) w w 6 NONE
     target-removed s l h = stays c (add-edge-target-removed order (live-slot (nodes-told w) source s) (removed-slot (nodes-told w) target l h)) refl
 
-    pub source-fault : let number = fault-of (node-live w) (w .counts .nodes .bound) source 5 6 in (number ≡ 0 → ⊥) → StepOf (AddEdge source target payload) w w number NONE
-    source-fault = by-fault (node-live w) (w .counts .nodes .bound) source 5 6 (λ n. StepOf (AddEdge source target payload) w w n NONE) source-absent source-removed
+    pub source-fault : {number : ℕ} → number ≡ fault-of (node-live w) (w .counts .nodes .bound) source 5 6 → (number ≡ 0 → ⊥)
+        → StepOf (AddEdge source target payload) w w number NONE
+    source-fault = told-fault (node-live w) (w .counts .nodes .bound) source 5 6 (λ n. StepOf (AddEdge source target payload) w w n NONE) source-absent source-removed
 
     pub target-fault : getD (node-live w) source false ≡ true
-        → let number = fault-of (node-live w) (w .counts .nodes .bound) target 5 6 in (number ≡ 0 → ⊥) → StepOf (AddEdge source target payload) w w number NONE
+        → {number : ℕ} → number ≡ fault-of (node-live w) (w .counts .nodes .bound) target 5 6 → (number ≡ 0 → ⊥)
+        → StepOf (AddEdge source target payload) w w number NONE
     target-fault s =
-        by-fault (node-live w) (w .counts .nodes .bound) target 5 6 (λ n. StepOf (AddEdge source target payload) w w n NONE) (target-absent s) (target-removed s)
+        told-fault (node-live w) (w .counts .nodes .bound) target 5 6 (λ n. StepOf (AddEdge source target payload) w w n NONE) (target-absent s) (target-removed s)
 
     pub edge-full : getD (node-live w) source false ≡ true → getD (node-live w) target false ≡ true → edge-capacity w ≤ w .counts .edges .bound
         → StepOf (AddEdge source target payload) w w 10 NONE
@@ -97,8 +98,8 @@ module _ {w : Words} (c : Checked w) where
 
   -- ---- set payload, of removed edges too
 
-  pub payload-inverted : (e : ℕ) (v : EdgePayload) → (payload-fault v ≡ 0 → ⊥) → StepOf (SetPayload e v) w w (payload-fault v) NONE
-  payload-inverted e v = by-payload v (λ n. StepOf (SetPayload e v) w w n NONE) (λ o. stays c (set-payload-inverted o) refl)
+  pub payload-inverted : (e : ℕ) (v : EdgePayload) {number : ℕ} → number ≡ payload-fault v → (number ≡ 0 → ⊥) → StepOf (SetPayload e v) w w number NONE
+  payload-inverted e v = told-inverted v (λ n. StepOf (SetPayload e v) w w n NONE) (λ o. stays c (set-payload-inverted o) refl)
 
   pub payload-absent : (e : ℕ) {v : EdgePayload} → v .low ≤ v .high → w .counts .edges .bound ≤ e → StepOf (SetPayload e v) w w 7 NONE
   payload-absent e order h = stays c (set-payload-absent order (absent-slot (edges-told w) e h)) refl

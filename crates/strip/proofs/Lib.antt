@@ -1,5 +1,5 @@
 mod Making
-mod Payloads
+mod Told
 mod Stepping
 mod Additions
 mod Relocations

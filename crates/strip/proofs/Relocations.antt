@@ -24,20 +24,20 @@ use Rattle.adjacency.specs.StoreWalks.{list-is-walk}
 use Rattle.store.specs.Operations.{RedirectedEdge, MovedEdges}
 use Rattle.store.specs.Laws.Slots.{nodes-told, edges-told, node-bound-of, absent-slot, live-slot, removed-slot}
 use Rattle.strip.specs.Faults.{fault-of}
-use Rattle.strip.specs.Laws.Faults.{by-fault}
 use Rattle.strip.specs.Step.{StepOf}
+use Rattle.strip.proofs.Told.{told-fault}
 use Rattle.strip.proofs.Stepping.{stays, done}
 
 module _ {w : Words} (c : Checked w) (d : TraversalDirection) (edge node : ℕ) where
-  pub edge-fault : let number = fault-of (edge-live w) (w .counts .edges .bound) edge 7 8 in (number ≡ 0 → ⊥) → StepOf (Redirect d edge node) w w number NONE
+  pub edge-fault : {number : ℕ} → number ≡ fault-of (edge-live w) (w .counts .edges .bound) edge 7 8 → (number ≡ 0 → ⊥) → StepOf (Redirect d edge node) w w number NONE
   edge-fault =
-      by-fault (edge-live w) (w .counts .edges .bound) edge 7 8 (λ n. StepOf (Redirect d edge node) w w n NONE)
+      told-fault (edge-live w) (w .counts .edges .bound) edge 7 8 (λ n. StepOf (Redirect d edge node) w w n NONE)
       (λ h. stays c (redirect-edge-absent (absent-slot (edges-told w) edge h)) refl) (λ l h. stays c (redirect-edge-removed (removed-slot (edges-told w) edge l h)) refl)
 
   module _ (alive : getD (edge-live w) edge false ≡ true) where
-    pub node-fault : let number = fault-of (node-live w) (w .counts .nodes .bound) node 5 6 in (number ≡ 0 → ⊥) → StepOf (Redirect d edge node) w w number NONE
+    pub node-fault : {number : ℕ} → number ≡ fault-of (node-live w) (w .counts .nodes .bound) node 5 6 → (number ≡ 0 → ⊥) → StepOf (Redirect d edge node) w w number NONE
     node-fault =
-        by-fault (node-live w) (w .counts .nodes .bound) node 5 6 (λ n. StepOf (Redirect d edge node) w w n NONE)
+        told-fault (node-live w) (w .counts .nodes .bound) node 5 6 (λ n. StepOf (Redirect d edge node) w w n NONE)
         (λ h. stays c (redirect-node-absent (live-slot (edges-told w) edge alive) (absent-slot (nodes-told w) node h)) refl)
         (λ l h. stays c (redirect-node-removed (live-slot (edges-told w) edge alive) (removed-slot (nodes-told w) node l h)) refl)
 
@@ -76,9 +76,9 @@ module _ {w : Words} (c : Checked w) (d : TraversalDirection) (old new : ℕ) wh
       nothing-moved empty = stays c (move-nothing apart (rw (node-bound-of w) below) empty) refl
 
       module _ (some : list-of d (lists w) old ≢ []) where
-        pub new-fault : let number = fault-of (node-live w) (w .counts .nodes .bound) new 5 6 in (number ≡ 0 → ⊥) → StepOf (Move d old new) w w number NONE
+        pub new-fault : {number : ℕ} → number ≡ fault-of (node-live w) (w .counts .nodes .bound) new 5 6 → (number ≡ 0 → ⊥) → StepOf (Move d old new) w w number NONE
         new-fault =
-            by-fault (node-live w) (w .counts .nodes .bound) new 5 6 (λ n. StepOf (Move d old new) w w n NONE)
+            told-fault (node-live w) (w .counts .nodes .bound) new 5 6 (λ n. StepOf (Move d old new) w w n NONE)
             (λ h. stays c (move-new-absent apart (rw (node-bound-of w) below) some (absent-slot (nodes-told w) new h)) refl)
             (λ l h. stays c (move-new-removed apart (rw (node-bound-of w) below) some (removed-slot (nodes-told w) new l h)) refl)
 

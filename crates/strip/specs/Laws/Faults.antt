@@ -26,10 +26,6 @@ module _ (flags : List Bool) (bound slot absent removed : ℕ) where
       by-test (leb bound slot) (λ q. rw q (λ h. a (leb-true bound slot q)))
       (λ q. rw q (by-test (getD flags slot false) (λ t. rw t (λ h. absurd (h refl))) (λ t. rw t (λ h. r (leb-false bound slot q) t))))
 
--- the same for the numbers of a node
+-- the first for the numbers of a node
 pub no-node-fault : (flags : List Bool) (bound slot : ℕ) → fault-of flags bound slot 5 6 ≡ 0 → getD flags slot false ≡ true
 no-node-fault flags bound slot = no-fault flags bound slot 5 6 (λ q. omega arith) (λ q. omega arith)
-
--- and of an edge
-pub no-edge-fault : (flags : List Bool) (bound slot : ℕ) → fault-of flags bound slot 7 8 ≡ 0 → getD flags slot false ≡ true
-no-edge-fault flags bound slot = no-fault flags bound slot 7 8 (λ q. omega arith) (λ q. omega arith)

@@ -34,8 +34,8 @@ add-node-spec =
     (λ c κs. search needs)
     returns
     (λ c κs. search needs)
-    (λ c. search needs)
-    (λ c. search needs)
-    (λ c. search needs)
-    (λ c. search needs)
+    (λ c. called c .add-node .kept .1 .0)
+    (λ c. called c .add-node .kept .1 .1 .1 .1 .0)
+    (λ c. called c .add-node .kept .1 .1 .1 .1 .1 .1 .0)
+    (λ c. called c .add-node .kept .1 .1 .1 .1 .1 .1 .1 .0)
     returns-2)

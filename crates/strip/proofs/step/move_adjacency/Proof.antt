@@ -3,7 +3,7 @@ use mathlib.Core.Path.{sym, ap, _∙_}
 use lib.ListN.{length}
 use borrow.Author.Needs.{needs}
 use Rattle.plain.specs.Laws.ListLaws.{no-entries}
-use Rattle.strip.specs.Laws.Faults.{no-node-fault}
+use Rattle.strip.proofs.Told.{told-live}
 use Rattle.strip.proofs.Relocations.{onto-itself, old-absent, nothing-moved, new-fault, old-live, edges-moved}
 use Rattle.strip.proofs.step.move_adjacency.Statement.{statement}
 use Rattle.strip.proofs.step.move_adjacency.Tie as tie
@@ -52,9 +52,8 @@ returns-4 c =
     let below = counted (some .before) in
     let other = compared below in
     let s = entry (other .before) in
-    let e = wrong .before .fault .ensures in
-    rw (c .refused3 .ensures, e) (new-fault (s .pre) (s .args .direction) (s .args .old) (s .args .new) (other .if1 .left) (below .if2 .left)
-    (λ q. some .if3 .left (some .before .degree .ensures ∙ ap length q)) (λ q. wrong .if4 .taken (e ∙ q)))
+    rw (c .refused3 .ensures) (new-fault (s .pre) (s .args .direction) (s .args .old) (s .args .new) (other .if1 .left) (below .if2 .left)
+    (λ q. some .if3 .left (some .before .degree .ensures ∙ ap length q)) (wrong .before .fault .ensures) (wrong .if4 .taken))
 
 move-adjacency-requires : tie.Need-move-adjacency-requires
 move-adjacency-requires c κs =
@@ -69,7 +68,7 @@ move-adjacency-requires c κs =
       old-live = old-live (s .pre) (s .args .direction) (s .args .old) (s .args .new) (other .if1 .left) (below .if2 .left)
           (λ q. some .if3 .left (some .before .degree .ensures ∙ ap length q));
       some = λ q. some .if3 .left (some .before .degree .ensures ∙ ap length q);
-      new-live = no-node-fault _ _ _ (sym (to .before .fault .ensures) ∙ to .if4 .left);
+      new-live = told-live _ _ _ _ _ (to .before .fault .ensures) (to .if4 .left);
     }
 
 returns-5 : tie.Need-returns-5
@@ -81,7 +80,7 @@ returns-5 c =
     let other = compared below in
     let s = entry (other .before) in
     edges-moved (s .pre) (s .args .direction) (s .args .old) (s .args .new) (other .if1 .left) (below .if2 .left)
-    (λ q. some .if3 .left (some .before .degree .ensures ∙ ap length q)) (no-node-fault _ _ _ (sym (to .before .fault .ensures) ∙ to .if4 .left))
+    (λ q. some .if3 .left (some .before .degree .ensures ∙ ap length q)) (told-live _ _ _ _ _ (to .before .fault .ensures) (to .if4 .left))
     (call .move-adjacency .ensures)
 
 pub move-adjacency-spec : {M : Type 1} → statement M
@@ -102,6 +101,6 @@ move-adjacency-spec =
     (λ c. search needs)
     returns-4
     move-adjacency-requires
-    (λ c. search needs)
-    (λ c. search needs)
+    (λ c. called c .move-adjacency .kept .1 .1 .1 .1 .1 .1 .0)
+    (λ c. called c .move-adjacency .kept .1 .1 .1 .1 .1 .1 .1 .0)
     returns-5)
