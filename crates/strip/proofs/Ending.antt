@@ -1,16 +1,15 @@
 -- The ways that a strip ends, by what it answers before its first operation: refused, or its operations done in turn.
 use Prim.Native.Nat.{ℕ, zero, suc, _*_, _/_, _%_, _≤_, _<_}
-use mathlib.Core.Path.{_≡_, refl, sym, ap, _∙_}
+use mathlib.Core.Path.{_≡_, refl, sym, ap, subst, _∙_}
 use mathlib.Core.List.{List, []}
-use borrow.Author.Tests.{ne-eqb, eq-eqb, lt-ltb, le-ltb}
 use native.Mathlib.Omega.{arith}
 use lib.ListN.{length}
 use Rattle.plain.specs.declared.Answer.{Answer}
 use Rattle.plain.specs.Lists.{written}
 use Rattle.plain.specs.Operations.{operation-words, operations}
-use Rattle.plain.specs.Step.{run, answers}
 use Rattle.plain.specs.Calls.{Stripped, strip, judged-strip}
 use Rattle.plain.specs.Laws.Strips.{length-operations}
+use Rattle.plain.specs.Laws.CallCases.{strip-ragged, strip-short, strip-done}
 use Rattle.shape.specs.Shape.{Words, capacities, shape-of}
 use Rattle.shape.specs.Rules.{broken}
 use Rattle.shape.specs.Kept.{kept-none, kept-spared, nothing-spared, same-nodes, same-edges}
@@ -53,33 +52,27 @@ module _ (w : Words) (words entry : List ℕ) where
     told = ap (λ (n : ℕ). judged-strip n (state-of (shape-of w)) (strip (capacities w) (state-of (shape-of w)) words (length entry))) (sym (j .first) ∙ sound)
 
     not-whole : (length words % operation-words ≡ 0 → ⊥) → StripOf w words entry 3 (length words) w entry
-    unfolding strip
     not-whole rest =
-        kept (record { number = 3; value = length words; words = []; after = state-of (shape-of w) }) (told ∙ rw (ne-eqb (length words % operation-words) 0 rest)) refl refl
-        (λ q. omega arith)
+        kept (record { number = 3; value = length words; words = []; after = state-of (shape-of w) })
+        (told ∙ strip-ragged (capacities w) (state-of (shape-of w)) words (length entry) rest) refl refl (λ q. omega arith)
 
     module _ (whole : length words % operation-words ≡ 0) where
       needed : 2 * length (operations words) ≡ 2 * (length words / operation-words)
       needed = rw (length-operations words) (omega arith)
 
       no-room : length entry < 2 * (length words / operation-words) → StripOf w words entry 2 (2 * (length words / operation-words)) w entry
-      unfolding strip
       no-room little =
-          kept (record { number = 2; value = 2 * (length words / operation-words); words = []; after = state-of (shape-of w) })
-          (told ∙ rw (eq-eqb (length words % operation-words) 0 whole, needed, lt-ltb (length entry) (2 * (length words / operation-words)) little)) refl refl (λ q. omega arith)
+          subst (λ (n : ℕ). StripOf w words entry 2 n w entry) needed
+          (kept (record { number = 2; value = 2 * length (operations words); words = []; after = state-of (shape-of w) })
+          (told ∙ strip-short (capacities w) (state-of (shape-of w)) words (length entry) whole (rw needed little)) refl refl (λ q. omega arith))
 
       module _ (room : 2 * (length words / operation-words) ≤ length entry) where
         runnable : Runnable w words entry
         runnable = record { checked = j .checked sound; room = rw needed room }
 
         ran-through : {v : Words} {exit : List ℕ} → Ran w (operations words) entry v exit → StripOf w words entry 0 0 v exit
-        unfolding strip
         ran-through {v} {exit} ran =
-            let caps = capacities w in
-            let s = state-of (shape-of w) in
-            let ops = operations words in
-            let is : stripped w words (length entry) ≡ record { number = 0; value = 0; words = answers caps s ops; after = run caps s ops } =
-            told ∙ rw (eq-eqb (length words % operation-words) 0 whole, needed, le-ltb (length entry) (2 * (length words / operation-words)) room) in
+            let is = told ∙ strip-done (capacities w) (state-of (shape-of w)) words (length entry) whole (rw needed room) in
             record {
               numbered = ap (λ (o : Stripped). o .number) (sym is);
               valued = ap (λ (o : Stripped). o .value) (sym is);
@@ -110,9 +103,9 @@ module _ {w : Words} {words entry : List ℕ} {rule : ℕ} (j : Judged w rule) w
   strip-runnable (short sound whole little) none = absurd (omega arith)
   strip-runnable (opens sound whole room) none = runnable w words entry j sound whole room
 
-  pub strip-done : {r : Answer} {v : Words} {exit : List ℕ} → Opening rule (length words) (length entry) r → r .number ≡ 0
+  pub strip-run : {r : Answer} {v : Words} {exit : List ℕ} → Opening rule (length words) (length entry) r → r .number ≡ 0
       → Ran w (operations words) entry v exit → StripOf w words entry 0 0 v exit
-  strip-done (no-store broke) none ran = absurd (omega arith)
-  strip-done (ragged sound rest) none ran = absurd (omega arith)
-  strip-done (short sound whole little) none ran = absurd (omega arith)
-  strip-done (opens sound whole room) none ran = ran-through w words entry j sound whole room ran
+  strip-run (no-store broke) none ran = absurd (omega arith)
+  strip-run (ragged sound rest) none ran = absurd (omega arith)
+  strip-run (short sound whole little) none ran = absurd (omega arith)
+  strip-run (opens sound whole room) none ran = ran-through w words entry j sound whole room ran

@@ -2,7 +2,7 @@
 -- refused and else by the word of `run`.
 use mathlib.Core.Path.{refl}
 use borrow.Author.Needs.{needs}
-use Rattle.strip.proofs.Ending.{strip-refused, strip-runnable, strip-done}
+use Rattle.strip.proofs.Ending.{strip-refused, strip-runnable, strip-run}
 use Rattle.strip.proofs.strip.Statement.{statement}
 use Rattle.strip.proofs.strip.Tie as tie
 
@@ -30,7 +30,7 @@ returns-2 c =
     let call = called c in
     let sound = opened (call .before) in
     let answer = told (sound .before) in
-    strip-done (answer .before .judge .ensures) (answer .opening .ensures) (sound .if1 .left) (call .run .ensures)
+    strip-run (answer .before .judge .ensures) (answer .opening .ensures) (sound .if1 .left) (call .run .ensures)
 
 pub strip-spec : {M : Type 1} → statement M
 strip-spec =
