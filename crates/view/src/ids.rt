@@ -1,10 +1,10 @@
 // Public reads that list the live slots in slot order. "List of live nodes or edges in slot order: 1, 2."
 
+use crate::answers::answered;
 use liveness;
 use plain::Answer;
 use plain::Counts;
 use plain::Slots;
-use plain::numbers::DONE;
 use plain::numbers::TOO_SHORT;
 use validate::judging::judge;
 use validate::judging::no_store;
@@ -45,10 +45,7 @@ fn list_live(words: &[u64], counted: Slots, slots: &mut [u32]) -> Answer
         };
     }
     write_live(words, counted.bound as usize, slots);
-    Answer {
-        number: DONE,
-        value: live as u64,
-    }
+    answered(live)
 }
 
 // The live nodes in slot order, into `slots`.

@@ -70,13 +70,14 @@ add-edge-requires c κs =
 
 returns-5 : tie.Need-returns-5
 returns-5 c =
-    let call = called c in
+    let call = called (c .before) in
     let third = roomy (call .before) in
     let second = third .before in
     let first = second .before .before in
     let s = start (first .before) in
-    edge-added (s .pre) (s .args .source) (s .args .target) (order (first .before)) (told-live _ _ _ _ _ (first .before .fault .ensures) (first .if2 .left))
-    (told-live _ _ _ _ _ (second .before .fault2 .ensures) (second .if3 .left)) (third .if4 .left) (call .add-edge .ensures)
+    rw (c .done .ensures)
+    (edge-added (s .pre) (s .args .source) (s .args .target) (order (first .before)) (told-live _ _ _ _ _ (first .before .fault .ensures) (first .if2 .left))
+    (told-live _ _ _ _ _ (second .before .fault2 .ensures) (second .if3 .left)) (third .if4 .left) (call .add-edge .ensures))
 
 pub add-edge-spec : {M : Type 1} → statement M
 add-edge-spec =
@@ -95,9 +96,9 @@ add-edge-spec =
     (λ c κs. search needs)
     returns-4
     add-edge-requires
-    (λ c. called c .add-edge .kept .1 .1 .0)
-    (λ c. called c .add-edge .kept .1 .1 .1 .0)
-    (λ c. called c .add-edge .kept .1 .1 .1 .1 .1 .0)
-    (λ c. called c .add-edge .kept .1 .1 .1 .1 .1 .1 .0)
-    (λ c. called c .add-edge .kept .1 .1 .1 .1 .1 .1 .1 .0)
+    (λ c κs. search needs) (λ c. called (c .before) .add-edge .kept .1 .1 .0)
+    (λ c. called (c .before) .add-edge .kept .1 .1 .1 .0)
+    (λ c. called (c .before) .add-edge .kept .1 .1 .1 .1 .1 .0)
+    (λ c. called (c .before) .add-edge .kept .1 .1 .1 .1 .1 .1 .0)
+    (λ c. called (c .before) .add-edge .kept .1 .1 .1 .1 .1 .1 .1 .0)
     returns-5)

@@ -39,11 +39,13 @@ returns-2 c =
 
 returns-3 : tie.Need-returns-3
 returns-3 c =
-    let below = counted (c .before) in
+    let none = c .before in
+    let below = counted (none .before) in
     let other = compared below in
     let s = entry (other .before) in
-    nothing-moved (s .pre) (s .args .direction) (s .args .old) (s .args .new) (other .if1 .left) (below .if2 .left)
-    (no-entries _ (sym (c .before .degree .ensures) ∙ c .if3 .taken))
+    rw (c .done .ensures)
+    (nothing-moved (s .pre) (s .args .direction) (s .args .old) (s .args .new) (other .if1 .left) (below .if2 .left)
+    (no-entries _ (sym (none .before .degree .ensures) ∙ none .if3 .taken)))
 
 returns-4 : tie.Need-returns-4
 returns-4 c =
@@ -73,15 +75,16 @@ move-adjacency-requires c κs =
 
 returns-5 : tie.Need-returns-5
 returns-5 c =
-    let call = called c in
+    let call = called (c .before) in
     let to = asked (call .before) in
     let some = to .before .before in
     let below = counted (some .before) in
     let other = compared below in
     let s = entry (other .before) in
-    edges-moved (s .pre) (s .args .direction) (s .args .old) (s .args .new) (other .if1 .left) (below .if2 .left)
+    rw (c .done2 .ensures)
+    (edges-moved (s .pre) (s .args .direction) (s .args .old) (s .args .new) (other .if1 .left) (below .if2 .left)
     (λ q. some .if3 .left (some .before .degree .ensures ∙ ap length q)) (told-live _ _ _ _ _ (to .before .fault .ensures) (to .if4 .left))
-    (call .move-adjacency .ensures)
+    (call .move-adjacency .ensures))
 
 pub move-adjacency-spec : {M : Type 1} → statement M
 move-adjacency-spec =
@@ -92,6 +95,7 @@ move-adjacency-spec =
     (λ c κs. search needs)
     returns-2
     (λ c κs. search needs)
+    (λ c κs. search needs)
     (λ c. search needs)
     (λ c. search needs)
     returns-3
@@ -101,6 +105,6 @@ move-adjacency-spec =
     (λ c. search needs)
     returns-4
     move-adjacency-requires
-    (λ c. called c .move-adjacency .kept .1 .1 .1 .1 .1 .1 .0)
-    (λ c. called c .move-adjacency .kept .1 .1 .1 .1 .1 .1 .1 .0)
+    (λ c κs. search needs) (λ c. called (c .before) .move-adjacency .kept .1 .1 .1 .1 .1 .1 .0)
+    (λ c. called (c .before) .move-adjacency .kept .1 .1 .1 .1 .1 .1 .1 .0)
     returns-5)

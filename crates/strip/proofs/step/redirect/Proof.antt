@@ -41,14 +41,15 @@ redirect-requires c κs =
 
 returns-3 : tie.Need-returns-3
 returns-3 c =
-    let call = called c in
+    let call = called (c .before) in
     let second = call .before .before .before in
     let first = second .before .before in
     let s = start first in
-    edge-redirected (s .pre) (s .args .direction) (s .args .edge) (s .args .node) (told-live _ _ _ _ _ (first .before .fault .ensures) (first .if1 .left))
-    (told-live _ _ _ _ _ (second .before .fault2 .ensures) (second .if2 .left)) (call .redirect .ensures)
+    rw (c .done .ensures)
+    (edge-redirected (s .pre) (s .args .direction) (s .args .edge) (s .args .node) (told-live _ _ _ _ _ (first .before .fault .ensures) (first .if1 .left))
+    (told-live _ _ _ _ _ (second .before .fault2 .ensures) (second .if2 .left)) (call .redirect .ensures))
 
 pub redirect-spec : {M : Type 1} → statement M
 redirect-spec =
     tie.close
-    (tie.spec (λ c κs. search needs) (λ c κs. search needs) returns (λ c κs. search needs) (λ c κs. search needs) returns-2 redirect-requires (λ c. called c .redirect .kept .1 .1 .1 .1 .1 .1 .0) (λ c. called c .redirect .kept .1 .1 .1 .1 .1 .1 .1 .0) returns-3)
+    (tie.spec (λ c κs. search needs) (λ c κs. search needs) returns (λ c κs. search needs) (λ c κs. search needs) returns-2 redirect-requires (λ c κs. search needs) (λ c. called (c .before) .redirect .kept .1 .1 .1 .1 .1 .1 .0) (λ c. called (c .before) .redirect .kept .1 .1 .1 .1 .1 .1 .1 .0) returns-3)

@@ -44,11 +44,12 @@ set-payload-requires c κs =
 
 returns-3 : tie.Need-returns-3
 returns-3 c =
-    let call = called c in
+    let call = called (c .before) in
     let low = below (call .before) in
     let s = start (low .before) in
-    payload-set (s .pre) (s .args .edge) (order (low .before)) (low .if2 .left) (call .set-payload .ensures)
+    rw (c .done .ensures)
+    (payload-set (s .pre) (s .args .edge) (order (low .before)) (low .if2 .left) (call .set-payload .ensures))
 
 pub set-payload-spec : {M : Type 1} → statement M
 set-payload-spec =
-    tie.close (tie.spec (λ c κs. search needs) (λ c κs. search needs) returns (λ c κs. search needs) returns-2 set-payload-requires (λ c. called c .set-payload .kept .1 .1 .0) (λ c. called c .set-payload .kept .1 .1 .1 .0) returns-3)
+    tie.close (tie.spec (λ c κs. search needs) (λ c κs. search needs) returns (λ c κs. search needs) returns-2 set-payload-requires (λ c κs. search needs) (λ c. called (c .before) .set-payload .kept .1 .1 .0) (λ c. called (c .before) .set-payload .kept .1 .1 .1 .0) returns-3)

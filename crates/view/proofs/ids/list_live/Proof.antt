@@ -15,9 +15,9 @@ write-live-requires c κs = let room = c .before .before in told-fits (start (ro
 
 returns-2 : tie.Need-returns-2
 returns-2 c =
-    let called = c .before .before in
+    let called = c .before .before .before in
     let room = called .before .before .before in
-    listed-done (start (room .before) .pre) (room .if1 .left) (called .write-live .ensures)
+    rw (c .answered .ensures) (listed-done (start (room .before) .pre) (room .if1 .left) (called .write-live .ensures))
 
 pub list-live-spec : {M : Type 1} → statement M
 list-live-spec =
@@ -28,6 +28,6 @@ list-live-spec =
     returns
     (λ c. search needs)
     write-live-requires
-    (λ c. search needs)
+    (λ c κs. search needs)
     (λ c. search needs)
     returns-2)
