@@ -41,28 +41,19 @@ module _ {w : Words} (c : Checked w) where
     edge-inverted = told-inverted payload (λ n. StepOf (AddEdge source target payload) w w n NONE) (λ o. stays c (add-edge-inverted o) refl)
 
   module _ (source target : ℕ) {payload : EdgePayload} (order : payload .low ≤ payload .high) where
-    pub source-absent : w .counts .nodes .bound ≤ source → StepOf (AddEdge source target payload) w w 5 NONE
-    source-absent h = stays c (add-edge-source-absent order (absent-slot (nodes-told w) source h)) refl
-
-    pub source-removed : source < w .counts .nodes .bound → getD (node-live w) source false ≡ false → StepOf (AddEdge source target payload) w w 6 NONE
-    source-removed l h = stays c (add-edge-source-removed order (removed-slot (nodes-told w) source l h)) refl
-
-    pub target-absent : getD (node-live w) source false ≡ true → w .counts .nodes .bound ≤ target → StepOf (AddEdge source target payload) w w 5 NONE
-    target-absent s h = stays c (add-edge-target-absent order (live-slot (nodes-told w) source s) (absent-slot (nodes-told w) target h)) refl
-
-    pub target-removed : getD (node-live w) source false ≡ true → target < w .counts .nodes .bound → getD (node-live w) target false ≡ false
-        → StepOf (AddEdge source target payload) w w 6 NONE
-    target-removed s l h = stays c (add-edge-target-removed order (live-slot (nodes-told w) source s) (removed-slot (nodes-told w) target l h)) refl
-
     pub source-fault : {number : ℕ} → number ≡ fault-of (node-live w) (w .counts .nodes .bound) source 5 6 → (number ≡ 0 → ⊥)
         → StepOf (AddEdge source target payload) w w number NONE
-    source-fault = told-fault (node-live w) (w .counts .nodes .bound) source 5 6 (λ n. StepOf (AddEdge source target payload) w w n NONE) source-absent source-removed
+    source-fault =
+        told-fault (node-live w) (w .counts .nodes .bound) source 5 6 (λ n. StepOf (AddEdge source target payload) w w n NONE)
+        (λ h. stays c (add-edge-source-absent order (absent-slot (nodes-told w) source h)) refl)
+        (λ l h. stays c (add-edge-source-removed order (removed-slot (nodes-told w) source l h)) refl)
 
-    pub target-fault : getD (node-live w) source false ≡ true
-        → {number : ℕ} → number ≡ fault-of (node-live w) (w .counts .nodes .bound) target 5 6 → (number ≡ 0 → ⊥)
-        → StepOf (AddEdge source target payload) w w number NONE
+    pub target-fault : getD (node-live w) source false ≡ true → {number : ℕ} → number ≡ fault-of (node-live w) (w .counts .nodes .bound) target 5 6
+        → (number ≡ 0 → ⊥) → StepOf (AddEdge source target payload) w w number NONE
     target-fault s =
-        told-fault (node-live w) (w .counts .nodes .bound) target 5 6 (λ n. StepOf (AddEdge source target payload) w w n NONE) (target-absent s) (target-removed s)
+        told-fault (node-live w) (w .counts .nodes .bound) target 5 6 (λ n. StepOf (AddEdge source target payload) w w n NONE)
+        (λ h. stays c (add-edge-target-absent order (live-slot (nodes-told w) source s) (absent-slot (nodes-told w) target h)) refl)
+        (λ l h. stays c (add-edge-target-removed order (live-slot (nodes-told w) source s) (removed-slot (nodes-told w) target l h)) refl)
 
     pub edge-full : getD (node-live w) source false ≡ true → getD (node-live w) target false ≡ true → edge-capacity w ≤ w .counts .edges .bound
         → StepOf (AddEdge source target payload) w w 10 NONE

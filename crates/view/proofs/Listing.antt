@@ -10,19 +10,19 @@ use Rattle.plain.specs.declared.Slots.{Slots}
 use Rattle.plain.specs.declared.Answer.{Answer}
 use Rattle.plain.specs.Numbers.{LIMIT}
 use Rattle.plain.specs.Lists.{written}
-use Rattle.plain.specs.Reads.{Reply, listing, live-count, live-slots, node-slots, edge-slots}
+use Rattle.plain.specs.Reads.{listing, live-count, live-slots, node-slots, edge-slots}
 use Rattle.plain.specs.Laws.ListLaws.{count-length}
 use Rattle.plain.specs.Laws.Rank.{length-live-slots}
-use Rattle.plain.specs.Laws.CallCases.{lent-short, lent-done}
 use Rattle.liveness.specs.Flags.{live-flags, next-live}
 use Rattle.liveness.specs.Passed.{Passed, passed-none, passed-fewer, passed-on, passed-later, passed-few, passed-all}
 use Rattle.shape.specs.Checked.{SlotsChecked}
 use Rattle.shape.specs.Shape.{Words, node-live, edge-live, lists}
 use Rattle.adjacency.specs.Reading.{write-one}
-use Rattle.store.specs.Laws.Slots.{Told, nodes-told, edges-told}
-use Rattle.validate.specs.Judging.{Judged, reply-counts}
-use Rattle.view.specs.Calls.{Replied}
-use Rattle.view.specs.Ids.{LiveFits, LiveTold, Listed}
+use Rattle.store.specs.Laws.Slots.{nodes-told, edges-told}
+use Rattle.validate.specs.Judging.{Judged}
+use Rattle.view.specs.Calls.{Listed, Replied}
+use Rattle.view.specs.Laws.Calls.{list-replies}
+use Rattle.view.specs.Ids.{LiveFits, LiveTold}
 
 -- The live slots before `slot`, which is the next or past the end, are written, n of them.
 pub record Listing (flags : List Bool) (out₀ out : List ℕ) (n slot : ℕ) : Type 0 where
@@ -84,53 +84,24 @@ module _ {words : List ℕ} {s : Slots} (t : LiveTold words s) where
   told-fits room = record { long = t .long; few = t .few; fits = omega (arith, t .right) }
 
   -- as many are listed
-  size : s .live ≡ length (live-slots (live-flags words (s .bound)))
-  size = t .right ∙ sym (length-live-slots (live-flags words (s .bound)))
-
-  pub listed-short : {entry : List ℕ} → length entry < s .live → Listed (live-flags words (s .bound)) entry (record { number = 2; value = s .live }) entry
-  listed-short {entry} short =
-      let slots = live-slots (live-flags words (s .bound)) in
-      let is = lent-short (length entry) (length slots) slots (rw (← size) short) in
-      record {
-        number = ap (λ (r : Reply). r .number) (sym is);
-        value = size ∙ ap (λ (r : Reply). r .value) (sym is);
-        writes = ap (λ (r : Reply). written (r .words) entry) (sym is);
-      }
-
-  pub listed-done : {entry exit : List ℕ} → s .live ≤ length entry → exit ≡ written (live-slots (live-flags words (s .bound))) entry
-      → Listed (live-flags words (s .bound)) entry (record { number = 0; value = s .live }) exit
-  listed-done {entry} fits wrote =
-      let slots = live-slots (live-flags words (s .bound)) in
-      let is = lent-done (length entry) (length slots) slots (rw (← size) fits) in
-      record {
-        number = ap (λ (r : Reply). r .number) (sym is);
-        value = size ∙ ap (λ (r : Reply). r .value) (sym is);
-        writes = wrote ∙ ap (λ (r : Reply). written (r .words) entry) (sym is);
-      }
+  pub told-size : s .live ≡ length (live-slots (live-flags words (s .bound)))
+  told-size = t .right ∙ sym (length-live-slots (live-flags words (s .bound)))
 
 -- ---- the reads
 
 module _ {w : Words} {rule : ℕ} (j : Judged w rule) (none : rule ≡ 0) where
-  replied : {flags live : List Bool} {bound : ℕ} {read : Words → ℕ → Reply} {entry exit : List ℕ} {r : Answer} → Told flags live bound
-      → read w (length entry) ≡ listing (length entry) (live-slots flags) → Listed live entry r exit → Replied w read entry r exit
-  replied {read = read} {entry} t is l =
-      let same = ap (λ (fs : List Bool). listing (length entry) (live-slots fs)) (sym (t .same)) ∙ sym is ∙ reply-counts j none (read w (length entry)) in
-      record {
-        number = l .number ∙ ap (λ (r : Reply). r .number) same;
-        value = l .value ∙ ap (λ (r : Reply). r .value) same;
-        writes = l .writes ∙ ap (λ (r : Reply). written (r .words) entry) same;
-      }
-
   pub node-ids-told : LiveTold (w .live-nodes) (w .counts .nodes)
   node-ids-told = let k = j .checked none in checked-told (k .nodes) (k .axis Outgoing .sized .nodes-within)
 
   pub edge-ids-told : LiveTold (w .live-edges) (w .counts .edges)
   edge-ids-told = let k = j .checked none in checked-told (k .edges) (k .axis Outgoing .sized .edges-within)
 
-  pub node-ids-listed : {entry exit : List ℕ} {r : Answer} → Listed (node-live w) entry r exit → Replied w (λ w room. node-slots (lists w) room) entry r exit
+  pub node-ids-listed : {entry exit : List ℕ} {r : Answer} → Listed (live-slots (node-live w)) entry r exit
+      → Replied w (λ w room. node-slots (lists w) room) entry r exit
   unfolding node-slots
-  node-ids-listed = replied (nodes-told w) refl
+  node-ids-listed {entry} = list-replies j none (ap (λ (flags : List Bool). listing (length entry) (live-slots flags)) (nodes-told w .same))
 
-  pub edge-ids-listed : {entry exit : List ℕ} {r : Answer} → Listed (edge-live w) entry r exit → Replied w (λ w room. edge-slots (lists w) room) entry r exit
+  pub edge-ids-listed : {entry exit : List ℕ} {r : Answer} → Listed (live-slots (edge-live w)) entry r exit
+      → Replied w (λ w room. edge-slots (lists w) room) entry r exit
   unfolding edge-slots
-  edge-ids-listed = replied (edges-told w) refl
+  edge-ids-listed {entry} = list-replies j none (ap (λ (flags : List Bool). listing (length entry) (live-slots flags)) (edges-told w .same))

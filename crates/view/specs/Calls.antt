@@ -8,7 +8,7 @@ use Rattle.plain.specs.declared.Answer.{Answer}
 use Rattle.plain.specs.declared.Record.{Record}
 use Rattle.plain.specs.declared.Total.{Total}
 use Rattle.plain.specs.Lists.{written}
-use Rattle.plain.specs.Reads.{Reply}
+use Rattle.plain.specs.Reads.{Reply, listing}
 use Rattle.plain.specs.Calls.{judged, judged-reply, judged-record, judged-total}
 use Rattle.shape.specs.Shape.{Words}
 use Rattle.shape.specs.Rules.{broken}
@@ -31,3 +31,9 @@ pub record Replied (w : Words) (read : Words → ℕ → Reply) (entry : List �
   pub number : answer .number ≡ judged-reply (broken w) (read w (length entry)) .number
   pub value : answer .value ≡ judged-reply (broken w) (read w (length entry)) .value
   pub writes : exit ≡ written (judged-reply (broken w) (read w (length entry)) .words) entry
+
+-- A list that was written to the start of a lent slice, or had no room there.
+pub record Listed (list entry : List ℕ) (answer : Answer) (exit : List ℕ) : Type 0 where
+  pub number : answer .number ≡ listing (length entry) list .number
+  pub value : answer .value ≡ listing (length entry) list .value
+  pub writes : exit ≡ written (listing (length entry) list .words) entry

@@ -1,14 +1,11 @@
--- What listing the live slots of one kind asks and answers.
+-- What listing the live slots of one kind asks.
 use Prim.Native.Nat.{ℕ, _*_, _≤_}
 use mathlib.Core.Path.{_≡_}
-use mathlib.Core.Bool.{Bool}
 use mathlib.Core.List.{List}
 use lib.ListN.{length}
 use Rattle.plain.specs.declared.Slots.{Slots}
-use Rattle.plain.specs.declared.Answer.{Answer}
 use Rattle.plain.specs.Numbers.{LIMIT}
-use Rattle.plain.specs.Lists.{written}
-use Rattle.plain.specs.Reads.{listing, live-count, live-slots}
+use Rattle.plain.specs.Reads.{live-count}
 use Rattle.liveness.specs.Flags.{live-flags}
 
 -- What it takes to write the live slots to a slice: the words of all slots, and room.
@@ -22,9 +19,3 @@ pub record LiveTold (words : List ℕ) (s : Slots) : Type 0 where
   pub long : s .bound ≤ 64 * length words
   pub few : s .bound ≤ LIMIT
   pub right : s .live ≡ live-count (live-flags words (s .bound))
-
--- The slots with these flags were listed, or there was no room.
-pub record Listed (flags : List Bool) (entry : List ℕ) (answer : Answer) (exit : List ℕ) : Type 0 where
-  pub number : answer .number ≡ listing (length entry) (live-slots flags) .number
-  pub value : answer .value ≡ listing (length entry) (live-slots flags) .value
-  pub writes : exit ≡ written (listing (length entry) (live-slots flags) .words) entry

@@ -14,8 +14,8 @@ ghost use Rattle.plain.specs.Reads.{live-slots, node-slots, edge-slots};
 ghost use Rattle.liveness.specs.Flags.{live-flags};
 ghost use Rattle.shape.specs.Shape.{lists};
 ghost use Rattle.shape.specs.Lent.{at-entry};
-ghost use Rattle.view.specs.Calls.{Replied};
-ghost use Rattle.view.specs.Ids.{LiveFits, LiveTold, Listed};
+ghost use Rattle.view.specs.Calls.{Listed, Replied};
+ghost use Rattle.view.specs.Ids.{LiveFits, LiveTold};
 
 // Writes the live slots below `bound` to the start of `slots`, in slot order, from one live slot to the next. Internal: there is room for them.
 fn write_live(words: &[u64], bound: usize, slots: &mut [u32])
@@ -35,7 +35,7 @@ fn write_live(words: &[u64], bound: usize, slots: &mut [u32])
 // as the counts say.
 fn list_live(words: &[u64], counted: Slots, slots: &mut [u32]) -> Answer
     requires { ⌜ LiveTold (now words) counted ⌝ }
-    ensures { λ r. ⌜ Listed (live-flags (now (words .entry)) (counted .bound)) (now (slots .entry)) r (now (slots .exit)) ⌝ }
+    ensures { λ r. ⌜ Listed (live-slots (live-flags (now (words .entry)) (counted .bound))) (now (slots .entry)) r (now (slots .exit)) ⌝ }
 {
     let live = counted.live;
     if slots.len() < live as usize {

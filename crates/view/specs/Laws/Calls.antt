@@ -12,7 +12,28 @@ use Rattle.plain.specs.Reads.{Reply, no-record, no-total, listing}
 use Rattle.plain.specs.Laws.CallCases.{lent-short, lent-done}
 use Rattle.shape.specs.Shape.{Words}
 use Rattle.validate.specs.Judging.{Judged, refusal, answer-counts, answer-refused, reply-counts, reply-refused, record-counts, record-refused, total-counts, total-refused}
-use Rattle.view.specs.Calls.{Answered, Recorded, Totalled, Replied}
+use Rattle.view.specs.Calls.{Answered, Recorded, Totalled, Replied, Listed}
+
+-- ---- a list and the room for it
+
+module _ {list entry : List ℕ} {n : ℕ} (size : n ≡ length list) where
+  pub listed-short : length entry < n → Listed list entry (record { number = 2; value = n }) entry
+  listed-short short =
+      let is = lent-short (length entry) (length list) list (rw (← size) short) in
+      record {
+        number = ap (λ (r : Reply). r .number) (sym is);
+        value = size ∙ ap (λ (r : Reply). r .value) (sym is);
+        writes = ap (λ (r : Reply). written (r .words) entry) (sym is);
+      }
+
+  pub listed-done : {exit : List ℕ} → n ≤ length entry → exit ≡ written list entry → Listed list entry (record { number = 0; value = n }) exit
+  listed-done fits wrote =
+      let is = lent-done (length entry) (length list) list (rw (← size) fits) in
+      record {
+        number = ap (λ (r : Reply). r .number) (sym is);
+        value = size ∙ ap (λ (r : Reply). r .value) (sym is);
+        writes = wrote ∙ ap (λ (r : Reply). written (r .words) entry) (sym is);
+      }
 
 -- ---- the two ways a read ends
 
@@ -62,15 +83,22 @@ module _ {w : Words} {rule : ℕ} (j : Judged w rule) where
     pub reply-absent : read w (length entry) ≡ record { number = 5; value = NONE; words = [] } → Replied w read entry (record { number = 5; value = NONE }) entry
     reply-absent is = replies (record { number = 5; value = NONE; words = [] }) is refl
 
+    -- a list written, or not for want of room
+    pub list-replies : {list exit : List ℕ} {r : Answer} → read w (length entry) ≡ listing (length entry) list → Listed list entry r exit
+        → Replied w read entry r exit
+    list-replies is l =
+        let same = sym is ∙ reply-counts j h (read w (length entry)) in
+        record {
+          number = l .number ∙ ap (λ (a : Reply). a .number) same;
+          value = l .value ∙ ap (λ (a : Reply). a .value) same;
+          writes = l .writes ∙ ap (λ (a : Reply). written (a .words) entry) same;
+        }
+
     module _ (list : List ℕ) (is : read w (length entry) ≡ listing (length entry) list) {n : ℕ} (size : n ≡ length list) where
       -- a slice too short for a list
       pub list-short : length entry < n → Replied w read entry (record { number = 2; value = n }) entry
-      list-short short =
-          rw size
-          (replies (record { number = 2; value = length list; words = [] }) (is ∙ lent-short (length entry) (length list) list (rw (← size) short)) refl)
+      list-short short = list-replies {list = list} is (listed-short size short)
 
       -- a list written
       pub list-done : {exit : List ℕ} → n ≤ length entry → exit ≡ written list entry → Replied w read entry (record { number = 0; value = n }) exit
-      list-done fits writes =
-          rw size
-          (replies (record { number = 0; value = length list; words = list }) (is ∙ lent-done (length entry) (length list) list (rw (← size) fits)) writes)
+      list-done fits writes = list-replies {list = list} is (listed-done size fits writes)
