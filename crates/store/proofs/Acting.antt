@@ -7,6 +7,7 @@ use mathlib.Core.List.{List}
 use lib.ListN.{length, getD}
 use Rattle.plain.specs.declared.Operation.{Operation}
 use Rattle.plain.specs.declared.Slots.{Slots}
+use Rattle.plain.specs.declared.Counts.{Counts}
 use Rattle.plain.specs.Step.{Outcome, step}
 use Rattle.plain.specs.WellFormed.{WellFormed}
 use Rattle.plain.specs.Laws.Rank.{live-count-removed, live-count-pushed}
@@ -21,6 +22,13 @@ use Rattle.shape.specs.Steps.{acted, acts, shape-step}
 use Rattle.shape.specs.Laws.CheckedShape.{checked-proper}
 use Rattle.shape.specs.Laws.Keeping.{step-proper}
 use Rattle.store.specs.Operations.{one-more, fewer}
+
+-- the counts with those of one kind of slot replaced
+abbrev pub with-nodes : Slots → Counts → Counts
+with-nodes s counts = record { nodes = s; edges = counts .edges }
+
+abbrev pub with-edges : Slots → Counts → Counts
+with-edges s counts = record { nodes = counts .nodes; edges = s }
 
 -- an operation that changes a checked store, by its outcome in document 01
 module _
