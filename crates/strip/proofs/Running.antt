@@ -18,7 +18,7 @@ use Rattle.shape.specs.Checked.{Checked}
 use Rattle.shape.specs.Kept.{kept-none, kept-through, same-capacities}
 use Rattle.shape.specs.Steps.{shape-step, shape-run, state-of}
 use Rattle.shape.specs.Laws.Running.{shape-run-snoc}
-use Rattle.adjacency.specs.Reading.{write-one}
+use Rattle.adjacency.specs.Laws.Reading.{write-one}
 use Rattle.strip.specs.Step.{StepOf, outcome}
 use Rattle.strip.specs.Strip.{Runnable, Steps, no-step, one-step, Ran}
 use Rattle.strip.proofs.Stepping.{step-lists}

@@ -21,7 +21,7 @@ use Rattle.store.specs.Laws.Slots.{nodes-told, node-bound-of, absent-slot}
 use Rattle.validate.specs.Judging.{refusal}
 use Rattle.view.specs.Calls.{Answered, Replied}
 use Rattle.view.specs.Laws.Calls.{answer-refuses, answer-done, reply-refuses, reply-absent, list-short, list-done}
-use Rattle.adjacency.specs.StoreWalks.{checked-walkable, list-is-walk, far-ends}
+use Rattle.adjacency.specs.Laws.StoreWalks.{checked-walkable, list-is-walk, far-ends}
 use Rattle.view.specs.Walks.{list-in, far-ends-in, ListFits, CountAnswer, no-store, past, counted, ListAnswer, refused, short, fits}
 
 -- ---- a node at or above the bound, and one below it

@@ -6,7 +6,7 @@ use mathlib.Core.List.{List}
 use lib.ListN.{length, getD}
 use Rattle.plain.specs.Plain.{node-flags, edge-flags, node-bound, edge-bound}
 use Rattle.plain.specs.Laws.Cases.{Absent, Removed, Live}
-use Rattle.liveness.specs.FlagLaws.{length-flags}
+use Rattle.liveness.specs.Laws.Flags.{length-flags}
 use Rattle.shape.specs.Shape.{Words, node-live, edge-live, plain-of, lists}
 use Rattle.shape.specs.Laws.Reading.{node-flags-are, edge-flags-are, node-bound-is, edge-bound-is}
 
