@@ -21,13 +21,11 @@ use Rattle.plain.specs.Lists.{written}
 use Rattle.plain.specs.Plain.{Plain, NodeSlot, EdgeSlot, ordered, node-bound as nodes-bound, edge-bound as edges-bound, node-flags, edge-flags, node-slot, edge-slot, end-of, list-of, opposite}
 use Rattle.plain.specs.Operations.{operation-words, operations}
 use Rattle.plain.specs.Step.{Capacities, State, Outcome, unless, slot-fault, live-node, live-edge, node-fault, node-missing, edge-fault, edge-missing, room-fault, self-fault, payload-fault, removing, redirecting, moving, step, stepped, answers}
-use Rattle.plain.specs.Reads.{Reply, answer-unless, reply-unless, lent, listing, live-slots, payload-answer, record-answer, live-record-answer, total-unless, node-bound-answer, edge-bound-answer, node-slots, edge-slots}
-use Rattle.plain.specs.Reads.{walk as walk-of, neighbors as neighbors-of, degree as degree-of, total as total-of, node-payload as payload-of, edge-record as record-of, live-edge-record as live-record-of, contains-node as node-in, contains-edge as edge-in, is-empty as empty-answer, is-compact as compact-answer, node-count as nodes-counted, edge-count as edges-counted, find as find-of}
+use Rattle.plain.specs.Reads.{Reply, answer-unless, reply-unless, lent, listing, live-slots, payload-answer, record-answer, live-record-answer, total-unless, node-bound-answer, edge-bound-answer, node-slots, edge-slots, walk as walk-of, neighbors as neighbors-of, degree as degree-of, total as total-of, node-payload as payload-of, edge-record as record-of, live-edge-record as live-record-of, contains-node as node-in, contains-edge as edge-in, is-empty as empty-answer, is-compact as compact-answer, node-count as nodes-counted, edge-count as edges-counted, find as find-of}
 use Rattle.plain.specs.Renumbering.{composed, lookup-answer, compose as compose-of, is-identity as identity-answer}
 use Rattle.plain.specs.Memory.{Lengths, first-short, other-slices}
 use Rattle.plain.specs.Devices.{Device, box, skid}
-use Rattle.plain.specs.Calls.{judged, judged-reply, judged-record, judged-total, Stripped, judged-strip, short-answer, within, Compacted, compacting, compaction, compaction-slices, judged-compaction, readable, reading-slices, asked, reading}
-use Rattle.plain.specs.Calls.{check as check-answer, strip as strip-of, fresh as fresh-of, read-image as read-of}
+use Rattle.plain.specs.Calls.{judged, judged-reply, judged-record, judged-total, Stripped, judged-strip, short-answer, within, Compacted, compacting, compaction, compaction-slices, judged-compaction, readable, reading-slices, asked, reading, check as check-answer, strip as strip-of, fresh as fresh-of, read-image as read-of}
 use Rattle.plain.specs.Joining.{Sizes, sizes, MapRooms, map-slices, exceeds, join-answer, join as join-of}
 use Rattle.plain.specs.Image.{broken-image, nodes-in, edges-in}
 use Rattle.plain.specs.Laws.Booleans.{by-test}

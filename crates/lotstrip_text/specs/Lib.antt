@@ -1,5 +1,4 @@
 pub mod Appending
-pub mod Digits
 pub mod Lines
 pub mod Input
 pub mod Booking

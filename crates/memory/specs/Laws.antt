@@ -2,14 +2,14 @@
 use Prim.Native.Nat.{ℕ, zero, suc, _≤_, _<_}
 use mathlib.Core.Path.{_≡_, refl, sym, ap, _∙_}
 use mathlib.Core.Logic.{⊎-elim}
-use mathlib.Core.List.{List, [], _∷_}
+use mathlib.Core.List.{List, _∷_}
 use native.Mathlib.Omega.{arith}
 use lib.Dec.{leb}
-use borrow.Author.Tests.{le-leb, lt-leb, lt-ltb, le-ltb}
+use borrow.Author.Tests.{le-leb}
 use Rattle.plain.specs.declared.Answer.{Answer}
 use Rattle.plain.specs.Numbers.{too-short}
 use Rattle.plain.specs.Image.{broken-image, nodes-in, edges-in}
-use Rattle.plain.specs.Memory.{Slice, Lengths, first-short, other-slices, live-words, axis-length}
+use Rattle.plain.specs.Memory.{Slice, Lengths, first-short, live-words, axis-length}
 use Rattle.plain.specs.Devices.{Device, Takes, Proper}
 use Rattle.plain.specs.Calls.{short-answer, within, fresh, readable, reading-slices, asked, reading, read-image}
 use Rattle.plain.specs.Laws.Booleans.{by-test, below-or-not}
@@ -23,39 +23,6 @@ pub then-lacking : (needs has : ℕ) (slices : List Slice) {rest answer : Answer
     → answer ≡ short-answer (first-short (record { needs = needs; has = has } ∷ slices))
 unfolding lacking first-short
 then-lacking needs has slices is judged = judged ∙ by-test (leb needs has) (λ q. rw (q, is)) (λ q. rw q)
-
--- every slice but those whose lengths are the capacities
-pub others-lacking : (l : Lengths) {axis edge-words node-words : ℕ} {incoming outgoing live-edges live-nodes highs : Answer} → axis ≡ axis-length (l .capacities)
-    → edge-words ≡ live-words (l .capacities .edges) → node-words ≡ live-words (l .capacities .nodes) → incoming ≡ lacking too-short axis (l .incoming) (record { number = 0; value = 0 })
-    → outgoing ≡ lacking too-short axis (l .outgoing) incoming → live-edges ≡ lacking too-short edge-words (l .live-edges) outgoing → live-nodes ≡ lacking too-short node-words (l .live-nodes) live-edges
-    → highs ≡ lacking too-short (l .capacities .edges) (l .highs) live-nodes → highs ≡ short-answer (first-short (other-slices l))
-unfolding first-short
-others-lacking l {incoming = incoming} {outgoing} {live-edges} axis-is edges-are nodes-are a b c d e =
-    let ins : List Slice = record { needs = axis-length (l .capacities); has = l .incoming } ∷ [] in
-    let outs : List Slice = record { needs = axis-length (l .capacities); has = l .outgoing } ∷ ins in
-    let edges : List Slice = record { needs = live-words (l .capacities .edges); has = l .live-edges } ∷ outs in
-    let nodes : List Slice = record { needs = live-words (l .capacities .nodes); has = l .live-nodes } ∷ edges in
-    then-lacking (l .capacities .edges) (l .highs) nodes
-    (then-lacking (live-words (l .capacities .nodes)) (l .live-nodes) edges
-    (then-lacking (live-words (l .capacities .edges)) (l .live-edges) outs
-    (then-lacking (axis-length (l .capacities)) (l .outgoing) ins (then-lacking (axis-length (l .capacities)) (l .incoming) [] refl (a ∙ ap (λ (n : ℕ). lacking too-short n (l .incoming) (record { number = 0; value = 0 })) axis-is))
-    (b ∙ ap (λ (n : ℕ). lacking too-short n (l .outgoing) incoming) axis-is))
-    (c ∙ ap (λ (n : ℕ). lacking too-short n (l .live-edges) outgoing) edges-are))
-    (d ∙ ap (λ (n : ℕ). lacking too-short n (l .live-nodes) live-edges) nodes-are))
-    e
-
--- what a device takes is judged after the rest
-then-within : (device : Device) (n m : ℕ) (rest : Answer) {edges answer : Answer} → edges ≡ lacking (device .number) m (device .limits .edges) rest
-    → answer ≡ lacking (device .number) n (device .limits .nodes) edges → answer ≡ within device (asked n m) rest
-unfolding lacking within
-then-within device n m rest is judged =
-    judged ∙ ap (lacking (device .number) n (device .limits .nodes)) is
-    ∙ ⊎-elim (λ h. rw (lt-leb n (device .limits .nodes) h, lt-ltb (device .limits .nodes) n h))
-    (λ h. ⊎-elim
-    (λ k. rw (le-leb n (device .limits .nodes) h, le-ltb (device .limits .nodes) n h, lt-leb m (device .limits .edges) k, lt-ltb (device .limits .edges) m k))
-    (λ k. rw (le-leb n (device .limits .nodes) h, le-ltb (device .limits .nodes) n h, le-leb m (device .limits .edges) k, le-ltb (device .limits .edges) m k))
-    (below-or-not (device .limits .edges) m))
-    (below-or-not (device .limits .nodes) n)
 
 module _ (device : Device) (l : Lengths) (rule n m : ℕ) where
   pub read-nodes-above : device .limits .nodes < l .capacities .nodes → record { number = device .number; value = l .capacities .nodes } ≡ reading device l rule n m
@@ -75,17 +42,6 @@ module _ (device : Device) (l : Lengths) (rule n m : ℕ) where
         by-rule : (k : ℕ) (rest : Answer) → (k ≡ 0 → ⊥) → readable k rest ≡ record { number = 12; value = k }
         by-rule zero rest z = absurd (z refl)
         by-rule (suc k) rest z = refl
-
-    pub read-answered : {others edges nodes edges-taken answer : Answer} → rule ≡ 0 → others ≡ short-answer (first-short (other-slices l))
-        → edges ≡ lacking too-short m (l .capacities .edges) others → nodes ≡ lacking too-short n (l .capacities .nodes) edges
-        → edges-taken ≡ lacking (device .number) m (device .limits .edges) nodes → answer ≡ lacking (device .number) n (device .limits .nodes) edges-taken
-        → answer ≡ reading device l rule n m
-    unfolding reading
-    read-answered {nodes = nodes} none a b c d e =
-        let there = then-lacking n (l .capacities .nodes) (record { needs = m; has = l .capacities .edges } ∷ other-slices l)
-        (then-lacking m (l .capacities .edges) (other-slices l) a b) c in
-        then-within device n m nodes d e ∙ ap (within device (asked n m)) there
-        ∙ sym (within-limits device (l .capacities) _ takes ∙ rw none)
 
 -- making a store is reading an image of nothing
 pub fresh-reads : (device : Device) (l : Lengths) → reading device l 0 0 0 ≡ fresh device l

@@ -52,11 +52,11 @@ pub fn live_words(slots: usize) -> usize
 }
 
 // The words of an axis.
-pub fn axis_length(nodes: usize, edges: usize) -> usize
-    requires { ⌜ Few nodes edges ⌝ }
-    ensures { λ r. ⌜ r ≡ axis-length (caps nodes edges) ⌝ }
+pub fn axis_length(node_capacity: usize, edge_capacity: usize) -> usize
+    requires { ⌜ Few «node_capacity» «edge_capacity» ⌝ }
+    ensures { λ r. ⌜ r ≡ axis-length (caps «node_capacity» «edge_capacity») ⌝ }
 {
-    4 * edges + 6 * nodes + 1
+    4 * edge_capacity + 6 * node_capacity + 1
 }
 
 // The answer, or the refusal of a need above what there is, with the value asked for: a slice too short, or more than a device takes. For a call's slices, the last
@@ -111,20 +111,20 @@ pub fn reading_answer(
 ) -> Answer
     ensures { λ r. ⌜ r ≡ reading (device-of limits) (measured lengths) rule «count_nodes» «count_edges» ⌝ }
 {
-    let nodes = lengths.nodes;
-    let edges = lengths.lows;
+    let node_capacity = lengths.nodes;
+    let edge_capacity = lengths.lows;
     let most_nodes = limits.nodes as usize;
     let most_edges = limits.edges as usize;
-    if most_nodes < nodes {
+    if most_nodes < node_capacity {
         return Answer {
             number: limits.number,
-            value: nodes as u64,
+            value: node_capacity as u64,
         };
     }
-    if most_edges < edges {
+    if most_edges < edge_capacity {
         return Answer {
             number: limits.number,
-            value: edges as u64,
+            value: edge_capacity as u64,
         };
     }
     if rule != 0 {
@@ -136,8 +136,8 @@ pub fn reading_answer(
     let asked_nodes = count_nodes as usize;
     let asked_edges = count_edges as usize;
     let rest = others(lengths);
-    let edges_there = lacking(numbers::TOO_SHORT, asked_edges, edges, rest);
-    let nodes_there = lacking(numbers::TOO_SHORT, asked_nodes, nodes, edges_there);
+    let edges_there = lacking(numbers::TOO_SHORT, asked_edges, edge_capacity, rest);
+    let nodes_there = lacking(numbers::TOO_SHORT, asked_nodes, node_capacity, edges_there);
     let edges_taken = lacking(limits.number, asked_edges, most_edges, nodes_there);
     lacking(limits.number, asked_nodes, most_nodes, edges_taken)
 }

@@ -26,9 +26,10 @@ use Rattle.shape.specs.Laws.Reading.{node-bound-is, edge-bound-is, node-flags-a
 use Rattle.adjacency.specs.Rings.{Openable, Opened, Appendable, Appended}
 use Rattle.store.proofs.Keeping.{pushed-word, pushed-other, opened-kept, appended-kept, appended-writes}
 use Rattle.store.proofs.Made.{slots-more, payload-here, payload-other}
-use Rattle.store.specs.Operations.{Acted, one-more, with-nodes, with-edges, Raisable, NodeAddable, EdgeAddable}
+use Rattle.store.specs.Operations.{Acted, one-more, Raisable, NodeAddable, EdgeAddable}
+use Rattle.store.proofs.Acting.{with-nodes, with-edges, acted-walks, live-within, pushed-checked}
 use Rattle.store.proofs.Axes.{opened-axis, opened-checked, appended-axis, appended-checked}
-use Rattle.store.specs.Acting.{shape-ext, acted-walks, live-within, pushed-checked}
+use Rattle.store.specs.Laws.Shapes.{shape-ext}
 
 -- ---- a node
 

@@ -22,7 +22,8 @@ use Rattle.shape.specs.Laws.Frames.{base-kept, index-kept, run-list-below, run-
 use Rattle.shape.specs.Laws.Reading.{axis-adjacency, made-same}
 use Rattle.adjacency.specs.Rings.{Opened, Appended}
 use Rattle.store.proofs.Made.{made-more, made-set}
-use Rattle.store.specs.Operations.{one-more, with-nodes, with-edges}
+use Rattle.store.specs.Operations.{one-more}
+use Rattle.store.proofs.Acting.{with-nodes, with-edges}
 
 -- two directions with the same parts
 axis-ext : {a b : Axis} → a .ends ≡ b .ends → a .nodes ≡ b .nodes → a ≡ b

@@ -34,7 +34,8 @@ use Rattle.adjacency.specs.Laws.StoreClears.{checked-clearable, retired-slots, 
 use Rattle.store.proofs.Keeping.{cleared-word, cleared-other, retired-word}
 use Rattle.store.proofs.Made.{slots-set}
 use Rattle.store.specs.Operations.{Acted, RemovedNode, fewer}
-use Rattle.store.specs.Acting.{shape-ext, acted-walks, live-within, some-live, cleared-checked}
+use Rattle.store.specs.Laws.Shapes.{shape-ext}
+use Rattle.store.proofs.Acting.{acted-walks, live-within, some-live, cleared-checked}
 
 -- a node slot by its payload and its flag
 abbrev node-slot : ℕ → Bool → NodeSlot

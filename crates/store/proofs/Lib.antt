@@ -1,3 +1,5 @@
+mod Acting
+mod Summing
 mod Adding
 mod Axes
 mod Clearing

@@ -36,7 +36,8 @@ use Rattle.relocate.specs.Laws.Runs.{alive-below}
 use Rattle.relocate.specs.Moves.{Movable, Moved}
 use Rattle.relocate.specs.Laws.Stores.{checked-redirectable, checked-movable, checked-end, checked-all-live}
 use Rattle.store.specs.Operations.{Acted, RedirectedEdge, MovedEdges, EdgeRedirectable, EdgesMovable}
-use Rattle.store.specs.Acting.{shape-ext, acted-walks}
+use Rattle.store.specs.Laws.Shapes.{shape-ext}
+use Rattle.store.proofs.Acting.{acted-walks}
 
 -- ---- what crate `relocate` asks
 

@@ -1,3 +1,3 @@
 pub mod Operations
-pub mod Acting
 pub mod Reads
+pub mod Laws

@@ -12,7 +12,6 @@ use Rattle.plain.specs.declared.Operation.the-variants.{RemoveEdge, RemoveNode,
 use Rattle.plain.specs.declared.TraversalDirection.{TraversalDirection}
 use Rattle.plain.specs.declared.EdgePayload.{EdgePayload}
 use Rattle.plain.specs.declared.Slots.{Slots}
-use Rattle.plain.specs.declared.Counts.{Counts}
 use Rattle.plain.specs.Plain.{list-of}
 use Rattle.plain.specs.Numbers.{LIMIT}
 use Rattle.shape.specs.Columns.{end-at}
@@ -79,12 +78,6 @@ pub record Raisable (s : Slots) : Type 0 where
 -- n live slots removed
 abbrev pub fewer : ℕ → Slots → Slots
 fewer n s = record { bound = s .bound; base = s .base; live = s .live - n }
-
-abbrev pub with-nodes : Slots → Counts → Counts
-with-nodes s counts = record { nodes = s; edges = counts .edges }
-
-abbrev pub with-edges : Slots → Counts → Counts
-with-edges s counts = record { nodes = counts .nodes; edges = s }
 
 -- ---- what each operation asks
 

@@ -1,20 +1,27 @@
 -- The ways that additions, removals and a new payload end, each by what the program has tested.
 use Prim.Native.Nat.{ℕ, _≤_, _<_}
 use mathlib.Core.Path.{_≡_, refl, sym, subst, _∙_}
-use mathlib.Core.Bool.{Bool, true, false}
+use mathlib.Core.Bool.{Bool, true, false, cond}
+use mathlib.Core.List.{List}
 use lib.ListN.{getD}
 use Rattle.plain.specs.declared.EdgePayload.{EdgePayload}
+use Rattle.plain.specs.declared.Operation.{Operation}
 use Rattle.plain.specs.declared.Operation.the-variants.{AddNode, AddEdge, RemoveEdge, RemoveNode, SetPayload}
 use Rattle.plain.specs.Numbers.{NONE}
-use Rattle.plain.specs.Step.{payload-fault}
-use Rattle.plain.specs.Laws.Cases.{add-node-full, add-node, add-edge-inverted, add-edge-source-absent, add-edge-source-removed, add-edge-target-absent, add-edge-target-removed, add-edge-full, add-edge, remove-edge-absent, remove-edge-removed, remove-edge, remove-node-absent, remove-node-removed, remove-node, set-payload-inverted, set-payload-absent, set-payload}
-use Rattle.plain.specs.Laws.Booleans.{below-or-not}
+use Rattle.plain.specs.Plain.{Plain}
+use Rattle.plain.specs.Step.{payload-fault, changed, unchanged}
+use Rattle.plain.specs.Laws.Cases.{Absent, Removed, Live, Case, add-node-full, add-node, add-edge-inverted, add-edge-source-absent, add-edge-source-removed, add-edge-target-absent, add-edge-target-removed, add-edge-full, add-edge, remove-edge-absent, remove-edge-removed, remove-edge, remove-node-absent, remove-node-removed, remove-node, set-payload-inverted, set-payload-absent, set-payload}
+use Rattle.plain.specs.Laws.Booleans.{by-test, below-or-not}
 use mathlib.Core.Logic.{⊎-elim}
-use Rattle.shape.specs.Shape.{Words, node-capacity, edge-capacity, node-live}
+use Rattle.shape.specs.Shape.{Words, capacities, node-capacity, edge-capacity, node-live, lists}
 use Rattle.shape.specs.Checked.{Checked}
-use Rattle.store.specs.Operations.{Acted, RemovedEdge, RemovedNode}
-use Rattle.strip.specs.Faults.{fault-of, by-fault, by-payload}
-use Rattle.strip.specs.Step.{StepOf, absent-node, live-node, removed-node, absent-edge, live-edge, removed-edge, node-bound-of, edge-bound-of, stays, done}
+use Rattle.shape.specs.Steps.{acts}
+use Rattle.store.specs.Operations.{Acted, Removing, RemovedEdge, RemovedNode}
+use Rattle.store.specs.Laws.Slots.{Told, nodes-told, edges-told, node-bound-of, edge-bound-of, absent-slot, live-slot, removed-slot}
+use Rattle.strip.specs.Faults.{fault-of}
+use Rattle.strip.specs.Step.{StepOf}
+use Rattle.strip.proofs.Told.{told-fault, told-inverted}
+use Rattle.strip.proofs.Stepping.{stays, done}
 
 module _ {w : Words} (c : Checked w) where
   -- ---- add node
@@ -30,70 +37,63 @@ module _ {w : Words} (c : Checked w) where
   -- ---- add edge
 
   module _ (source target : ℕ) (payload : EdgePayload) where
-    pub edge-inverted : (payload-fault payload ≡ 0 → ⊥) → StepOf (AddEdge source target payload) w w (payload-fault payload) NONE
-    edge-inverted = by-payload payload (λ n. StepOf (AddEdge source target payload) w w n NONE) (λ o. stays c (add-edge-inverted o) refl)
+    pub edge-inverted : {number : ℕ} → number ≡ payload-fault payload → (number ≡ 0 → ⊥) → StepOf (AddEdge source target payload) w w number NONE
+    edge-inverted = told-inverted payload (λ n. StepOf (AddEdge source target payload) w w n NONE) (λ o. stays c (add-edge-inverted o) refl)
 
   module _ (source target : ℕ) {payload : EdgePayload} (order : payload .low ≤ payload .high) where
-    pub source-absent : w .counts .nodes .bound ≤ source → StepOf (AddEdge source target payload) w w 5 NONE
-    source-absent h = stays c (add-edge-source-absent order (absent-node w source h)) refl
+    pub source-fault : {number : ℕ} → number ≡ fault-of (node-live w) (w .counts .nodes .bound) source 5 6 → (number ≡ 0 → ⊥)
+        → StepOf (AddEdge source target payload) w w number NONE
+    source-fault =
+        told-fault (node-live w) (w .counts .nodes .bound) source 5 6 (λ n. StepOf (AddEdge source target payload) w w n NONE)
+        (λ h. stays c (add-edge-source-absent order (absent-slot (nodes-told w) source h)) refl)
+        (λ l h. stays c (add-edge-source-removed order (removed-slot (nodes-told w) source l h)) refl)
 
-    pub source-removed : source < w .counts .nodes .bound → getD (node-live w) source false ≡ false → StepOf (AddEdge source target payload) w w 6 NONE
-    source-removed l h = stays c (add-edge-source-removed order (removed-node w source l h)) refl
-
-    pub target-absent : getD (node-live w) source false ≡ true → w .counts .nodes .bound ≤ target → StepOf (AddEdge source target payload) w w 5 NONE
-    target-absent s h = stays c (add-edge-target-absent order (live-node w source s) (absent-node w target h)) refl
-
-    pub target-removed : getD (node-live w) source false ≡ true → target < w .counts .nodes .bound → getD (node-live w) target false ≡ false
-        → StepOf (AddEdge source target payload) w w 6 NONE
-    target-removed s l h = stays c (add-edge-target-removed order (live-node w source s) (removed-node w target l h)) refl
-
-    pub source-fault : let number = fault-of (node-live w) (w .counts .nodes .bound) source 5 6 in (number ≡ 0 → ⊥) → StepOf (AddEdge source target payload) w w number NONE
-    source-fault = by-fault (node-live w) (w .counts .nodes .bound) source 5 6 (λ n. StepOf (AddEdge source target payload) w w n NONE) source-absent source-removed
-
-    pub target-fault : getD (node-live w) source false ≡ true
-        → let number = fault-of (node-live w) (w .counts .nodes .bound) target 5 6 in (number ≡ 0 → ⊥) → StepOf (AddEdge source target payload) w w number NONE
+    pub target-fault : getD (node-live w) source false ≡ true → {number : ℕ} → number ≡ fault-of (node-live w) (w .counts .nodes .bound) target 5 6
+        → (number ≡ 0 → ⊥) → StepOf (AddEdge source target payload) w w number NONE
     target-fault s =
-        by-fault (node-live w) (w .counts .nodes .bound) target 5 6 (λ n. StepOf (AddEdge source target payload) w w n NONE) (target-absent s) (target-removed s)
+        told-fault (node-live w) (w .counts .nodes .bound) target 5 6 (λ n. StepOf (AddEdge source target payload) w w n NONE)
+        (λ h. stays c (add-edge-target-absent order (live-slot (nodes-told w) source s) (absent-slot (nodes-told w) target h)) refl)
+        (λ l h. stays c (add-edge-target-removed order (live-slot (nodes-told w) source s) (removed-slot (nodes-told w) target l h)) refl)
 
     pub edge-full : getD (node-live w) source false ≡ true → getD (node-live w) target false ≡ true → edge-capacity w ≤ w .counts .edges .bound
         → StepOf (AddEdge source target payload) w w 10 NONE
-    edge-full s t h = stays c (add-edge-full order (live-node w source s) (live-node w target t) (rw (edge-bound-of w) h)) refl
+    edge-full s t h = stays c (add-edge-full order (live-slot (nodes-told w) source s) (live-slot (nodes-told w) target t) (rw (edge-bound-of w) h)) refl
 
     pub edge-added : {v : Words} → getD (node-live w) source false ≡ true → getD (node-live w) target false ≡ true → w .counts .edges .bound < edge-capacity w
         → Acted (AddEdge source target payload) w v → StepOf (AddEdge source target payload) w v 0 (w .counts .edges .bound)
     edge-added {v} s t room a =
         subst (λ (n : ℕ). StepOf (AddEdge source target payload) w v 0 n) (edge-bound-of w)
-        (done (add-edge order (live-node w source s) (live-node w target t) (rw (edge-bound-of w) room)) refl refl a)
+        (done (add-edge order (live-slot (nodes-told w) source s) (live-slot (nodes-told w) target t) (rw (edge-bound-of w) room)) refl refl a)
 
   -- ---- removals: 1, or 0 where nothing live was there
 
-  pub node-removed : {v : Words} {answer : Bool} (x : ℕ) → answer ≡ true → RemovedNode x w answer v → StepOf (RemoveNode x) w v 0 1
-  node-removed x was r = done (remove-node (live-node w x (sym (r .answers) ∙ was))) refl refl (r .acts was)
+  -- of a slot of either kind, by document 01's three cases
+  module _ {flags live : List Bool} {bound : ℕ} (t : Told flags live bound) {operation : Operation} (x : ℕ) {after : Plain}
+      (acting : acts operation (changed 1 after) ≡ true) (idle : acts operation (unchanged 0 (lists w)) ≡ false)
+      (there : Live flags x → Case (capacities w) (lists w) operation (changed 1 after))
+      (gone : Removed flags x → Case (capacities w) (lists w) operation (unchanged 0 (lists w)))
+      (never : Absent flags x → Case (capacities w) (lists w) operation (unchanged 0 (lists w)))
+    where
+      slot-removed : {v : Words} {answer : Bool} → Removing operation (getD live x false) w answer v → StepOf operation w v 0 (cond answer 1 0)
+      slot-removed {v} {answer} r =
+          by-test answer (λ was. rw was (done (there (live-slot t x (sym (r .answers) ∙ was))) acting refl (r .acts was)))
+          (λ was-not. let dead = sym (r .answers) ∙ was-not in
+          rw was-not (subst (λ (u : Words). StepOf operation w u 0 0) (sym (r .keeps was-not))
+          (⊎-elim (λ l. stays c (gone (removed-slot t x l dead)) idle) (λ l. stays c (never (absent-slot t x l)) idle) (below-or-not x bound))))
 
-  pub no-node-removed : {v : Words} {answer : Bool} (x : ℕ) → answer ≡ false → RemovedNode x w answer v → StepOf (RemoveNode x) w v 0 0
-  no-node-removed {v} x was-not r =
-      let dead = sym (r .answers) ∙ was-not in
-      subst (λ (u : Words). StepOf (RemoveNode x) w u 0 0) (sym (r .keeps was-not))
-      (⊎-elim (λ l. stays c (remove-node-removed (removed-node w x l dead)) refl) (λ l. stays c (remove-node-absent (absent-node w x l)) refl)
-      (below-or-not x (w .counts .nodes .bound)))
+  pub node-removed : {v : Words} {answer : Bool} (x : ℕ) → RemovedNode x w answer v → StepOf (RemoveNode x) w v 0 (cond answer 1 0)
+  node-removed x = slot-removed (nodes-told w) x refl refl remove-node remove-node-removed remove-node-absent
 
-  pub edge-removed : {v : Words} {answer : Bool} (e : ℕ) → answer ≡ true → RemovedEdge e w answer v → StepOf (RemoveEdge e) w v 0 1
-  edge-removed e was r = done (remove-edge (live-edge w e (sym (r .answers) ∙ was))) refl refl (r .acts was)
-
-  pub no-edge-removed : {v : Words} {answer : Bool} (e : ℕ) → answer ≡ false → RemovedEdge e w answer v → StepOf (RemoveEdge e) w v 0 0
-  no-edge-removed {v} e was-not r =
-      let dead = sym (r .answers) ∙ was-not in
-      subst (λ (u : Words). StepOf (RemoveEdge e) w u 0 0) (sym (r .keeps was-not))
-      (⊎-elim (λ l. stays c (remove-edge-removed (removed-edge w e l dead)) refl) (λ l. stays c (remove-edge-absent (absent-edge w e l)) refl)
-      (below-or-not e (w .counts .edges .bound)))
+  pub edge-removed : {v : Words} {answer : Bool} (e : ℕ) → RemovedEdge e w answer v → StepOf (RemoveEdge e) w v 0 (cond answer 1 0)
+  edge-removed e = slot-removed (edges-told w) e refl refl remove-edge remove-edge-removed remove-edge-absent
 
   -- ---- set payload, of removed edges too
 
-  pub payload-inverted : (e : ℕ) (v : EdgePayload) → (payload-fault v ≡ 0 → ⊥) → StepOf (SetPayload e v) w w (payload-fault v) NONE
-  payload-inverted e v = by-payload v (λ n. StepOf (SetPayload e v) w w n NONE) (λ o. stays c (set-payload-inverted o) refl)
+  pub payload-inverted : (e : ℕ) (v : EdgePayload) {number : ℕ} → number ≡ payload-fault v → (number ≡ 0 → ⊥) → StepOf (SetPayload e v) w w number NONE
+  payload-inverted e v = told-inverted v (λ n. StepOf (SetPayload e v) w w n NONE) (λ o. stays c (set-payload-inverted o) refl)
 
   pub payload-absent : (e : ℕ) {v : EdgePayload} → v .low ≤ v .high → w .counts .edges .bound ≤ e → StepOf (SetPayload e v) w w 7 NONE
-  payload-absent e order h = stays c (set-payload-absent order (absent-edge w e h)) refl
+  payload-absent e order h = stays c (set-payload-absent order (absent-slot (edges-told w) e h)) refl
 
   pub payload-set : {u : Words} (e : ℕ) {v : EdgePayload} → v .low ≤ v .high → e < w .counts .edges .bound → Acted (SetPayload e v) w u
       → StepOf (SetPayload e v) w u 0 0

@@ -22,21 +22,24 @@ use Rattle.shape.specs.Laws.Reading.{plain-end}
 use Rattle.adjacency.specs.Walk.{walk-in}
 use Rattle.adjacency.specs.Laws.StoreWalks.{list-is-walk}
 use Rattle.store.specs.Operations.{RedirectedEdge, MovedEdges}
-use Rattle.strip.specs.Faults.{fault-of, by-fault}
-use Rattle.strip.specs.Step.{StepOf, node-bound-of, absent-node, live-node, removed-node, absent-edge, live-edge, removed-edge, stays, done}
+use Rattle.store.specs.Laws.Slots.{nodes-told, edges-told, node-bound-of, absent-slot, live-slot, removed-slot}
+use Rattle.strip.specs.Faults.{fault-of}
+use Rattle.strip.specs.Step.{StepOf}
+use Rattle.strip.proofs.Told.{told-fault}
+use Rattle.strip.proofs.Stepping.{stays, done}
 
 module _ {w : Words} (c : Checked w) (d : TraversalDirection) (edge node : ℕ) where
-  pub edge-fault : let number = fault-of (edge-live w) (w .counts .edges .bound) edge 7 8 in (number ≡ 0 → ⊥) → StepOf (Redirect d edge node) w w number NONE
+  pub edge-fault : {number : ℕ} → number ≡ fault-of (edge-live w) (w .counts .edges .bound) edge 7 8 → (number ≡ 0 → ⊥) → StepOf (Redirect d edge node) w w number NONE
   edge-fault =
-      by-fault (edge-live w) (w .counts .edges .bound) edge 7 8 (λ n. StepOf (Redirect d edge node) w w n NONE)
-      (λ h. stays c (redirect-edge-absent (absent-edge w edge h)) refl) (λ l h. stays c (redirect-edge-removed (removed-edge w edge l h)) refl)
+      told-fault (edge-live w) (w .counts .edges .bound) edge 7 8 (λ n. StepOf (Redirect d edge node) w w n NONE)
+      (λ h. stays c (redirect-edge-absent (absent-slot (edges-told w) edge h)) refl) (λ l h. stays c (redirect-edge-removed (removed-slot (edges-told w) edge l h)) refl)
 
   module _ (alive : getD (edge-live w) edge false ≡ true) where
-    pub node-fault : let number = fault-of (node-live w) (w .counts .nodes .bound) node 5 6 in (number ≡ 0 → ⊥) → StepOf (Redirect d edge node) w w number NONE
+    pub node-fault : {number : ℕ} → number ≡ fault-of (node-live w) (w .counts .nodes .bound) node 5 6 → (number ≡ 0 → ⊥) → StepOf (Redirect d edge node) w w number NONE
     node-fault =
-        by-fault (node-live w) (w .counts .nodes .bound) node 5 6 (λ n. StepOf (Redirect d edge node) w w n NONE)
-        (λ h. stays c (redirect-node-absent (live-edge w edge alive) (absent-node w node h)) refl)
-        (λ l h. stays c (redirect-node-removed (live-edge w edge alive) (removed-node w node l h)) refl)
+        told-fault (node-live w) (w .counts .nodes .bound) node 5 6 (λ n. StepOf (Redirect d edge node) w w n NONE)
+        (λ h. stays c (redirect-node-absent (live-slot (edges-told w) edge alive) (absent-slot (nodes-told w) node h)) refl)
+        (λ l h. stays c (redirect-node-removed (live-slot (edges-told w) edge alive) (removed-slot (nodes-told w) node l h)) refl)
 
     -- done: the value is the end before, and the same end changes nothing
     pub edge-redirected : {v : Words} {answer : ℕ} → getD (node-live w) node false ≡ true → RedirectedEdge d edge node w answer v
@@ -46,10 +49,10 @@ module _ {w : Words} (c : Checked w) (d : TraversalDirection) (edge node : ℕ) 
         (λ t. let same = eqb-true answer node t in
         subst (λ (u : Words). StepOf (Redirect d edge node) w u 0 answer) (sym (r .keeps same))
         (subst (λ (n : ℕ). StepOf (Redirect d edge node) w w 0 n) is
-        (stays c (redirect-same (live-edge w edge alive) (live-node w node on) (is ∙ same)) (rw (eq-eqb (end-of d (lists w) edge) node (is ∙ same))))))
+        (stays c (redirect-same (live-slot (edges-told w) edge alive) (live-slot (nodes-told w) node on) (is ∙ same)) (rw (eq-eqb (end-of d (lists w) edge) node (is ∙ same))))))
         (λ t. let other = eqb-false answer node t in
         subst (λ (n : ℕ). StepOf (Redirect d edge node) w v 0 n) is
-        (done (redirect (live-edge w edge alive) (live-node w node on) (λ q. other (sym is ∙ q)))
+        (done (redirect (live-slot (edges-told w) edge alive) (live-slot (nodes-told w) node on) (λ q. other (sym is ∙ q)))
         (rw (ne-eqb (end-of d (lists w) edge) node (λ q. other (sym is ∙ q)))) refl (r .acts other)))
       where
         below : edge < w .counts .edges .bound
@@ -66,18 +69,18 @@ module _ {w : Words} (c : Checked w) (d : TraversalDirection) (old new : ℕ) wh
 
   module _ (apart : old ≢ new) where
     pub old-absent : w .counts .nodes .bound ≤ old → StepOf (Move d old new) w w 5 NONE
-    old-absent h = stays c (move-old-absent apart (absent-node w old h)) refl
+    old-absent h = stays c (move-old-absent apart (absent-slot (nodes-told w) old h)) refl
 
     module _ (below : old < w .counts .nodes .bound) where
       pub nothing-moved : list-of d (lists w) old ≡ [] → StepOf (Move d old new) w w 0 0
       nothing-moved empty = stays c (move-nothing apart (rw (node-bound-of w) below) empty) refl
 
       module _ (some : list-of d (lists w) old ≢ []) where
-        pub new-fault : let number = fault-of (node-live w) (w .counts .nodes .bound) new 5 6 in (number ≡ 0 → ⊥) → StepOf (Move d old new) w w number NONE
+        pub new-fault : {number : ℕ} → number ≡ fault-of (node-live w) (w .counts .nodes .bound) new 5 6 → (number ≡ 0 → ⊥) → StepOf (Move d old new) w w number NONE
         new-fault =
-            by-fault (node-live w) (w .counts .nodes .bound) new 5 6 (λ n. StepOf (Move d old new) w w n NONE)
-            (λ h. stays c (move-new-absent apart (rw (node-bound-of w) below) some (absent-node w new h)) refl)
-            (λ l h. stays c (move-new-removed apart (rw (node-bound-of w) below) some (removed-node w new l h)) refl)
+            told-fault (node-live w) (w .counts .nodes .bound) new 5 6 (λ n. StepOf (Move d old new) w w n NONE)
+            (λ h. stays c (move-new-absent apart (rw (node-bound-of w) below) some (absent-slot (nodes-told w) new h)) refl)
+            (λ l h. stays c (move-new-removed apart (rw (node-bound-of w) below) some (removed-slot (nodes-told w) new l h)) refl)
 
         -- the old node is live: a removed node's list is empty
         pub old-live : getD (node-live w) old false ≡ true
@@ -89,4 +92,4 @@ module _ {w : Words} (c : Checked w) (d : TraversalDirection) (old new : ℕ) wh
         pub edges-moved : {v : Words} {answer : ℕ} → getD (node-live w) new false ≡ true → MovedEdges d old new w answer v → StepOf (Move d old new) w v 0 answer
         edges-moved {v} on r =
             subst (λ (n : ℕ). StepOf (Move d old new) w v 0 n) (sym (r .counted))
-            (done (move apart (rw (node-bound-of w) below) some (live-node w new on)) (rw (ne-eqb (length (list-of d (lists w) old)) 0 (λ q. some (no-entries (list-of d (lists w) old) q)))) refl (r .acts))
+            (done (move apart (rw (node-bound-of w) below) some (live-slot (nodes-told w) new on)) (rw (ne-eqb (length (list-of d (lists w) old)) 0 (λ q. some (no-entries (list-of d (lists w) old) q)))) refl (r .acts))

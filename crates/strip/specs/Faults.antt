@@ -1,51 +1,9 @@
--- A slot's fault: a number where it is at or above the bound, another where it is removed, 0 where it is live. And a payload's.
-use Prim.Native.Nat.{ℕ, _≤_, _<_}
-use mathlib.Core.Path.{_≡_, refl}
-use mathlib.Core.Bool.{Bool, true, false, cond}
+-- A slot's fault: a number where it is at or above the bound, another where it is removed, 0 where it is live.
+use Prim.Native.Nat.{ℕ}
+use mathlib.Core.Bool.{Bool, false, cond}
 use mathlib.Core.List.{List}
-use native.Mathlib.Omega.{arith}
 use lib.ListN.{getD}
 use lib.Dec.{leb}
-use borrow.Author.Tests.{leb-true, leb-false}
-use Rattle.plain.specs.declared.EdgePayload.{EdgePayload}
-use Rattle.plain.specs.Step.{payload-fault}
-use Rattle.plain.specs.Laws.Booleans.{by-test}
 
 unfoldable pub fault-of : List Bool → ℕ → ℕ → ℕ → ℕ → ℕ
 fault-of flags bound slot absent removed = cond (leb bound slot) absent (cond (getD flags slot false) 0 removed)
-
-module _ (flags : List Bool) (bound slot absent removed : ℕ) where
-  -- a slot with no fault is live
-  pub no-fault : (absent ≡ 0 → ⊥) → (removed ≡ 0 → ⊥) → fault-of flags bound slot absent removed ≡ 0 → getD flags slot false ≡ true
-  unfolding fault-of
-  no-fault a r h =
-      by-test (leb bound slot) (λ q. absurd (a (rw q at h)))
-      (λ q. let k = rw q at h in by-test (getD flags slot false) (λ t. t) (λ t. absurd (r (rw t at k))))
-
-  -- what follows from a fault, whichever it is
-  pub by-fault : (P : ℕ → Type 0) → (bound ≤ slot → P absent) → (slot < bound → getD flags slot false ≡ false → P removed)
-      → (fault-of flags bound slot absent removed ≡ 0 → ⊥) → P (fault-of flags bound slot absent removed)
-  unfolding fault-of
-  by-fault P a r =
-      by-test (leb bound slot) (λ q. rw q (λ h. a (leb-true bound slot q)))
-      (λ q. rw q (by-test (getD flags slot false) (λ t. rw t (λ h. absurd (h refl))) (λ t. rw t (λ h. r (leb-false bound slot q) t))))
-
--- the same for the numbers of a node
-pub no-node-fault : (flags : List Bool) (bound slot : ℕ) → fault-of flags bound slot 5 6 ≡ 0 → getD flags slot false ≡ true
-no-node-fault flags bound slot = no-fault flags bound slot 5 6 (λ q. omega arith) (λ q. omega arith)
-
--- and of an edge
-pub no-edge-fault : (flags : List Bool) (bound slot : ℕ) → fault-of flags bound slot 7 8 ≡ 0 → getD flags slot false ≡ true
-no-edge-fault flags bound slot = no-fault flags bound slot 7 8 (λ q. omega arith) (λ q. omega arith)
-
--- ---- a payload
-
--- what follows from its fault
-pub by-payload : (payload : EdgePayload) (P : ℕ → Type 0) → (payload .high < payload .low → P 16) → (payload-fault payload ≡ 0 → ⊥) → P (payload-fault payload)
-by-payload payload P inverted =
-    by-test (leb (payload .low) (payload .high)) (λ q. rw q (λ h. absurd (h refl))) (λ q. rw q (λ h. inverted (leb-false (payload .low) (payload .high) q)))
-
--- one with no fault is in order
-pub no-payload-fault : (payload : EdgePayload) → payload-fault payload ≡ 0 → payload .low ≤ payload .high
-no-payload-fault payload h =
-    by-test (leb (payload .low) (payload .high)) (λ q. leb-true (payload .low) (payload .high) q) (λ q. absurd (let k = rw q at h in omega arith))

@@ -4,6 +4,7 @@ pub mod step;
 
 use memory::Lengths;
 use memory::Limits;
+use plain::Answer;
 use plain::Changed;
 use plain::Counts;
 use plain::OPERATION_WORDS;
@@ -19,7 +20,7 @@ ghost use Rattle.plain.specs.Devices.{box, skid, Proper};
 ghost use Rattle.memory.specs.Lengths.{device-of};
 ghost use Rattle.shape.specs.Lent.{lent, at-entry, at-exit};
 ghost use Rattle.strip.specs.Fresh.{FreshOf};
-ghost use Rattle.strip.specs.Strip.{Runnable, Ran, StripOf};
+ghost use Rattle.strip.specs.Strip.{Runnable, Ran, Opening, StripOf};
 
 // A fresh store in the memory lent, on a device of these limits: its number, nodes before edges, then 2. It is empty with bounds 0, so that no word of it is a field, and
 // none is written. Internal.
@@ -185,6 +186,35 @@ fn run(
     counts
 }
 
+// What a strip answers before its first operation: "1, 3, 2", by the rule that its store breaks, its length and the room for its answers.
+fn opening(rule: u32, length: usize, room: usize) -> Answer
+    ensures { λ r. ⌜ Opening rule length room r ⌝ }
+{
+    if rule != 0 {
+        return Answer {
+            number: numbers::NO_STORE,
+            value: rule as u64,
+        };
+    }
+    if length % OPERATION_WORDS != 0 {
+        return Answer {
+            number: numbers::RAGGED,
+            value: length as u64,
+        };
+    }
+    let needed = 2 * (length / OPERATION_WORDS);
+    if room < needed {
+        return Answer {
+            number: numbers::TOO_SHORT,
+            value: needed as u64,
+        };
+    }
+    Answer {
+        number: numbers::DONE,
+        value: 0,
+    }
+}
+
 // A strip: "1, 3, 2", then its operations. The store is checked once. Refused, nothing is written.
 pub fn strip(
     counts: Counts,
@@ -214,26 +244,11 @@ pub fn strip(
         outgoing,
         incoming,
     );
-    if rule != 0 {
+    let told = opening(rule, words.len(), answers.len());
+    if told.number != 0 {
         return Changed {
-            number: numbers::NO_STORE,
-            value: rule as u64,
-            counts,
-        };
-    }
-    let length = words.len();
-    if length % OPERATION_WORDS != 0 {
-        return Changed {
-            number: numbers::RAGGED,
-            value: length as u64,
-            counts,
-        };
-    }
-    let needed = 2 * (length / OPERATION_WORDS);
-    if answers.len() < needed {
-        return Changed {
-            number: numbers::TOO_SHORT,
-            value: needed as u64,
+            number: told.number,
+            value: told.value,
             counts,
         };
     }

@@ -5,8 +5,10 @@ use plain::EdgePayload;
 use plain::Operation;
 use plain::TraversalDirection;
 use plain::numbers;
+use store::Removal;
 use store::reads;
 ghost use mathlib.Core.Path.{_≡_};
+ghost use mathlib.Core.Bool.{cond};
 ghost use Prim.Native.Nat.{_*_, _≤_};
 ghost use lib.ListN.{length};
 ghost use Rattle.plain.specs.Numbers.{NONE as none};
@@ -60,6 +62,28 @@ fn refused(number: u32, counts: Counts) -> Stepped
     }
 }
 
+// An operation that is done: number 0 and its value.
+fn done(value: u32, counts: Counts) -> Stepped
+    ensures { λ r. ⌜ r ≡ record { number = 0; value = value; counts = counts } ⌝ }
+{
+    Stepped {
+        number: numbers::DONE,
+        value,
+        counts,
+    }
+}
+
+// A removal: 1, or 0 where nothing live was there.
+fn removal_done(removal: Removal) -> Stepped
+    ensures { λ r. ⌜ r ≡ record { number = 0; value = cond (removal .removed) 1 0; counts = removal .counts } ⌝ }
+{
+    let counts = removal.counts;
+    if removal.removed {
+        return done(1, counts);
+    }
+    done(0, counts)
+}
+
 // "Add node: 4, 10."
 pub fn add_node(
     counts: Counts,
@@ -94,11 +118,7 @@ pub fn add_node(
         incoming,
         payload,
     );
-    Stepped {
-        number: numbers::DONE,
-        value: bound,
-        counts: after,
-    }
+    done(bound, after)
 }
 
 // "Add edge: 4, source 5, 6, target 5, 6, then 10", with 16 "directly after 4".
@@ -165,11 +185,7 @@ pub fn add_edge(
         payload.low,
         payload.high,
     );
-    Stepped {
-        number: numbers::DONE,
-        value: bound,
-        counts: after,
-    }
+    done(bound, after)
 }
 
 // "Removals: 4."
@@ -201,19 +217,7 @@ pub fn remove_edge(
         incoming,
         edge,
     );
-    let after = removal.counts;
-    if removal.removed {
-        return Stepped {
-            number: numbers::DONE,
-            value: 1,
-            counts: after,
-        };
-    }
-    Stepped {
-        number: numbers::DONE,
-        value: 0,
-        counts: after,
-    }
+    removal_done(removal)
 }
 
 // "Removals: 4." The edges of both walks go with the node.
@@ -245,19 +249,7 @@ pub fn remove_node(
         incoming,
         node,
     );
-    let after = removal.counts;
-    if removal.removed {
-        return Stepped {
-            number: numbers::DONE,
-            value: 1,
-            counts: after,
-        };
-    }
-    Stepped {
-        number: numbers::DONE,
-        value: 0,
-        counts: after,
-    }
+    removal_done(removal)
 }
 
 // "Redirect: 4, 7, 8, 5, 6."
@@ -315,11 +307,7 @@ pub fn redirect(
         edge,
         node,
     );
-    Stepped {
-        number: numbers::DONE,
-        value: previous,
-        counts,
-    }
+    done(previous, counts)
 }
 
 // "Move: 4, 9, old 5; an empty walk is done, value 0; then new 5, 6."
@@ -363,11 +351,7 @@ pub fn move_adjacency(
     )
         == 0
     {
-        return Stepped {
-            number: numbers::DONE,
-            value: 0,
-            counts,
-        };
+        return done(0, counts);
     }
     let to = fault(
         live_nodes,
@@ -392,11 +376,7 @@ pub fn move_adjacency(
         old,
         new,
     );
-    Stepped {
-        number: numbers::DONE,
-        value: moved,
-        counts,
-    }
+    done(moved, counts)
 }
 
 // "Set payload: 4, 7", with 16 "directly after 4".
@@ -439,11 +419,7 @@ pub fn set_payload(
         payload.low,
         payload.high,
     );
-    Stepped {
-        number: numbers::DONE,
-        value: 0,
-        counts,
-    }
+    done(0, counts)
 }
 
 // One operation.
@@ -561,10 +537,6 @@ pub fn step(
             edge,
             payload,
         ),
-        Operation::Unknown => Stepped {
-            number: numbers::UNKNOWN_CODE,
-            value: plain::NONE,
-            counts,
-        },
+        Operation::Unknown => refused(numbers::UNKNOWN_CODE, counts),
     }
 }

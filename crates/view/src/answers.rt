@@ -1,4 +1,4 @@
-// What the reads answer, by value: done, yes or no, and refused.
+// What the reads answer, by value: done, yes or no, refused, and any of these behind the check.
 
 use plain::Answer;
 use plain::EdgePayload;
@@ -6,7 +6,9 @@ use plain::NONE;
 use plain::Record;
 use plain::Total;
 use plain::numbers::DONE;
+use validate::judging::no_store;
 ghost use mathlib.Core.Path.{_≡_};
+ghost use Rattle.plain.specs.Calls.{judged as judged-of};
 ghost use Rattle.plain.specs.Numbers.{NONE as none};
 ghost use Rattle.plain.specs.Reads.{answered as answer-of, yes-or-no as test-of, no-record, no-total};
 ghost use Rattle.view.specs.Slots.{refused as refusal-of};
@@ -29,6 +31,16 @@ pub fn yes_or_no(test: bool) -> Answer
         return answered(1);
     }
     answered(0)
+}
+
+// An answer behind the check: 1 where a rule is broken.
+pub fn judged(rule: u32, answer: Answer) -> Answer
+    ensures { λ r. ⌜ r ≡ judged-of rule answer ⌝ }
+{
+    if rule != 0 {
+        return no_store(rule);
+    }
+    answer
 }
 
 // A refusal with no value.

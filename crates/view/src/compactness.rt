@@ -16,11 +16,16 @@ ghost use Rattle.view.specs.Calls.{Answered};
 ghost use Rattle.view.specs.Compact.{unmarked, MarksThere};
 
 // Whether no node below `bound` has a run in one direction: its mark is 0. Internal.
-fn no_runs(axis: &[u32], edges: usize, nodes: usize, bound: u32) -> bool
-    requires { ⌜ MarksThere (now axis) edges nodes bound ⌝ }
-    ensures { λ r. ⌜ r ≡ unmarked (now (axis .entry)) edges nodes bound ⌝ }
+fn no_runs(axis: &[u32], edge_capacity: usize, node_capacity: usize, bound: u32) -> bool
+    requires { ⌜ MarksThere (now axis) «edge_capacity» «node_capacity» bound ⌝ }
+    ensures { λ r. ⌜ r ≡ unmarked (now (axis .entry)) «edge_capacity» «node_capacity» bound ⌝ }
 {
-    words_below(axis, 4 * edges + 4 * nodes, bound as usize, 1)
+    words_below(
+        axis,
+        4 * edge_capacity + 4 * node_capacity,
+        bound as usize,
+        1,
+    )
 }
 
 // Whether a checked store is compact. Internal.

@@ -1,11 +1,11 @@
 // Finding an edge from one node to another: along the first node's out-list, to the first entry that ends at the second. "1, first 5, second 5."
 
+use crate::answers::answered;
+use crate::answers::refused;
 use adjacency;
 use liveness;
 use plain::Answer;
 use plain::Counts;
-use plain::NONE;
-use plain::numbers::DONE;
 use plain::numbers::OUT_OF_RANGE_NODE;
 use validate::judging::judge;
 use validate::judging::no_store;
@@ -46,16 +46,10 @@ pub fn find(
     }
     let bound = counts.nodes.bound;
     if bound <= first {
-        return Answer {
-            number: OUT_OF_RANGE_NODE,
-            value: NONE as u64,
-        };
+        return refused(OUT_OF_RANGE_NODE);
     }
     if bound <= second {
-        return Answer {
-            number: OUT_OF_RANGE_NODE,
-            value: NONE as u64,
-        };
+        return refused(OUT_OF_RANGE_NODE);
     }
     let at = first as usize;
     let live = liveness::is_live(live_nodes, bound as usize, at);
@@ -70,8 +64,5 @@ pub fn find(
         live,
         second,
     );
-    Answer {
-        number: DONE,
-        value: edge as u64,
-    }
+    answered(edge)
 }

@@ -2,11 +2,11 @@
 // "A total refuses 1, then 5".
 
 use crate::answers::no_total;
+use crate::answers::refused;
 use adjacency;
 use liveness;
 use plain::Answer;
 use plain::Counts;
-use plain::NONE;
 use plain::Total;
 use plain::TraversalDirection;
 use plain::numbers::DONE;
@@ -157,10 +157,7 @@ fn count_answer(
         return no_store(rule);
     }
     if counts.nodes.bound <= node {
-        return Answer {
-            number: OUT_OF_RANGE_NODE,
-            value: NONE as u64,
-        };
+        return refused(OUT_OF_RANGE_NODE);
     }
     let entries = reads::degree(
         counts,

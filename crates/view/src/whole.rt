@@ -1,11 +1,11 @@
 // Public reads of the whole store: bounds, counts, whether it is empty. "The check, the yes or no reads of a store, bounds and counts: 1."
 
 use crate::answers::answered;
+use crate::answers::judged;
 use crate::answers::yes_or_no;
 use plain::Answer;
 use plain::Counts;
 use validate::judging::judge;
-use validate::judging::no_store;
 ghost use Rattle.plain.specs.Reads.{node-bound-answer, edge-bound-answer, node-count, edge-count, is-empty};
 ghost use Rattle.shape.specs.Shape.{lists};
 ghost use Rattle.shape.specs.Lent.{at-entry};
@@ -36,10 +36,7 @@ pub fn node_bound(
         outgoing,
         incoming,
     );
-    if rule != 0 {
-        return no_store(rule);
-    }
-    answered(counts.nodes.bound)
+    judged(rule, answered(counts.nodes.bound))
 }
 
 // How many edge slots there are, removed ones too.
@@ -67,10 +64,7 @@ pub fn edge_bound(
         outgoing,
         incoming,
     );
-    if rule != 0 {
-        return no_store(rule);
-    }
-    answered(counts.edges.bound)
+    judged(rule, answered(counts.edges.bound))
 }
 
 // How many nodes are live.
@@ -98,10 +92,7 @@ pub fn node_count(
         outgoing,
         incoming,
     );
-    if rule != 0 {
-        return no_store(rule);
-    }
-    answered(counts.nodes.live)
+    judged(rule, answered(counts.nodes.live))
 }
 
 // How many edges are live.
@@ -129,10 +120,7 @@ pub fn edge_count(
         outgoing,
         incoming,
     );
-    if rule != 0 {
-        return no_store(rule);
-    }
-    answered(counts.edges.live)
+    judged(rule, answered(counts.edges.live))
 }
 
 // Whether no node is live.
@@ -160,8 +148,5 @@ pub fn is_empty(
         outgoing,
         incoming,
     );
-    if rule != 0 {
-        return no_store(rule);
-    }
-    yes_or_no(counts.nodes.live == 0)
+    judged(rule, yes_or_no(counts.nodes.live == 0))
 }

@@ -115,9 +115,6 @@ module _ {w : Words} (k : Checked w) (a : Writing w) where
 
 module _ {w : Words} (k : Checked w) (c : Closing w) where
   module _ (done : c .compacting .number ≡ 0) where
-    compaction-done : compaction-of (state-of (shape-of w)) (c .compacting) .number ≡ 0
-    compaction-done = sym (number-is k (c .compacting)) ∙ done
-
     -- the writing is that of what the compaction left
     after-image : Images (lists (c .compacting .after)) (c .writing)
     after-image = checked-image (c .compacting .comes-to .checked done) (c .writing)

@@ -21,7 +21,7 @@ use Rattle.shape.specs.Kept.{same-capacities}
 use Rattle.shape.specs.Steps.{state-of}
 use Rattle.shape.specs.Laws.Judging.{checked-sound}
 use Rattle.memory.specs.Laws.{read-roomy}
-use Rattle.strip.specs.Fresh.{fresh-takes}
+use Rattle.strip.specs.Laws.Fresh.{fresh-takes}
 use Rattle.strip.specs.Strip.{StripOf, stripped}
 use Rattle.compact.specs.Calls.{compacting-of, CompactOf}
 use Rattle.image.specs.Calls.{ReadOf}

@@ -1,7 +1,7 @@
 -- `lotstrip_text::lotstrip` meets its contract: too long, not whole operations, or run.
 use borrow.Author.Needs.{needs}
 use Rattle.plain.specs.Lotstrip.{codes}
-use Rattle.lotstrip_text.specs.Printing.{told, too-long, ragged, runs}
+use Rattle.lotstrip_text.proofs.Printing.{told, too-long, ragged, runs}
 use Rattle.lotstrip_text.proofs.lotstrip.Statement.{statement}
 use Rattle.lotstrip_text.proofs.lotstrip.Tie as tie
 

@@ -4,8 +4,8 @@ use native.Mathlib.Omega.{arith}
 use lib.ListN.{length}
 use borrow.Author.Needs.{needs}
 use Rattle.bits.specs.Put.{put-length}
-use Rattle.lotstrip_text.specs.Appending.{append-then, append-one}
-use Rattle.lotstrip_text.specs.Printing.{length-printed}
+use Rattle.lotstrip_text.proofs.Pieces.{append-then, append-one}
+use Rattle.lotstrip_text.proofs.Printing.{length-printed}
 use Rattle.lotstrip_text.proofs.print.Statement.{statement}
 use Rattle.lotstrip_text.proofs.print.Tie as tie
 

@@ -1,7 +1,7 @@
 -- `lotstrip_text::run` meets its contract: the words are read, the strip is booked, and what it comes to is printed.
 use mathlib.Core.Path.{sym}
 use borrow.Author.Needs.{needs}
-use Rattle.lotstrip_text.specs.Printing.{strip-length, strip-whole, answers-part, image-part, print-room, run-printed}
+use Rattle.lotstrip_text.proofs.Printing.{strip-length, strip-whole, answers-part, image-part, print-room, run-printed}
 use Rattle.lotstrip_text.proofs.run.Statement.{statement}
 use Rattle.lotstrip_text.proofs.run.Tie as tie
 

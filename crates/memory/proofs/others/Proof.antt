@@ -1,7 +1,7 @@
 -- `memory::others` meets its contract: the slices, the last first.
 use borrow.Author.Needs.{needs}
 use Rattle.memory.specs.Lengths.{measured}
-use Rattle.memory.specs.Laws.{others-lacking}
+use Rattle.memory.proofs.Slices.{others-lacking}
 use Rattle.memory.proofs.others.Statement.{statement}
 use Rattle.memory.proofs.others.Tie as tie
 

@@ -1,6 +1,7 @@
 -- `memory::reading_answer` meets its contract: the tests in the documents' order.
 use borrow.Author.Needs.{needs}
-use Rattle.memory.specs.Laws.{read-nodes-above, read-edges-above, read-broken, read-answered}
+use Rattle.memory.specs.Laws.{read-nodes-above, read-edges-above, read-broken}
+use Rattle.memory.proofs.Slices.{read-answered}
 use Rattle.memory.proofs.reading_answer.Statement.{statement}
 use Rattle.memory.proofs.reading_answer.Tie as tie
 

@@ -1,6 +1,6 @@
 -- `strip::fresh_within` meets its contract: the answer to the lengths, beside the counts of a store with no slot.
 use borrow.Author.Needs.{needs}
-use Rattle.strip.specs.Fresh.{made}
+use Rattle.strip.proofs.Making.{made}
 use Rattle.strip.proofs.fresh_within.Statement.{statement}
 use Rattle.strip.proofs.fresh_within.Tie as tie
 

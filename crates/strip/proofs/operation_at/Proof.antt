@@ -2,7 +2,7 @@
 use mathlib.Core.Path.{sym, _∙_}
 use borrow.Author.Needs.{needs}
 use Rattle.plain.specs.Laws.Strips.{operation-at}
-use Rattle.strip.specs.Strip.{operation-there}
+use Rattle.strip.proofs.Running.{operation-there}
 use Rattle.strip.proofs.operation_at.Statement.{statement}
 use Rattle.strip.proofs.operation_at.Tie as tie
 

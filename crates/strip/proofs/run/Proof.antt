@@ -6,7 +6,7 @@ use borrow.Author.Needs.{needs}
 use Rattle.plain.specs.Memory.{Lengths}
 use Rattle.shape.specs.Shape.{store}
 use Rattle.shape.specs.Kept.{SameLengths, same-nodes, same-edges, same-highs, same-live-nodes, same-live-edges}
-use Rattle.strip.specs.Strip.{Running, running-start, running-turn, running-words, running-room, running-end}
+use Rattle.strip.proofs.Running.{Running, running-start, running-turn, running-words, running-room, running-end}
 use Rattle.strip.proofs.run.Statement.{statement}
 use Rattle.strip.proofs.run.Tie as tie
 

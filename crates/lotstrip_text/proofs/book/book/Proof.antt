@@ -1,6 +1,6 @@
 -- `lotstrip_text::book::book` meets its contract: the strip and the image one after the other.
 use borrow.Author.Needs.{needs}
-use Rattle.lotstrip_text.specs.Booking.{closing-of}
+use Rattle.lotstrip_text.proofs.Booking.{closing-of}
 use Rattle.lotstrip_text.proofs.book.book.Statement.{statement}
 use Rattle.lotstrip_text.proofs.book.book.Tie as tie
 

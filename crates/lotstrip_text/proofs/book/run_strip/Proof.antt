@@ -1,6 +1,6 @@
 -- `lotstrip_text::book::run_strip` meets its contract: a fresh store is made, and the strip is run.
 use borrow.Author.Needs.{needs}
-use Rattle.lotstrip_text.specs.Booking.{booking}
+use Rattle.lotstrip_text.proofs.Booking.{booking}
 use Rattle.lotstrip_text.proofs.book.run_strip.Statement.{statement}
 use Rattle.lotstrip_text.proofs.book.run_strip.Tie as tie
 

@@ -6,8 +6,8 @@ use native.Mathlib.Omega.{arith}
 use lib.ListN.{length, drop}
 use Rattle.plain.specs.Lotstrip.{answer-lines}
 use Rattle.bits.specs.Put.{put-length}
-use Rattle.lotstrip_text.specs.Appending.{Writing, writing-start, writing-room, writing-more, writing-end}
-use Rattle.lotstrip_text.specs.Lines.{lines-next, lines-none}
+use Rattle.lotstrip_text.proofs.Pieces.{Writing, writing-start, writing-room, writing-more, writing-end}
+use Rattle.lotstrip_text.proofs.Lines.{lines-next, lines-none}
 use Rattle.lotstrip_text.proofs.text.write_answers.Statement.{statement}
 use Rattle.lotstrip_text.proofs.text.write_answers.Tie as tie
 

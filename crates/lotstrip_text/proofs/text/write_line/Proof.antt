@@ -3,8 +3,9 @@ use native.Mathlib.Omega.{arith}
 use borrow.Author.Needs.{needs}
 use Rattle.plain.specs.Lotstrip.{space}
 use Rattle.bits.specs.Put.{put-length}
-use Rattle.lotstrip_text.specs.Appending.{append-then}
-use Rattle.lotstrip_text.specs.Lines.{line, length-line, length-numbered}
+use Rattle.lotstrip_text.proofs.Pieces.{append-then}
+use Rattle.lotstrip_text.specs.Lines.{line}
+use Rattle.lotstrip_text.proofs.Lines.{length-line, length-numbered}
 use Rattle.lotstrip_text.proofs.text.write_line.Statement.{statement}
 use Rattle.lotstrip_text.proofs.text.write_line.Tie as tie
 

@@ -2,7 +2,7 @@
 use native.Mathlib.Omega.{arith}
 use borrow.Author.Needs.{needs}
 use Rattle.bits.specs.Put.{put-length}
-use Rattle.lotstrip_text.specs.Appending.{append-one}
+use Rattle.lotstrip_text.proofs.Pieces.{append-one}
 use Rattle.lotstrip_text.proofs.text.write_number.Statement.{statement}
 use Rattle.lotstrip_text.proofs.text.write_number.Tie as tie
 

@@ -2,7 +2,7 @@
 use borrow.Author.Needs.{needs}
 use Rattle.plain.specs.declared.TraversalDirection.the-variants.{Outgoing, Incoming}
 use Rattle.adjacency.specs.Laws.StoreWalks.{checked-walkable}
-use Rattle.store.specs.Reads.{degree-read}
+use Rattle.store.proofs.Summing.{degree-read}
 use Rattle.store.proofs.reads.degree.Statement.{statement}
 use Rattle.store.proofs.reads.degree.Tie as tie
 

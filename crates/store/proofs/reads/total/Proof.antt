@@ -1,7 +1,7 @@
 -- `reads::total` meets its contract: in either direction the list of a node is its walk.
 use borrow.Author.Needs.{needs}
 use Rattle.plain.specs.declared.TraversalDirection.the-variants.{Outgoing, Incoming}
-use Rattle.store.specs.Reads.{checked-summable, total-read}
+use Rattle.store.proofs.Summing.{checked-summable, total-read}
 use Rattle.store.proofs.reads.total.Statement.{statement}
 use Rattle.store.proofs.reads.total.Tie as tie
 

@@ -22,9 +22,10 @@ returns c =
 
 returns-2 : tie.Need-returns-2
 returns-2 c =
-    let call = called c in
+    let call = called (c .before) in
     let start = entry (roomy call .before) in
-    node-added (start .pre) (start .args .payload) (roomy call .if1 .left) (call .add-node .ensures)
+    rw (c .done .ensures)
+    (node-added (start .pre) (start .args .payload) (roomy call .if1 .left) (call .add-node .ensures))
 
 pub add-node-spec : {M : Type 1} → statement M
 add-node-spec =
@@ -34,8 +35,8 @@ add-node-spec =
     (λ c κs. search needs)
     returns
     (λ c κs. search needs)
-    (λ c. search needs)
-    (λ c. search needs)
-    (λ c. search needs)
-    (λ c. search needs)
+    (λ c κs. search needs) (λ c. called (c .before) .add-node .kept .1 .0)
+    (λ c. called (c .before) .add-node .kept .1 .1 .1 .1 .0)
+    (λ c. called (c .before) .add-node .kept .1 .1 .1 .1 .1 .1 .0)
+    (λ c. called (c .before) .add-node .kept .1 .1 .1 .1 .1 .1 .1 .0)
     returns-2)

@@ -3,7 +3,7 @@ use mathlib.Core.Path.{sym, ap, _∙_}
 use lib.ListN.{length}
 use borrow.Author.Needs.{needs}
 use Rattle.plain.specs.Laws.ListLaws.{no-entries}
-use Rattle.strip.specs.Faults.{no-node-fault}
+use Rattle.strip.proofs.Told.{told-live}
 use Rattle.strip.proofs.Relocations.{onto-itself, old-absent, nothing-moved, new-fault, old-live, edges-moved}
 use Rattle.strip.proofs.step.move_adjacency.Statement.{statement}
 use Rattle.strip.proofs.step.move_adjacency.Tie as tie
@@ -39,11 +39,13 @@ returns-2 c =
 
 returns-3 : tie.Need-returns-3
 returns-3 c =
-    let below = counted (c .before) in
+    let none = c .before in
+    let below = counted (none .before) in
     let other = compared below in
     let s = entry (other .before) in
-    nothing-moved (s .pre) (s .args .direction) (s .args .old) (s .args .new) (other .if1 .left) (below .if2 .left)
-    (no-entries _ (sym (c .before .degree .ensures) ∙ c .if3 .taken))
+    rw (c .done .ensures)
+    (nothing-moved (s .pre) (s .args .direction) (s .args .old) (s .args .new) (other .if1 .left) (below .if2 .left)
+    (no-entries _ (sym (none .before .degree .ensures) ∙ none .if3 .taken)))
 
 returns-4 : tie.Need-returns-4
 returns-4 c =
@@ -52,9 +54,8 @@ returns-4 c =
     let below = counted (some .before) in
     let other = compared below in
     let s = entry (other .before) in
-    let e = wrong .before .fault .ensures in
-    rw (c .refused3 .ensures, e) (new-fault (s .pre) (s .args .direction) (s .args .old) (s .args .new) (other .if1 .left) (below .if2 .left)
-    (λ q. some .if3 .left (some .before .degree .ensures ∙ ap length q)) (λ q. wrong .if4 .taken (e ∙ q)))
+    rw (c .refused3 .ensures) (new-fault (s .pre) (s .args .direction) (s .args .old) (s .args .new) (other .if1 .left) (below .if2 .left)
+    (λ q. some .if3 .left (some .before .degree .ensures ∙ ap length q)) (wrong .before .fault .ensures) (wrong .if4 .taken))
 
 move-adjacency-requires : tie.Need-move-adjacency-requires
 move-adjacency-requires c κs =
@@ -69,20 +70,21 @@ move-adjacency-requires c κs =
       old-live = old-live (s .pre) (s .args .direction) (s .args .old) (s .args .new) (other .if1 .left) (below .if2 .left)
           (λ q. some .if3 .left (some .before .degree .ensures ∙ ap length q));
       some = λ q. some .if3 .left (some .before .degree .ensures ∙ ap length q);
-      new-live = no-node-fault _ _ _ (sym (to .before .fault .ensures) ∙ to .if4 .left);
+      new-live = told-live _ _ _ _ _ (to .before .fault .ensures) (to .if4 .left);
     }
 
 returns-5 : tie.Need-returns-5
 returns-5 c =
-    let call = called c in
+    let call = called (c .before) in
     let to = asked (call .before) in
     let some = to .before .before in
     let below = counted (some .before) in
     let other = compared below in
     let s = entry (other .before) in
-    edges-moved (s .pre) (s .args .direction) (s .args .old) (s .args .new) (other .if1 .left) (below .if2 .left)
-    (λ q. some .if3 .left (some .before .degree .ensures ∙ ap length q)) (no-node-fault _ _ _ (sym (to .before .fault .ensures) ∙ to .if4 .left))
-    (call .move-adjacency .ensures)
+    rw (c .done2 .ensures)
+    (edges-moved (s .pre) (s .args .direction) (s .args .old) (s .args .new) (other .if1 .left) (below .if2 .left)
+    (λ q. some .if3 .left (some .before .degree .ensures ∙ ap length q)) (told-live _ _ _ _ _ (to .before .fault .ensures) (to .if4 .left))
+    (call .move-adjacency .ensures))
 
 pub move-adjacency-spec : {M : Type 1} → statement M
 move-adjacency-spec =
@@ -93,6 +95,7 @@ move-adjacency-spec =
     (λ c κs. search needs)
     returns-2
     (λ c κs. search needs)
+    (λ c κs. search needs)
     (λ c. search needs)
     (λ c. search needs)
     returns-3
@@ -102,6 +105,6 @@ move-adjacency-spec =
     (λ c. search needs)
     returns-4
     move-adjacency-requires
-    (λ c. search needs)
-    (λ c. search needs)
+    (λ c κs. search needs) (λ c. called (c .before) .move-adjacency .kept .1 .1 .1 .1 .1 .1 .0)
+    (λ c. called (c .before) .move-adjacency .kept .1 .1 .1 .1 .1 .1 .1 .0)
     returns-5)

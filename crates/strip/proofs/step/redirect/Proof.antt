@@ -1,7 +1,6 @@
 -- `step::redirect` meets its contract: the faults of the edge and of the node, then the store's redirection.
-use mathlib.Core.Path.{sym, _∙_}
 use borrow.Author.Needs.{needs}
-use Rattle.strip.specs.Faults.{no-edge-fault, no-node-fault}
+use Rattle.strip.proofs.Told.{told-live}
 use Rattle.strip.proofs.Relocations.{edge-fault, node-fault, edge-redirected}
 use Rattle.strip.proofs.step.redirect.Statement.{statement}
 use Rattle.strip.proofs.step.redirect.Tie as tie
@@ -20,17 +19,15 @@ returns : tie.Need-returns
 returns c =
     let wrong = c .before in
     let s = entry (wrong .before .before) in
-    let e = wrong .before .fault .ensures in
-    rw (c .refused .ensures, e) (edge-fault (s .pre) (s .args .direction) (s .args .edge) (s .args .node) (λ q. wrong .if1 .taken (e ∙ q)))
+    rw (c .refused .ensures) (edge-fault (s .pre) (s .args .direction) (s .args .edge) (s .args .node) (wrong .before .fault .ensures) (wrong .if1 .taken))
 
 returns-2 : tie.Need-returns-2
 returns-2 c =
     let wrong = c .before in
     let first = wrong .before .before in
     let s = start first in
-    let e = wrong .before .fault2 .ensures in
-    rw (c .refused2 .ensures, e) (node-fault (s .pre) (s .args .direction) (s .args .edge) (s .args .node) (no-edge-fault _ _ _ (sym (first .before .fault .ensures) ∙ first .if1 .left))
-    (λ q. wrong .if2 .taken (e ∙ q)))
+    rw (c .refused2 .ensures) (node-fault (s .pre) (s .args .direction) (s .args .edge) (s .args .node) (told-live _ _ _ _ _ (first .before .fault .ensures) (first .if1 .left))
+    (wrong .before .fault2 .ensures) (wrong .if2 .taken))
 
 redirect-requires : tie.Need-redirect-requires
 redirect-requires c κs =
@@ -38,20 +35,21 @@ redirect-requires c κs =
     let first = second .before .before in
     record {
       checked = start first .pre;
-      alive = no-edge-fault _ _ _ (sym (first .before .fault .ensures) ∙ first .if1 .left);
-      new-live = no-node-fault _ _ _ (sym (second .before .fault2 .ensures) ∙ second .if2 .left);
+      alive = told-live _ _ _ _ _ (first .before .fault .ensures) (first .if1 .left);
+      new-live = told-live _ _ _ _ _ (second .before .fault2 .ensures) (second .if2 .left);
     }
 
 returns-3 : tie.Need-returns-3
 returns-3 c =
-    let call = called c in
+    let call = called (c .before) in
     let second = call .before .before .before in
     let first = second .before .before in
     let s = start first in
-    edge-redirected (s .pre) (s .args .direction) (s .args .edge) (s .args .node) (no-edge-fault _ _ _ (sym (first .before .fault .ensures) ∙ first .if1 .left))
-    (no-node-fault _ _ _ (sym (second .before .fault2 .ensures) ∙ second .if2 .left)) (call .redirect .ensures)
+    rw (c .done .ensures)
+    (edge-redirected (s .pre) (s .args .direction) (s .args .edge) (s .args .node) (told-live _ _ _ _ _ (first .before .fault .ensures) (first .if1 .left))
+    (told-live _ _ _ _ _ (second .before .fault2 .ensures) (second .if2 .left)) (call .redirect .ensures))
 
 pub redirect-spec : {M : Type 1} → statement M
 redirect-spec =
     tie.close
-    (tie.spec (λ c κs. search needs) (λ c κs. search needs) returns (λ c κs. search needs) (λ c κs. search needs) returns-2 redirect-requires (λ c. search needs) (λ c. search needs) returns-3)
+    (tie.spec (λ c κs. search needs) (λ c κs. search needs) returns (λ c κs. search needs) (λ c κs. search needs) returns-2 redirect-requires (λ c κs. search needs) (λ c. called (c .before) .redirect .kept .1 .1 .1 .1 .1 .1 .0) (λ c. called (c .before) .redirect .kept .1 .1 .1 .1 .1 .1 .1 .0) returns-3)

@@ -1,8 +1,7 @@
 -- `step::set_payload` meets its contract: refused for a low above its high and at or above the bound, else the store's.
 use Prim.Native.Nat.{_≤_}
-use mathlib.Core.Path.{sym, _∙_}
 use borrow.Author.Needs.{needs}
-use Rattle.strip.specs.Faults.{no-payload-fault}
+use Rattle.strip.proofs.Told.{told-in-order}
 use Rattle.strip.proofs.Additions.{payload-inverted, payload-absent, payload-set}
 use Rattle.strip.proofs.step.set_payload.Statement.{statement}
 use Rattle.strip.proofs.step.set_payload.Tie as tie
@@ -24,14 +23,13 @@ below c = c .before .before
 
 -- no low above its high
 order : (c : tie.After-struct-known) → start c .args .payload .low ≤ start c .args .payload .high
-order c = no-payload-fault _ (sym (ordered c .before .payload-fault .ensures) ∙ ordered c .if1 .left)
+order c = told-in-order _ (ordered c .before .payload-fault .ensures) (ordered c .if1 .left)
 
 returns : tie.Need-returns
 returns c =
     let wrong = c .before in
     let s = entry (wrong .before) in
-    let e = wrong .before .payload-fault .ensures in
-    rw (c .refused .ensures, e) (payload-inverted (s .pre) (s .args .edge) (s .args .payload) (λ q. wrong .if1 .taken (e ∙ q)))
+    rw (c .refused .ensures) (payload-inverted (s .pre) (s .args .edge) (s .args .payload) (wrong .before .payload-fault .ensures) (wrong .if1 .taken))
 
 returns-2 : tie.Need-returns-2
 returns-2 c =
@@ -46,11 +44,12 @@ set-payload-requires c κs =
 
 returns-3 : tie.Need-returns-3
 returns-3 c =
-    let call = called c in
+    let call = called (c .before) in
     let low = below (call .before) in
     let s = start (low .before) in
-    payload-set (s .pre) (s .args .edge) (order (low .before)) (low .if2 .left) (call .set-payload .ensures)
+    rw (c .done .ensures)
+    (payload-set (s .pre) (s .args .edge) (order (low .before)) (low .if2 .left) (call .set-payload .ensures))
 
 pub set-payload-spec : {M : Type 1} → statement M
 set-payload-spec =
-    tie.close (tie.spec (λ c κs. search needs) (λ c κs. search needs) returns (λ c κs. search needs) returns-2 set-payload-requires (λ c. search needs) (λ c. search needs) returns-3)
+    tie.close (tie.spec (λ c κs. search needs) (λ c κs. search needs) returns (λ c κs. search needs) returns-2 set-payload-requires (λ c κs. search needs) (λ c. called (c .before) .set-payload .kept .1 .1 .0) (λ c. called (c .before) .set-payload .kept .1 .1 .1 .0) returns-3)

@@ -2,7 +2,7 @@
 -- `refl` where it is lent by `&`.
 use mathlib.Core.Path.{refl}
 use borrow.Author.Needs.{needs}
-use Rattle.strip.specs.Step.{unknown}
+use Rattle.strip.proofs.Stepping.{unknown}
 use Rattle.strip.proofs.step.step.Statement.{statement}
 use Rattle.strip.proofs.step.step.Tie as tie
 
@@ -50,7 +50,9 @@ returns-7 : tie.Need-returns-7
 returns-7 c = let call = setting-payload c in rw (call .before .before .before .before .before .before .before .before .before .operation7 .given .1) (call .set-payload .ensures)
 
 returns-8 : tie.Need-returns-8
-returns-8 c = rw (c .enum-told .given .1) (unknown (c .before .before .before .before .before .before .before .before .before .pre))
+returns-8 c =
+    let told = c .before in
+    rw (c .refused .ensures, told .enum-told .given .1) (unknown (told .before .before .before .before .before .before .before .before .before .pre))
 
 pub step-spec : {M : Type 1} → statement M
 step-spec =
@@ -71,6 +73,7 @@ step-spec =
     (λ c. search needs)
     (λ c κs. search needs)
     (λ c. search needs)
+    (λ c κs. search needs)
     (λ c. adding-node c .add-node .kept .1 .0)
     (λ c. refl)
     (λ c. refl)

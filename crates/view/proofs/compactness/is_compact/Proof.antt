@@ -2,7 +2,7 @@
 use mathlib.Core.Path.{ap, _∙_}
 use borrow.Author.Needs.{needs}
 use Rattle.plain.specs.Reads.{yes-or-no, is-compact}
-use Rattle.view.specs.Calls.{answer-refuses, answer-done}
+use Rattle.view.specs.Laws.Calls.{answer-refuses, answer-done}
 use Rattle.view.proofs.compactness.is_compact.Statement.{statement}
 use Rattle.view.proofs.compactness.is_compact.Tie as tie
 

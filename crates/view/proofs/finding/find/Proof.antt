@@ -3,8 +3,8 @@ use native.Mathlib.Omega.{arith}
 use borrow.Author.Needs.{needs}
 use Rattle.plain.specs.declared.TraversalDirection.the-variants.{Outgoing, Incoming}
 use Rattle.adjacency.specs.Laws.StoreWalks.{checked-walkable}
-use Rattle.view.specs.Calls.{answer-refuses}
-use Rattle.view.specs.Finding.{first-past, second-past, find-done}
+use Rattle.view.specs.Laws.Calls.{answer-refuses}
+use Rattle.view.proofs.Seeking.{first-past, second-past, find-done}
 use Rattle.view.proofs.finding.find.Statement.{statement}
 use Rattle.view.proofs.finding.find.Tie as tie
 
@@ -13,15 +13,18 @@ entry c = c .before .before .before .before .before .before .before .before
 
 returns-2 : tie.Need-returns-2
 returns-2 c =
-    let judged = c .before .before in
+    let past = c .before in
+    let judged = past .before .before in
     let a = entry judged .args in
-    first-past (judged .judge .ensures) (c .before .if1 .left) (a .first) (a .second) (c .if2 .taken)
+    rw (c .refused .ensures) (first-past (judged .judge .ensures) (past .before .if1 .left) (a .first) (a .second) (past .if2 .taken))
 
 returns-3 : tie.Need-returns-3
 returns-3 c =
-    let judged = c .before .before .before in
+    let past = c .before in
+    let judged = past .before .before .before in
     let a = entry judged .args in
-    second-past (judged .judge .ensures) (c .before .before .if1 .left) (a .first) (a .second) (c .before .if2 .left) (c .if3 .taken)
+    rw (c .refused2 .ensures)
+    (second-past (judged .judge .ensures) (past .before .before .if1 .left) (a .first) (a .second) (past .before .if2 .left) (past .if3 .taken))
 
 is-live-requires : tie.Need-is-live-requires
 is-live-requires c κs =
@@ -39,12 +42,14 @@ find-requires c κs =
 
 returns-4 : tie.Need-returns-4
 returns-4 c =
-    let live = c .before in
+    let found = c .before in
+    let live = found .before in
     let below = live .before .before in
     let judged = below .before .before in
     let a = entry judged .args in
-    find-done (judged .judge .ensures) (below .before .if1 .left) (a .first) (a .second) (below .if2 .left) (live .before .if3 .left) (live .is-live .ensures)
-    (c .find .ensures)
+    rw (c .answered .ensures)
+    (find-done (judged .judge .ensures) (below .before .if1 .left) (a .first) (a .second) (below .if2 .left) (live .before .if3 .left) (live .is-live .ensures)
+    (found .find .ensures))
 
 pub find-spec : {M : Type 1} → statement M
 find-spec =
@@ -53,12 +58,12 @@ find-spec =
     (λ c κs. search needs)
     (λ c κs. search needs)
     (λ c. answer-refuses (c .before .before .judge .ensures) (c .before .if1 .taken) (c .no-store .ensures))
-    (λ c. search needs)
+    (λ c κs. search needs)
     returns-2
-    (λ c. search needs)
+    (λ c κs. search needs)
     returns-3
     (λ c. search needs)
     is-live-requires
     find-requires
-    (λ c. search needs)
+    (λ c κs. search needs)
     returns-4)

@@ -4,6 +4,11 @@ use Rattle.view.specs.Walks.{no-store, past, counted}
 use Rattle.view.proofs.walks.count_answer.Statement.{statement}
 use Rattle.view.proofs.walks.count_answer.Tie as tie
 
+returns-2 : tie.Need-returns-2
+returns-2 c =
+    let above = c .before in
+    rw (c .refused .ensures) (past (above .before .before .before .judge .ensures) (above .before .before .if1 .left) (above .if2 .taken))
+
 degree-requires : tie.Need-degree-requires
 degree-requires c κs = (c .before .before .before .judge .ensures .checked (c .before .before .if1 .left), c .if2 .left)
 
@@ -19,7 +24,7 @@ count-answer-spec =
     (λ c κs. search needs)
     (λ c κs. search needs)
     (λ c. no-store (c .before .before .judge .ensures) (c .before .if1 .taken) (c .no-store .ensures))
-    (λ c. search needs)
-    (λ c. past (c .before .before .before .judge .ensures) (c .before .before .if1 .left) (c .if2 .taken))
+    (λ c κs. search needs)
+    returns-2
     degree-requires
     returns-3)

@@ -1,6 +1,6 @@
 -- `walks::degree` meets its contract: each case of counting is one of the degree.
 use borrow.Author.Needs.{needs}
-use Rattle.view.specs.Walks.{count-degree}
+use Rattle.view.proofs.Walking.{count-degree}
 use Rattle.view.proofs.walks.degree.Statement.{statement}
 use Rattle.view.proofs.walks.degree.Tie as tie
 

@@ -1,6 +1,7 @@
 -- `walks::list_answer` meets its contract: the refusals of counting, or the count beside the room.
 use borrow.Author.Needs.{needs}
-use Rattle.view.specs.Walks.{refused, count-short, count-fits}
+use Rattle.view.specs.Walks.{refused}
+use Rattle.view.proofs.Walking.{count-short, count-fits}
 use Rattle.view.proofs.walks.list_answer.Statement.{statement}
 use Rattle.view.proofs.walks.list_answer.Tie as tie
 

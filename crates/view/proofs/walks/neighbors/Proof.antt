@@ -1,6 +1,6 @@
 -- `walks::neighbors` meets its contract: refused by the answer, or the list written.
 use borrow.Author.Needs.{needs}
-use Rattle.view.specs.Walks.{list-fits, neighbors-refused, neighbors-done}
+use Rattle.view.proofs.Walking.{list-fits, neighbors-refused, neighbors-done}
 use Rattle.view.proofs.walks.neighbors.Statement.{statement}
 use Rattle.view.proofs.walks.neighbors.Tie as tie
 

@@ -1,8 +1,8 @@
 -- `walks::total` meets its contract: the check, and then the laws of the total past the bound and below it.
 use mathlib.Core.Path.{_∙_}
 use borrow.Author.Needs.{needs}
-use Rattle.view.specs.Calls.{total-refuses, total-done}
-use Rattle.view.specs.Walks.{total-past, total-below}
+use Rattle.view.specs.Laws.Calls.{total-refuses, total-done}
+use Rattle.view.proofs.Walking.{total-past, total-below}
 use Rattle.view.proofs.walks.total.Statement.{statement}
 use Rattle.view.proofs.walks.total.Tie as tie
 

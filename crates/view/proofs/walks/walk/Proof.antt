@@ -1,6 +1,6 @@
 -- `walks::walk` meets its contract: refused by the answer, or the list written.
 use borrow.Author.Needs.{needs}
-use Rattle.view.specs.Walks.{list-fits, walk-refused, walk-done}
+use Rattle.view.proofs.Walking.{list-fits, walk-refused, walk-done}
 use Rattle.view.proofs.walks.walk.Statement.{statement}
 use Rattle.view.proofs.walks.walk.Tie as tie
 

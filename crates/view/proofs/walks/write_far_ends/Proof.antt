@@ -1,6 +1,6 @@
 -- `walks::write_far_ends` meets its contract: in either direction the far ends of a node's list are those that are written.
 use borrow.Author.Needs.{needs}
-use Rattle.view.specs.Walks.{walk-fits, far-room, far-ends-written, told-fits}
+use Rattle.view.proofs.Walking.{walk-fits, far-room, far-ends-written, told-fits}
 use Rattle.view.proofs.walks.write_far_ends.Statement.{statement}
 use Rattle.view.proofs.walks.write_far_ends.Tie as tie
 

@@ -1,6 +1,6 @@
 -- `walks::write_list` meets its contract: in either direction the list of a node is the walk that is written.
 use borrow.Author.Needs.{needs}
-use Rattle.view.specs.Walks.{walk-fits, list-written, told-fits}
+use Rattle.view.proofs.Walking.{walk-fits, list-written, told-fits}
 use Rattle.view.proofs.walks.write_list.Statement.{statement}
 use Rattle.view.proofs.walks.write_list.Tie as tie
 

@@ -1,23 +1,12 @@
--- `whole::node_bound` meets its contract: the check, and then what the counts of a checked store tell.
+-- `whole::node_bound` meets its contract: what the counts of a checked store tell, behind the check.
 use mathlib.Core.Path.{_∙_}
 use borrow.Author.Needs.{needs}
-use Rattle.view.specs.Calls.{answer-refuses, answer-done}
-use Rattle.view.specs.Whole.{node-bound-read}
+use Rattle.view.proofs.Counting.{judged-read, node-bound-read}
 use Rattle.view.proofs.whole.node_bound.Statement.{statement}
 use Rattle.view.proofs.whole.node_bound.Tie as tie
 
-returns-2 : tie.Need-returns-2
-returns-2 c =
-    let j = c .before .before .judge .ensures in
-    let zero = c .before .if1 .left in
-    answer-done j zero (c .answered .ensures ∙ node-bound-read _)
+returns : tie.Need-returns
+returns c = judged-read (c .before .before .judge .ensures) (c .judged .ensures) (λ k. c .before .answered .ensures ∙ node-bound-read k)
 
 pub node-bound-spec : {M : Type 1} → statement M
-node-bound-spec =
-    tie.close
-    (tie.spec
-    (λ c κs. search needs)
-    (λ c κs. search needs)
-    (λ c. answer-refuses (c .before .before .judge .ensures) (c .before .if1 .taken) (c .no-store .ensures))
-    (λ c κs. search needs)
-    returns-2)
+node-bound-spec = tie.close (tie.spec (λ c κs. search needs) (λ c κs. search needs) (λ c κs. search needs) returns)

@@ -1,5 +1,5 @@
 -- What every operation on a store rests on: the walks are well formed again because the shape's own step keeps them so, and live counts follow the flags.
-use Prim.Native.Nat.{ℕ, _+_, _≤_, _<_}
+use Prim.Native.Nat.{ℕ, _≤_, _<_}
 use native.Mathlib.Omega.{arith}
 use mathlib.Core.Path.{_≡_}
 use mathlib.Core.Bool.{Bool, true, false}
@@ -7,6 +7,7 @@ use mathlib.Core.List.{List}
 use lib.ListN.{length, getD}
 use Rattle.plain.specs.declared.Operation.{Operation}
 use Rattle.plain.specs.declared.Slots.{Slots}
+use Rattle.plain.specs.declared.Counts.{Counts}
 use Rattle.plain.specs.Step.{Outcome, step}
 use Rattle.plain.specs.WellFormed.{WellFormed}
 use Rattle.plain.specs.Laws.Rank.{live-count-removed, live-count-pushed}
@@ -14,7 +15,7 @@ use Rattle.plain.specs.Laws.Stepping.{Fitting}
 use Rattle.liveness.specs.Flags.{live-flags}
 use Rattle.liveness.specs.Laws.Flags.{count-le}
 use Rattle.liveness.specs.Calls.{Pushed, Cleared}
-use Rattle.shape.specs.Shape.{Words, Shape, capacities, shape-of, lists}
+use Rattle.shape.specs.Shape.{Words, capacities, shape-of, lists}
 use Rattle.shape.specs.Checked.{SlotsChecked, Checked}
 use Rattle.shape.specs.Kept.{SameLengths, same-nodes, same-edges}
 use Rattle.shape.specs.Steps.{acted, acts, shape-step}
@@ -22,10 +23,12 @@ use Rattle.shape.specs.Laws.CheckedShape.{checked-proper}
 use Rattle.shape.specs.Laws.Keeping.{step-proper}
 use Rattle.store.specs.Operations.{one-more, fewer}
 
--- two shapes with the same parts
-pub shape-ext : {s t : Shape} → s .nodes ≡ t .nodes → s .edges ≡ t .edges → s .base-nodes ≡ t .base-nodes → s .base-edges ≡ t .base-edges
-    → s .outgoing ≡ t .outgoing → s .incoming ≡ t .incoming → s ≡ t
-shape-ext a b c d e f = λ i. record { nodes = a i; edges = b i; base-nodes = c i; base-edges = d i; outgoing = e i; incoming = f i }
+-- the counts with those of one kind of slot replaced
+abbrev pub with-nodes : Slots → Counts → Counts
+with-nodes s counts = record { nodes = s; edges = counts .edges }
+
+abbrev pub with-edges : Slots → Counts → Counts
+with-edges s counts = record { nodes = counts .nodes; edges = s }
 
 -- an operation that changes a checked store, by its outcome in document 01
 module _

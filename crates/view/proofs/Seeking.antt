@@ -11,16 +11,17 @@ use Rattle.plain.specs.Lists.{keep}
 use Rattle.plain.specs.Plain.{list-of, end-of}
 use Rattle.plain.specs.Reads.{answered, first-or-none, found, find}
 use Rattle.plain.specs.Laws.CallCases.{find-first-absent, find-second-absent, find-there}
-use Rattle.shape.specs.Shape.{Words, node-capacity, edge-capacity, node-live, plain-of, lists}
-use Rattle.shape.specs.Laws.Reading.{node-bound-is, plain-end}
+use Rattle.shape.specs.Shape.{Words, node-capacity, edge-capacity, node-live, lists}
+use Rattle.shape.specs.Laws.Reading.{plain-end}
 use Rattle.shape.specs.Laws.Taking.{keep-agree}
 use Rattle.adjacency.specs.Walk.{walk-in}
 use Rattle.adjacency.specs.Laws.Walk.{walk-below}
 use Rattle.adjacency.specs.Laws.StoreWalks.{checked-walkable, list-is-walk}
 use Rattle.adjacency.specs.Finding.{first-of, ends-at}
+use Rattle.store.specs.Laws.Slots.{nodes-told, node-bound-of, absent-slot}
 use Rattle.validate.specs.Judging.{Judged}
-use Rattle.view.specs.Calls.{Answered, answer-done}
-use Rattle.view.specs.Walks.{absent}
+use Rattle.view.specs.Calls.{Answered}
+use Rattle.view.specs.Laws.Calls.{answer-done}
 
 module _ {w : Words} {rule : ℕ} (j : Judged w rule) (zero : rule ≡ 0) (a b : ℕ) where
   finds-by : {r : Answer} → find (lists w) a b ≡ r → Answered w (λ w. find (lists w) a b) r
@@ -28,13 +29,12 @@ module _ {w : Words} {rule : ℕ} (j : Judged w rule) (zero : rule ≡ 0) (a b :
 
   -- the first node is at or above the bound
   pub first-past : w .counts .nodes .bound ≤ a → Answered w (λ w. find (lists w) a b) (record { number = 5; value = NONE })
-  first-past h = finds-by (find-first-absent (lists w) a b (absent w a h))
+  first-past h = finds-by (find-first-absent (lists w) a b (absent-slot (nodes-told w) a h))
 
   module _ (below : a < w .counts .nodes .bound) where
     -- the second is
     pub second-past : w .counts .nodes .bound ≤ b → Answered w (λ w. find (lists w) a b) (record { number = 5; value = NONE })
-    unfolding plain-of
-    second-past h = finds-by (find-second-absent (lists w) a b (rw (node-bound-is w) below) (absent w b h))
+    second-past h = finds-by (find-second-absent (lists w) a b (rw (node-bound-of w) below) (absent-slot (nodes-told w) b h))
 
     module _ (second : b < w .counts .nodes .bound) {live : Bool} (is : live ≡ getD (node-live w) a false) where
       -- the first wanted entry of the words is that of the lists
@@ -52,7 +52,6 @@ module _ {w : Words} {rule : ℕ} (j : Judged w rule) (zero : rule ≡ 0) (a b :
       -- both are below it
       pub find-done : {e : ℕ} → e ≡ first-of (ends-at (w .incoming) b) (walk-in (w .outgoing) (edge-capacity w) (node-capacity w) (w .counts) (w .live-edges) a live)
           → Answered w (λ w. find (lists w) a b) (record { number = 0; value = e })
-      unfolding plain-of
       find-done is-first =
           answer-done j zero
-          (ap answered (is-first ∙ first-is-found) ∙ sym (find-there (lists w) a b (rw (node-bound-is w) below) (rw (node-bound-is w) second)))
+          (ap answered (is-first ∙ first-is-found) ∙ sym (find-there (lists w) a b (rw (node-bound-of w) below) (rw (node-bound-of w) second)))

@@ -1,0 +1,6 @@
+mod Pieces
+mod Digits
+mod Lines
+mod Words
+mod Booking
+mod Printing

@@ -1,0 +1,3 @@
+-- The laws of a store, for the crates above to cite.
+pub mod Slots
+pub mod Shapes

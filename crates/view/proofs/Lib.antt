@@ -1,0 +1,6 @@
+mod Reading
+mod Counting
+mod Walking
+mod Listing
+mod Seeking
+mod Marks

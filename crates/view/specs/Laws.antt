@@ -1,0 +1,3 @@
+-- The laws of the reads, for the crates above to cite.
+pub mod Calls
+pub mod Totals
