@@ -16,6 +16,7 @@ ghost use Rattle.nearest.specs.Stores.{Asked};
 ghost use Rattle.nearest.specs.Backwards.{Seeable, Expand, ExpandLot, Drain, Drained, Seedable, Sought};
 use adjacency::cursor::AdjacencyCursor;
 use adjacency::cursor::Found;
+use adjacency::cursor::is_listed;
 use adjacency::index;
 use adjacency::walk;
 use plain::Counts;
@@ -57,11 +58,13 @@ fn expand(
     let mut cursor = from;
     let mut n = tail;
     loop {
-        let step = cursor.seek(linked, entries, next, tombstoned, live, slots);
+        let step = cursor.step(linked, entries, next);
         let found = step.found;
         match found {
             Found::Edge(edge) => {
-                n = see(work, nodes, n, word, sources[edge as usize]);
+                if is_listed(tombstoned, live, slots, edge) {
+                    n = see(work, nodes, n, word, sources[edge as usize]);
+                }
             }
             Found::Done => {
                 return n;
