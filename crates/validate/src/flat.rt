@@ -3,143 +3,24 @@
 // with them the rings of their nodes; what has no run is looked at entry by entry, not node by node, since a walk of unknown length is what a check is slow at.
 
 use crate::axes::words_below;
-use crate::marks::mark;
 use crate::marks::mark_step;
 use crate::rings::edge_linked;
 use crate::rings::pick;
-use crate::runs::entry_own;
-use crate::runs::entry_right;
-use crate::runs::run_right;
+use crate::runs::runs_once;
 use crate::walks::live_marked;
-use liveness::is_live;
 use plain::Counts;
-use plain::NONE;
 ghost use mathlib.Core.Path.{_≡_};
 ghost use mathlib.Core.Bool.{true, false, not};
 ghost use Prim.Native.Nat.{ℕ, _*_, _≤_, _<_};
 ghost use lib.ListN.{length, getD};
 ghost use lib.Dec.{eqb};
 ghost use Rattle.liveness.specs.Flags.{live-bit, live-flags};
-ghost use Rattle.shape.specs.Columns.{Sized, cell, end-at, mark-at};
-ghost use Rattle.shape.specs.Chains.{until};
+ghost use Rattle.shape.specs.Columns.{Sized, end-at, mark-at};
 ghost use Rattle.shape.specs.Rules.{runs-right as runs-test};
-ghost use Rattle.validate.specs.Marks.{marked, Followed, Adds};
+ghost use Rattle.validate.specs.Marks.{marked, Adds};
 ghost use Rattle.validate.specs.Climbs.{Linked, LinkReadable};
-ghost use Rattle.validate.specs.Runs.{run-test, ChainReadable, RunReadable};
 ghost use Rattle.validate.specs.Walks.{walks-test};
-ghost use Rattle.validate.specs.Flat.{at-base, taken, base-entries, delta-links, places, NodeOnce, RunsOnce, PlaceReadable, EntryPlaced, Looked, CountReadable, BaseFlat, DeltaFlat, ListsOnce, FlatReadable, ListsReadable};
-
-// The ring of a node from its first entry on up to its last, `count` entries at most: each ends at the node and none is marked. Marks them.
-fn ring_once(
-    axis: &[u32],
-    edges: usize,
-    words: &[u64],
-    bound: u32,
-    live: bool,
-    node: usize,
-    first: u32,
-    count: u32,
-    last: u32,
-    seen: &mut [u64],
-) -> bool
-    requires { ⌜ ChainReadable (now axis) edges (now words) bound (now seen) ⌝ }
-    ensures { λ r. ⌜ Followed (run-test (now (axis .entry)) true node bound live (live-flags (now (words .entry)) bound)) true (until (cell (now (axis .entry)) (2 * edges)) last count first) (now (seen .entry)) r (now (seen .exit)) ⌝ }
-{
-    let mut e = first;
-    let mut left = count;
-    while left > 0 {
-        if !entry_right(words, bound, live, e) {
-            return false;
-        }
-        if !entry_own(axis, true, node, e) {
-            return false;
-        }
-        if !mark(seen, e as usize) {
-            return false;
-        }
-        if e == last {
-            return true;
-        }
-        e = axis[2 * edges + e as usize];
-        left -= 1;
-    }
-    true
-}
-
-// The run of a node and the ring behind it, where the node has a run: the run is right, every entry of both ends at the node, and none is marked. Marks them; only
-// the yes is promised.
-fn node_once(
-    axis: &[u32],
-    edges: usize,
-    nodes: usize,
-    words: &[u64],
-    base: u32,
-    bound: u32,
-    node: usize,
-    live: bool,
-    seen: &mut [u64],
-) -> bool
-    requires { ⌜ RunReadable (now axis) edges nodes (now words) bound node (now seen) × (base ≤ bound) ⌝ }
-    ensures { λ r. ⌜ (r ≡ true → NodeOnce (now (axis .entry)) edges nodes base bound node × Adds (taken (now (axis .entry)) edges nodes base bound node) (now (seen .entry)) (now (seen .exit))) ⌝ }
-{
-    if axis[4 * edges + 4 * nodes + node] == 0 {
-        return true;
-    }
-    if !run_right(axis, edges, nodes, words, bound, node, live, true, seen) {
-        return false;
-    }
-    let last = axis[4 * edges + node];
-    if last == NONE {
-        return true;
-    }
-    if last >= bound {
-        return false;
-    }
-    let first = axis[2 * edges + last as usize];
-    ring_once(
-        axis,
-        edges,
-        words,
-        bound,
-        live,
-        node,
-        first,
-        bound - base,
-        last,
-        seen,
-    )
-}
-
-// The same of all nodes; `runless` says that none has a run. Only the yes is promised.
-fn runs_once(
-    axis: &[u32],
-    edges: usize,
-    nodes: usize,
-    counts: Counts,
-    live_nodes: &[u64],
-    live_edges: &[u64],
-    runless: bool,
-    seen: &mut [u64],
-) -> bool
-    requires { ⌜ ListsReadable (now axis) edges nodes counts (now «live_nodes») (now «live_edges») × FlatReadable (now axis) edges nodes counts runless (now seen) × ((e : ℕ) → marked (now seen) e ≡ false) ⌝ }
-    ensures { λ r. ⌜ (r ≡ true → RunsOnce (now (axis .entry)) edges nodes counts (now (seen .exit))) ⌝ }
-{
-    let base = counts.edges.base;
-    let bound = counts.edges.bound;
-    let node_bound = counts.nodes.bound as usize;
-    if runless {
-        return true;
-    }
-    let mut x: usize = 0;
-    while x < node_bound {
-        let live = is_live(live_nodes, node_bound, x);
-        if !node_once(axis, edges, nodes, live_edges, base, bound, x, live, seen) {
-            return false;
-        }
-        x += 1;
-    }
-    true
-}
+ghost use Rattle.validate.specs.Flat.{at-base, base-entries, delta-links, places, PlaceReadable, EntryPlaced, Looked, CountReadable, BaseFlat, DeltaFlat, ListsOnce, FlatReadable, ListsReadable};
 
 // Whether a node has a run; where none has, `runless` says so, and its mark is not read.
 fn has_run(axis: &[u32], edges: usize, nodes: usize, runless: bool, node: usize) -> bool
@@ -352,6 +233,7 @@ fn lists_once(
         live_nodes,
         live_edges,
         runless,
+        true,
         seen,
     ) {
         return false;
