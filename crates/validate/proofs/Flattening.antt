@@ -28,7 +28,7 @@ use Rattle.shape.specs.Laws.Walking.{between-member}
 use Rattle.shape.specs.Laws.Frames.{offset-within}
 use Rattle.shape.specs.Laws.Indexing.{from-append}
 use Rattle.shape.specs.Laws.Taking.{keep-append, keep-passing}
-use Rattle.validate.specs.Passing.{slots-from, slots-more, slots-none}
+use Rattle.validate.specs.Laws.Passing.{slots-from, slots-more, slots-none}
 use Rattle.validate.specs.Marks.{Entered, Followed, Adds}
 use Rattle.validate.specs.Climbs.{Linked, Picked}
 use Rattle.validate.specs.Flat.{at-base, places, place-shown, base-entries, delta-links, PlaceReadable, EntryPlaced, Looked, CountReadable, BaseFlat, DeltaFlat, FlatReadable}

@@ -13,11 +13,11 @@ use Rattle.shape.specs.Columns.{cell, end-at, tail-at, mark-at, count-at, first
 use Rattle.shape.specs.Chains.{chain}
 use Rattle.shape.specs.Shape.{run-list}
 use Rattle.shape.specs.Rules.{last-of, run-right}
-use Rattle.validate.specs.Passing.{slots-from, slots-more, slots-none}
+use Rattle.validate.specs.Laws.Passing.{slots-from, slots-more, slots-none}
 use Rattle.validate.specs.Marks.{marked, fresh, passes, Followed}
 use Rattle.validate.specs.Runs.{entry-test, run-test, ends-in}
 use Rattle.validate.proofs.Following.{follow-start, follow-done}
-use Rattle.validate.specs.Fresh.{fresh-clear, fresh-append}
+use Rattle.validate.specs.Laws.Fresh.{fresh-clear, fresh-append}
 
 -- the run of a node with a mark is its chain
 pub run-chain : (ws : List ℕ) (ce cn x : ℕ) → (mark-at ws ce cn x ≡ 0 → ⊥) → chain (cell ws (3 * ce)) (count-at ws ce cn x) (first-at ws ce cn x) ≡ run-list ws ce cn x

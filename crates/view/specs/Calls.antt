@@ -14,7 +14,8 @@ use Rattle.plain.specs.Calls.{judged, judged-reply, judged-record, judged-total
 use Rattle.plain.specs.Laws.CallCases.{lent-short, lent-done}
 use Rattle.shape.specs.Shape.{Words}
 use Rattle.shape.specs.Rules.{broken}
-use Rattle.validate.specs.Judging.{Judged, refusal, answer-counts, answer-refused, reply-counts, reply-refused, record-counts, record-refused, total-counts, total-refused}
+use Rattle.validate.specs.Judging.{Judged, refusal}
+use Rattle.validate.specs.Laws.Judging.{answer-counts, answer-refused, reply-counts, reply-refused, record-counts, record-refused, total-counts, total-refused}
 
 -- A read that answers number and value.
 pub record Answered (w : Words) (read : Words → Answer) (answer : Answer) : Type 0 where

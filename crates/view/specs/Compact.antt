@@ -20,7 +20,7 @@ use Rattle.shape.specs.Columns.{cell, mark-at}
 use Rattle.shape.specs.Shape.{Words, node-capacity, edge-capacity, axis-words, adjacency-in, axis-of, run-of, has-run, shape-of, is-compact}
 use Rattle.shape.specs.Checked.{Checked}
 use Rattle.shape.specs.Laws.Reading.{node-bound-is, edge-bound-is, node-flags-are, edge-flags-are, axis-is}
-use Rattle.validate.specs.Passing.{slots-agree}
+use Rattle.validate.specs.Laws.Passing.{slots-agree}
 
 -- no node below a bound has a mark, in words of these capacities
 abbrev pub unmarked : List ℕ → ℕ → ℕ → ℕ → Bool

@@ -4,7 +4,7 @@ use mathlib.Core.Logic.{_⊎_, inl, inr, ⊎-elim}
 use borrow.Author.Needs.{needs}
 use borrow.Author.Tests.{eq-eqb, ne-eqb}
 use Rattle.shape.specs.Rules.{index-right}
-use Rattle.validate.specs.Passing.{passed}
+use Rattle.validate.specs.Laws.Passing.{passed}
 use Rattle.validate.proofs.Indexing.{unread, index-tests, read}
 use Rattle.validate.proofs.axes.index_right.Statement.{statement}
 use Rattle.validate.proofs.axes.index_right.Tie as tie

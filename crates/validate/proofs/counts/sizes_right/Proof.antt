@@ -9,7 +9,7 @@ use Rattle.plain.specs.Numbers.{LIMIT}
 use Rattle.shape.specs.Rules.{slots-right}
 use Rattle.shape.specs.Laws.Judging.{slots-sound}
 use Rattle.validate.specs.Sizes.{sizes-test}
-use Rattle.validate.specs.Passing.{passed}
+use Rattle.validate.specs.Laws.Passing.{passed}
 use Rattle.validate.proofs.counts.sizes_right.Statement.{statement}
 use Rattle.validate.proofs.counts.sizes_right.Tie as tie
 

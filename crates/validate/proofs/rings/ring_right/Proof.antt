@@ -6,7 +6,7 @@ use borrow.Author.Needs.{needs}
 use mathlib.Core.Bool.{true}
 use Rattle.shape.specs.Columns.{cell, last-at}
 use Rattle.shape.specs.Rules.{ring-right}
-use Rattle.validate.specs.Passing.{refused, accepted}
+use Rattle.validate.specs.Laws.Passing.{refused, accepted}
 use Rattle.validate.specs.Rings.{own-test}
 use Rattle.validate.proofs.Ringing.{closes, closes-none, closes-fails, closes-last, closes-more, own-below, ring-none, ring-some, ring-out}
 use Rattle.validate.proofs.rings.ring_right.Statement.{statement}

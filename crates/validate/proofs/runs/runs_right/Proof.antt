@@ -4,7 +4,7 @@ use native.Mathlib.Omega.{arith}
 use Rattle.plain.specs.Laws.Booleans.{true-false}
 use lib.ListN.{length-replicate}
 use Prim.Native.Nat.{ℕ}
-use Rattle.validate.specs.Fresh.{clear-map}
+use Rattle.validate.specs.Laws.Fresh.{clear-map}
 use Rattle.validate.proofs.runs.runs_right.Statement.{statement}
 use Rattle.validate.proofs.runs.runs_right.Tie as tie
 
