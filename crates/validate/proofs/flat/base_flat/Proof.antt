@@ -40,7 +40,7 @@ loop-again c =
     let a = k .before .before .before .before .args in
     let inv = k .before .loop .inv in (
       marking-on _ _ _ _ _ (inv .0) (k .loop-test .taken) (i .before .entry-step .ensures) (i .if1 .left) (m .mark-step .ensures) (not-false _ (c .if2 .left)) (m .mark-step .kept .0),
-      count-on (place-shown (a .axis .now) (a .edges) (a .nodes)) (inv .1) (k .loop-test .taken) (i .before .entry-step .ensures .counts (i .if1 .left)),
+      count-on (place-shown (a .axis .now) (a .edge-capacity) (a .node-capacity)) (inv .1) (k .loop-test .taken) (i .before .entry-step .ensures .counts (i .if1 .left)),
     )
 
 -- as many are counted as were looked at, at most
@@ -52,7 +52,7 @@ add-placed c =
     let a = s .args in
     omega (
       arith,
-      count-on (place-shown (a .axis .now) (a .edges) (a .nodes)) (k .before .loop .inv .1) (k .loop-test .taken) (i .before .entry-step .ensures .counts (i .if1 .left)) .few,
+      count-on (place-shown (a .axis .now) (a .edge-capacity) (a .node-capacity)) (k .before .loop .inv .1) (k .loop-test .taken) (i .before .entry-step .ensures .counts (i .if1 .left)) .few,
       s .pre .axis .edges .base-within,
       s .pre .axis .edges .bound-within,
       s .pre .axis .sized .edges-within,
@@ -63,7 +63,7 @@ returns-3 c =
     let k = c .before in
     let s = k .before .before .before .before in
     let a = s .args in
-    λ _. base-done (a .axis .now) (a .edges) (a .nodes) (a .counts) (k .before .loop .inv .0) (k .loop-test .left)
+    λ _. base-done (a .axis .now) (a .edge-capacity) (a .node-capacity) (a .counts) (k .before .loop .inv .0) (k .loop-test .left)
     (inl (λ i l. eq-eqb _ 0 (entry-readable (s .pre) i l .1 (c .if3 .taken))))
 
 returns-4 : tie.Need-returns-4 Inv-loop μ-loop
@@ -71,8 +71,8 @@ returns-4 c =
     let k = c .before .before in
     let a = k .before .before .before .before .args in
     let inv = k .before .loop .inv in
-    λ h. base-done (a .axis .now) (a .edges) (a .nodes) (a .counts) (inv .0) (k .loop-test .left)
-    (inr (sym (c .count-places .ensures) ∙ eqb-true _ _ h ∙ count-done (place-shown (a .axis .now) (a .edges) (a .nodes)) (inv .1) (k .loop-test .left)))
+    λ h. base-done (a .axis .now) (a .edge-capacity) (a .node-capacity) (a .counts) (inv .0) (k .loop-test .left)
+    (inr (sym (c .count-places .ensures) ∙ eqb-true _ _ h ∙ count-done (place-shown (a .axis .now) (a .edge-capacity) (a .node-capacity)) (inv .1) (k .loop-test .left)))
 
 pub base-flat-spec : {M : Type 1} → statement M
 base-flat-spec =

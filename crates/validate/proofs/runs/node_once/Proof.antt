@@ -16,8 +16,8 @@ returns c =
     let a = c .before .before .before .before .before .args in (
       λ _. rw (run-list-unmarked _ _ _ _ (c .if1 .taken)) (no-run _ _ _),
       λ _ _. (
-        node-plain (a .axis .now) (a .edges) (a .nodes) (a .base) (a .bound) (a .node) (c .if1 .taken),
-        plain-adds (a .axis .now) (a .edges) (a .nodes) (a .base) (a .bound) (a .node) _ (c .if1 .taken),
+        node-plain (a .axis .now) (a .edge-capacity) (a .node-capacity) (a .base) (a .bound) (a .node) (c .if1 .taken),
+        plain-adds (a .axis .now) (a .edge-capacity) (a .node-capacity) (a .base) (a .bound) (a .node) _ (c .if1 .taken),
       ),
     )
 
@@ -40,7 +40,7 @@ returns-4 c =
     let r = e .before .before .before .before in
     let a = start r .args in (
       λ q. true-false (not-false _ (e .before .if2 .left)) q,
-      λ _ _. node-bare (a .axis .now) (a .edges) (a .nodes) (a .base) (a .bound) (a .node) (r .before .before .if1 .left) (a .live) (live-flags (a .words .now) (a .bound))
+      λ _ _. node-bare (a .axis .now) (a .edge-capacity) (a .node-capacity) (a .base) (a .bound) (a .node) (r .before .before .if1 .left) (a .live) (live-flags (a .words .now) (a .bound))
           (followed-yes
           (followed-so (a .axis .now) (a .node) (a .bound) (a .live) (live-flags (a .words .now) (a .bound)) (not-false (a .strict) (e .before .if2 .left)) (r .run-right .ensures))
           (not-false _ (e .if3 .left)))
@@ -57,7 +57,7 @@ returns-6 c =
     let r = e .before .before .before .before in
     let a = start r .args in (
       λ q. true-false (not-false _ (e .before .if2 .left)) q,
-      λ _ h. node-ring (a .axis .now) (a .edges) (a .nodes) (a .base) (a .bound) (a .node) (r .before .before .if1 .left) (a .live) (live-flags (a .words .now) (a .bound))
+      λ _ h. node-ring (a .axis .now) (a .edge-capacity) (a .node-capacity) (a .base) (a .bound) (a .node) (r .before .before .if1 .left) (a .live) (live-flags (a .words .now) (a .bound))
           (followed-yes
           (followed-so (a .axis .now) (a .node) (a .bound) (a .live) (live-flags (a .words .now) (a .bound)) (not-false (a .strict) (e .before .if2 .left)) (r .run-right .ensures))
           (not-false _ (e .if3 .left)))
