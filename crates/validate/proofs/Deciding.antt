@@ -22,8 +22,8 @@ use Rattle.shape.specs.Laws.Checking.{all-below, ring-sound, ring-own, index-so
 use Rattle.shape.specs.Laws.Judging.{Structured, SlotsRight, unbroken-checked, sizes-sound, nodes-live-sound, edges-live-sound, axis-sound}
 use Rattle.shape.specs.Laws.Reading.{plain-node-bound, plain-edge-bound, plain-node-flags, plain-edge-flags, plain-end}
 use Rattle.adjacency.specs.Walk.{Walkable}
-use Rattle.adjacency.specs.WalkLaws.{walk-below}
-use Rattle.adjacency.specs.StoreWalks.{list-is-walk}
+use Rattle.adjacency.specs.Laws.Walk.{walk-below}
+use Rattle.adjacency.specs.Laws.StoreWalks.{list-is-walk}
 use Rattle.validate.specs.Laws.Passing.{entries-agree, slots-agree}
 use Rattle.validate.specs.Sizes.{sizes-test, AxisSized}
 use Rattle.validate.specs.Broken.{Counted, Threaded, broken-lists, broken-axes}
