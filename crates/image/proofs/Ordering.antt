@@ -13,7 +13,7 @@ use Rattle.plain.specs.Bits.{field-at, fields-at}
 use Rattle.plain.specs.Laws.Booleans.{and-false}
 use Rattle.plain.specs.Laws.Ascending.{ascending}
 use Rattle.validate.specs.Marks.{marked, Marked, passes}
-use Rattle.validate.specs.Fresh.{clear-map, fresh-clear, passes-none, passes-fails, passes-marked, passes-more}
+use Rattle.validate.specs.Laws.Fresh.{clear-map, fresh-clear, passes-none, passes-fails, passes-marked, passes-more}
 use Rattle.image.specs.Checks.{end-in, ordered}
 
 -- ---- fields, one after the other

@@ -18,7 +18,7 @@ use Rattle.shape.specs.Index.{Rewritten}
 use Rattle.shape.specs.Shape.{Words, node-capacity, lists}
 use Rattle.nearest.specs.Chains.{nearest}
 use Rattle.nearest.specs.Calls.{Searched, cleared, chain-answer}
-use Rattle.nearest.specs.CallLaws.{chain-short, chain-fits, chain-clears}
+use Rattle.nearest.specs.Laws.Calls.{chain-short, chain-fits, chain-clears}
 use Rattle.nearest.specs.Search.{Distance}
 use Rattle.nearest.specs.Frontier.{dist-in}
 use Rattle.nearest.specs.Stores.{Asked}

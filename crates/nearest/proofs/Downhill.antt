@@ -16,7 +16,7 @@ use Rattle.plain.specs.Laws.ListLaws.{member-first, member-later}
 use Rattle.shape.specs.Laws.Taking.{keep-agree}
 use Rattle.adjacency.specs.Finding.{first-of}
 use Rattle.nearest.specs.Chains.{Chain, nearest}
-use Rattle.nearest.specs.ChainLaws.{by-option, first-chain, first-chain-zero, first-chain-suc, first-chain-chain, first-step, onward, nearest-is, nearest-chain, Within, simple, simple-short}
+use Rattle.nearest.specs.Laws.Chains.{by-option, first-chain, first-chain-zero, first-chain-suc, first-chain-chain, first-step, onward, nearest-is, nearest-chain, Within, simple, simple-short}
 use Rattle.nearest.specs.Search.{Network, Consistent, Distance, Search}
 use Rattle.nearest.specs.Forwards.{leads, downhill, Labelled}
 use Rattle.nearest.proofs.SearchLaws.{distance-step, word-distance, search-words, search-none}

@@ -16,7 +16,7 @@ use Rattle.shape.specs.Columns.{end-at}
 use Rattle.shape.specs.Shape.{Words, node-capacity, edge-capacity, lists}
 use Rattle.adjacency.specs.Walk.{walk-in}
 use Rattle.nearest.specs.Chains.{Chain, nearest}
-use Rattle.nearest.specs.ChainLaws.{simple, simple-short}
+use Rattle.nearest.specs.Laws.Chains.{simple, simple-short}
 use Rattle.nearest.specs.Search.{Distance}
 use Rattle.nearest.specs.Frontier.{Frontier, frontier, dist-in, queue-in, expanded, Held, Standing}
 use Rattle.nearest.specs.Stores.{network, LiveLot, Asked}

@@ -18,7 +18,7 @@ use Rattle.validate.specs.Judging.{Judged, refusal}
 use Rattle.strip.specs.Faults.{fault-of}
 use Rattle.strip.specs.Laws.Faults.{by-fault, no-node-fault}
 use Rattle.nearest.specs.Calls.{Searched, unsearched, nearest-lot, judged-search, nearest-of, NearestOf}
-use Rattle.nearest.specs.CallLaws.{judged-refuses, first-refuses, second-refuses, work-refuses, none-refuses}
+use Rattle.nearest.specs.Laws.Calls.{judged-refuses, first-refuses, second-refuses, work-refuses, none-refuses}
 use Rattle.nearest.specs.Stores.{LiveLot, Asked}
 use Rattle.nearest.specs.Answers.{search-of, Answered, Refused}
 

@@ -2,7 +2,7 @@
 use Prim.Native.Nat.{ℕ, _+_, _<_}
 use native.Mathlib.Omega.{arith}
 use mathlib.Core.Path.{_≡_, refl, sym, ap, _∙_, subst}
-use mathlib.Core.Bool.{Bool, true, cond}
+use mathlib.Core.Bool.{Bool, true, false, cond}
 use mathlib.Core.List.{List, [], _∷_, _++_}
 use lib.ListN.{length, getD, set, length-set}
 use lib.Dec.{eqb}
@@ -17,8 +17,8 @@ use Rattle.adjacency.specs.declared.cursor.AdjacencyCursor.{AdjacencyCursor}
 use Rattle.adjacency.specs.declared.cursor.Found.the-variants.{Edge, Done}
 use Rattle.adjacency.specs.declared.cursor.Step.{Step}
 use Rattle.adjacency.specs.declared.cursor.Start.{Start}
-use Rattle.adjacency.specs.Cursor.{listed, listed-left, remaining, Ready, Sought}
-use Rattle.adjacency.specs.Laws.Reading.{sought-edge, sought-none}
+use Rattle.adjacency.specs.Cursor.{listed, listed-left, remaining, step-of, Ready}
+use Rattle.adjacency.specs.Laws.Cursor.{step-edge, step-none, turn as stepped}
 use Rattle.adjacency.specs.Walk.{walk-in, tombstoned-in, entries-column, next-column, Started}
 use Rattle.adjacency.specs.Laws.Walk.{given-walk, given-seekable, next-length}
 use Rattle.nearest.specs.Frontier.{Frontier, frontier, dist-in, turn, pushed, expanded}
@@ -92,28 +92,41 @@ pub expanding-start : {test : ℕ → Bool} {linked : Bool} {entries next : List
 expanding-start r a = record { ready = r; able = a; same = refl }
 
 module _ {test : ℕ → Bool} {linked : Bool} {entries next : List ℕ} {n word : ℕ} {source : ℕ → ℕ} {c₀ : AdjacencyCursor} {f₀ : Frontier} {c : AdjacencyCursor} {f : Frontier}
-    (i : Expanding test linked entries next n word source c₀ f₀ c f) {s : Step} (found : Sought test linked entries next c s) where
-  able-edge : {e : ℕ} → s .found ≡ Edge e → Expandable n word source (e ∷ keep test (remaining linked entries next (s .cursor))) f
-  able-edge q = subst (λ (l : List ℕ). Expandable n word source l f) (sought-edge found q) (i .able)
+    (i : Expanding test linked entries next n word source c₀ f₀ c f) {s : Step} (r : s ≡ step-of linked entries next c) where
+  -- an entry that passes stands before what is left, and one that does not pass does not count
+  passed : {e : ℕ} → s .found ≡ Edge e → test e ≡ true → keep test (remaining linked entries next c) ≡ e ∷ keep test (remaining linked entries next (s .cursor))
+  unfolding keep
+  passed q t = step-edge (i .ready) r test q ∙ rw t
 
-  pub expanding-see : {e : ℕ} → s .found ≡ Edge e → Seeable n (source e) (f .tail) (f .work)
-  expanding-see q = expandable-see (able-edge q)
+  skipped : {e : ℕ} → s .found ≡ Edge e → test e ≡ false → keep test (remaining linked entries next c) ≡ keep test (remaining linked entries next (s .cursor))
+  unfolding keep
+  skipped q t = step-edge (i .ready) r test q ∙ rw t
 
-  pub expanding-on : {e : ℕ} {g : Frontier} → s .found ≡ Edge e → g ≡ turn n word (source e) f → Expanding test linked entries next n word source c₀ f₀ (s .cursor) g
+  able-edge : {e : ℕ} → s .found ≡ Edge e → test e ≡ true → Expandable n word source (e ∷ keep test (remaining linked entries next (s .cursor))) f
+  able-edge q t = subst (λ (l : List ℕ). Expandable n word source l f) (passed q t) (i .able)
+
+  pub expanding-see : {e : ℕ} → s .found ≡ Edge e → test e ≡ true → Seeable n (source e) (f .tail) (f .work)
+  expanding-see q t = expandable-see (able-edge q t)
+
+  pub expanding-on : {e : ℕ} {g : Frontier} → s .found ≡ Edge e → test e ≡ true → g ≡ turn n word (source e) f
+      → Expanding test linked entries next n word source c₀ f₀ (s .cursor) g
   unfolding expanded
-  expanding-on {e} {g} q is = subst (λ (k : Frontier). Expanding test linked entries next n word source c₀ f₀ (s .cursor) k) (sym is) (record {
-    ready = found .ready;
-    able = expandable-turn (able-edge q);
-    same = sym (ap (λ (l : List ℕ). expanded n source word l f) (sought-edge found q)) ∙ i .same;
+  expanding-on {e} {g} q t is = subst (λ (k : Frontier). Expanding test linked entries next n word source c₀ f₀ (s .cursor) k) (sym is) (record {
+    ready = stepped (i .ready) r .ready;
+    able = expandable-turn (able-edge q t);
+    same = sym (ap (λ (l : List ℕ). expanded n source word l f) (passed q t)) ∙ i .same;
   })
+
+  pub expanding-skip : {e : ℕ} → s .found ≡ Edge e → test e ≡ false → Expanding test linked entries next n word source c₀ f₀ (s .cursor) f
+  expanding-skip q t = record {
+    ready = stepped (i .ready) r .ready;
+    able = subst (λ (l : List ℕ). Expandable n word source l f) (skipped q t) (i .able);
+    same = sym (ap (λ (l : List ℕ). expanded n source word l f) (skipped q t)) ∙ i .same;
+  }
 
   pub expanding-end : s .found ≡ Done → f ≡ expanded n source word (keep test (remaining linked entries next c₀)) f₀
   unfolding expanded
-  expanding-end q = ap (λ (l : List ℕ). expanded n source word l f) (sym (sought-none found q)) ∙ i .same
-
-  pub expanding-less : {e : ℕ} → s .found ≡ Edge e
-      → length (keep test (remaining linked entries next (s .cursor))) < length (keep test (remaining linked entries next c))
-  expanding-less {e} q = rw (sought-edge found q) (omega arith)
+  expanding-end q = ap (λ (l : List ℕ). expanded n source word l f) (sym (step-none (i .ready) r test q)) ∙ i .same
 
 -- ---- a lot's in-list as a walk
 

@@ -15,7 +15,7 @@ use Rattle.plain.specs.Laws.Booleans.{by-test, true-false, below-or-not, or-oth
 use Rattle.plain.specs.Laws.ListLaws.{member-first, member-append, member-at, distinct-within, length-from, member-below}
 use Rattle.plain.specs.Laws.Deleting.{distinct-snoc}
 use Rattle.nearest.specs.Chains.{position, Chain}
-use Rattle.nearest.specs.ChainLaws.{position-first, position-later}
+use Rattle.nearest.specs.Laws.Chains.{position-first, position-later}
 use Rattle.nearest.specs.Search.{Network, Consistent, Distance, Search}
 
 -- ---- positions

@@ -23,7 +23,7 @@ use Rattle.shape.specs.Laws.Reading.{plain-node-bound, plain-edge-bound, plain-
 use Rattle.adjacency.specs.Walk.{walk-in, Walkable}
 use Rattle.adjacency.specs.Laws.StoreWalks.{checked-walkable, list-is-walk}
 use Rattle.nearest.specs.Chains.{first-candidate, or-else, chains, nearest-from, nearest}
-use Rattle.nearest.specs.ChainLaws.{Within}
+use Rattle.nearest.specs.Laws.Chains.{Within}
 use Rattle.nearest.specs.Search.{Consistent}
 use Rattle.nearest.specs.Stores.{network, LiveLot}
 

@@ -1,7 +1,5 @@
 pub mod Chains
-pub mod ChainLaws
 pub mod Calls
-pub mod CallLaws
 mod Examples
 pub mod Search
 pub mod Frontier
@@ -9,3 +7,4 @@ pub mod Stores
 pub mod Backwards
 pub mod Forwards
 pub mod Answers
+pub mod Laws

@@ -16,19 +16,20 @@ ghost use Rattle.nearest.specs.Stores.{Asked};
 ghost use Rattle.nearest.specs.Backwards.{Seeable, Expand, ExpandLot, Drain, Drained, Seedable, Sought};
 use adjacency::cursor::AdjacencyCursor;
 use adjacency::cursor::Found;
+use adjacency::cursor::is_listed;
 use adjacency::index;
 use adjacency::walk;
 use plain::Counts;
 
 // Looks at a lot: one that is new gets its word and goes to the end of the queue. Answers the queue's length.
-fn see(work: &mut [u32], nodes: usize, tail: usize, word: u32, lot: u32) -> usize
-    requires { ⌜ Seeable nodes lot tail (now work) ⌝ }
-    ensures { λ r. ⌜ frontier r (now (work .exit)) ≡ turn nodes word lot (frontier tail (now (work .entry))) ⌝ }
+fn see(work: &mut [u32], node_capacity: usize, tail: usize, word: u32, lot: u32) -> usize
+    requires { ⌜ Seeable «node_capacity» lot tail (now work) ⌝ }
+    ensures { λ r. ⌜ frontier r (now (work .exit)) ≡ turn «node_capacity» word lot (frontier tail (now (work .entry))) ⌝ }
 {
     let at = lot as usize;
     if work[at] == 0 {
         work[at] = word;
-        let end = nodes + tail;
+        let end = node_capacity + tail;
         work[end] = lot;
         return tail + 1;
     }
@@ -45,23 +46,25 @@ fn expand(
     live: &[u64],
     slots: usize,
     sources: &[u32],
-    nodes: usize,
+    node_capacity: usize,
     word: u32,
     tail: usize,
     work: &mut [u32],
 ) -> usize
-    requires { ⌜ Expand (listed tombstoned (live-flags (now live) slots)) linked (now entries) (now next) (now live) slots nodes word tail (now sources) from (now work) ⌝ }
-    ensures { λ r. ⌜ frontier r (now (work .exit)) ≡ expanded nodes (λ e. getD (now (sources .entry)) e 0) word
+    requires { ⌜ Expand (listed tombstoned (live-flags (now live) slots)) linked (now entries) (now next) (now live) slots «node_capacity» word tail (now sources) from (now work) ⌝ }
+    ensures { λ r. ⌜ frontier r (now (work .exit)) ≡ expanded «node_capacity» (λ e. getD (now (sources .entry)) e 0) word
         (listed-left linked (now (entries .entry)) (now (next .entry)) tombstoned (now (live .entry)) slots from) (frontier tail (now (work .entry))) ⌝ }
 {
     let mut cursor = from;
     let mut n = tail;
     loop {
-        let step = cursor.seek(linked, entries, next, tombstoned, live, slots);
+        let step = cursor.step(linked, entries, next);
         let found = step.found;
         match found {
             Found::Edge(edge) => {
-                n = see(work, nodes, n, word, sources[edge as usize]);
+                if is_listed(tombstoned, live, slots, edge) {
+                    n = see(work, node_capacity, n, word, sources[edge as usize]);
+                }
             }
             Found::Done => {
                 return n;
@@ -75,25 +78,25 @@ fn expand(
 fn expand_lot(
     outgoing: &[u32],
     incoming: &[u32],
-    edges: usize,
-    nodes: usize,
+    edge_capacity: usize,
+    node_capacity: usize,
     counts: Counts,
     live_edges: &[u64],
     lot: u32,
     tail: usize,
     work: &mut [u32],
 ) -> usize
-    requires { ⌜ ExpandLot (now outgoing) (now incoming) (now «live_edges») edges nodes counts lot tail (now work) ⌝ }
-    ensures { λ r. ⌜ frontier r (now (work .exit)) ≡ expanded nodes (end-at (now (outgoing .entry))) (getD (now (work .entry)) lot 0 + 1)
-        (walk-in (now (incoming .entry)) edges nodes counts (now («live_edges» .entry)) lot true) (frontier tail (now (work .entry))) ⌝ }
+    requires { ⌜ ExpandLot (now outgoing) (now incoming) (now «live_edges») «edge_capacity» «node_capacity» counts lot tail (now work) ⌝ }
+    ensures { λ r. ⌜ frontier r (now (work .exit)) ≡ expanded «node_capacity» (end-at (now (outgoing .entry))) (getD (now (work .entry)) lot 0 + 1)
+        (walk-in (now (incoming .entry)) «edge_capacity» «node_capacity» counts (now («live_edges» .entry)) lot true) (frontier tail (now (work .entry))) ⌝ }
 {
     let at = lot as usize;
     let word = work[at] + 1;
-    let start = walk::start(incoming, edges, nodes, counts, at, true);
+    let start = walk::start(incoming, edge_capacity, node_capacity, counts, at, true);
     let linked = start.linked;
     let slots = counts.edges.bound as usize;
-    let entries = walk::entries_of(incoming, edges, linked);
-    let next = walk::next_of(incoming, edges);
+    let entries = walk::entries_of(incoming, edge_capacity, linked);
+    let next = walk::next_of(incoming, edge_capacity);
     let tombstoned = walk::tombstoned(counts);
     expand(
         start.cursor,
@@ -104,7 +107,7 @@ fn expand_lot(
         live_edges,
         slots,
         outgoing,
-        nodes,
+        node_capacity,
         word,
         tail,
         work,
@@ -154,13 +157,13 @@ fn drain(
 }
 
 // Gives the goal its word and its place in the queue.
-fn seed(work: &mut [u32], nodes: usize, goal: u32)
-    requires { ⌜ Seedable nodes goal (now work) ⌝ }
-    ensures { λ _. ⌜ now (work .exit) ≡ set (set (now (work .entry)) goal 1) nodes goal ⌝ }
+fn seed(work: &mut [u32], node_capacity: usize, goal: u32)
+    requires { ⌜ Seedable «node_capacity» goal (now work) ⌝ }
+    ensures { λ _. ⌜ now (work .exit) ≡ set (set (now (work .entry)) goal 1) «node_capacity» goal ⌝ }
 {
     let at = goal as usize;
     work[at] = 1;
-    work[nodes] = goal;
+    work[node_capacity] = goal;
 }
 
 // Searches backwards from the goal, whatever the work slice held. Answers the word of the first lot: 0 where there is no chain from it, else one more than the

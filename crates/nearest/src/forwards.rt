@@ -61,24 +61,24 @@ fn nearer(
 fn nearer_lot(
     outgoing: &[u32],
     incoming: &[u32],
-    edges: usize,
-    nodes: usize,
+    edge_capacity: usize,
+    node_capacity: usize,
     counts: Counts,
     live_edges: &[u64],
     lot: u32,
     work: &[u32],
     word: u32,
 ) -> u32
-    requires { ⌜ NearerLot (now outgoing) (now incoming) (now «live_edges») edges nodes counts lot (now work) ⌝ }
+    requires { ⌜ NearerLot (now outgoing) (now incoming) (now «live_edges») «edge_capacity» «node_capacity» counts lot (now work) ⌝ }
     ensures { λ r. ⌜ r ≡ first-of (leads (end-at (now (incoming .entry))) (now (work .entry)) word)
-        (walk-in (now (outgoing .entry)) edges nodes counts (now («live_edges» .entry)) lot true) ⌝ }
+        (walk-in (now (outgoing .entry)) «edge_capacity» «node_capacity» counts (now («live_edges» .entry)) lot true) ⌝ }
 {
     let at = lot as usize;
-    let start = walk::start(outgoing, edges, nodes, counts, at, true);
+    let start = walk::start(outgoing, edge_capacity, node_capacity, counts, at, true);
     let linked = start.linked;
     let slots = counts.edges.bound as usize;
-    let entries = walk::entries_of(outgoing, edges, linked);
-    let next = walk::next_of(outgoing, edges);
+    let entries = walk::entries_of(outgoing, edge_capacity, linked);
+    let next = walk::next_of(outgoing, edge_capacity);
     let tombstoned = walk::tombstoned(counts);
     nearer(
         start.cursor,

@@ -15,7 +15,7 @@ use Rattle.plain.specs.Laws.ListLaws.{length-keep, member-keep, member-source, 
 use Rattle.shape.specs.Columns.{cell, end-at, next-at, last-at}
 use Rattle.shape.specs.Rules.{ring-right}
 use Rattle.shape.specs.Laws.Checking.{below-all}
-use Rattle.validate.specs.Passing.{slots-from, slots-more, slots-none}
+use Rattle.validate.specs.Laws.Passing.{slots-from, slots-more, slots-none}
 use Rattle.validate.specs.Rings.{own-test}
 use Rattle.validate.specs.Climbs.{Picked, is-last, some-at, Linked, Climbs, Stepped}
 use Rattle.validate.proofs.Ringing.{closes, closes-last, closes-more, ring-none, ring-some}

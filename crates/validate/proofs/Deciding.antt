@@ -1,13 +1,14 @@
--- What each rule takes from the rules before it, and rule 7 by the words of each direction.
-use Prim.Native.Nat.{ℕ, zero, suc, _<_}
+-- What rule 1 establishes, the first broken rule in parts, what each rule takes from the rules before it, and rule 7 by the words of each direction.
+use Prim.Native.Nat.{ℕ, zero, suc, _*_, _^_, _≤_, _<_}
 use mathlib.Core.Path.{_≡_, refl, sym, ap, ap₂, _∙_}
-use mathlib.Core.Bool.{Bool, true, false, _&&_, _||_, not}
+use mathlib.Core.Bool.{Bool, true, false, cond, _&&_, _||_, not}
 use mathlib.Core.List.{List}
 use native.Mathlib.Omega.{arith}
-use lib.ListN.{getD}
+use lib.ListN.{length, getD}
 use lib.Dec.{eqb, ltb}
 use borrow.Author.Tests.{ltb-true}
 use Rattle.plain.specs.declared.Answer.{Answer}
+use Rattle.plain.specs.declared.Slots.{Slots}
 use Rattle.plain.specs.declared.TraversalDirection.{TraversalDirection}
 use Rattle.plain.specs.declared.TraversalDirection.the-variants.{Outgoing, Incoming}
 use Rattle.plain.specs.Calls.{check}
@@ -16,19 +17,59 @@ use Rattle.plain.specs.Plain.{Plain, node-bound, edge-bound, node-flags, edge-f
 use Rattle.shape.specs.Columns.{end-at}
 use Rattle.shape.specs.Shape.{Words, node-capacity, edge-capacity, node-live, edge-live, axis-words, shape-of, plain-of}
 use Rattle.plain.specs.Laws.Booleans.{and-left, and-right}
-use Rattle.shape.specs.Rules.{both-axes, ends-right, weights-right, index-right, ring-right, walks-right, rule-1, rule-3, rule-4, rule-5}
+use Rattle.shape.specs.Rules.{both-axes, ends-right, weights-right, index-right, ring-right, walks-right, rule-1, rule-2, rule-3, rule-4, rule-5, rule-6, rule-7, broken}
 use Rattle.shape.specs.Laws.Checking.{all-below, ring-sound, ring-own, index-sound}
-use Rattle.shape.specs.Laws.Judging.{Structured, sizes-sound, nodes-live-sound, edges-live-sound, axis-sound}
+use Rattle.shape.specs.Laws.Judging.{Structured, SlotsRight, unbroken-checked, sizes-sound, nodes-live-sound, edges-live-sound, axis-sound}
 use Rattle.shape.specs.Laws.Reading.{plain-node-bound, plain-edge-bound, plain-node-flags, plain-edge-flags, plain-end}
 use Rattle.adjacency.specs.Walk.{Walkable}
 use Rattle.adjacency.specs.Laws.Walk.{walk-below}
 use Rattle.adjacency.specs.Laws.StoreWalks.{list-is-walk}
-use Rattle.validate.specs.Passing.{entries-agree, slots-agree}
-use Rattle.validate.specs.Sizes.{axis-sized, live-there}
-use Rattle.validate.specs.Broken.{Threaded}
+use Rattle.validate.specs.Laws.Passing.{entries-agree, slots-agree}
+use Rattle.validate.specs.Sizes.{sizes-test, AxisSized}
+use Rattle.validate.specs.Broken.{Counted, Threaded, broken-lists, broken-axes}
+use Rattle.validate.specs.Judging.{Judged}
 use Rattle.validate.specs.Runs.{RunsReadable}
 use Rattle.validate.specs.Flat.{ListsReadable}
 use Rattle.validate.specs.Walks.{WalksReadable, node-walk, walk-test, listed-test, walks-test}
+
+-- ---- rule 1
+
+pub sizes-rule : (w : Words)
+    → sizes-test (w .counts) (node-capacity w) (edge-capacity w) (length (w .highs)) (length (w .live-nodes)) (length (w .live-edges)) (length (w .outgoing)) (length (w .incoming))
+    ≡ rule-1 w
+unfolding sizes-test rule-1
+sizes-rule w = refl
+
+-- the live bits of every slot below the bound are there
+pub live-there : {capacity words : ℕ} {s : Slots} → SlotsRight capacity words s → s .bound ≤ 64 * words
+live-there {capacity} {words} {s} h = let l = h .long in let b = h .bounded .bound-within in omega arith
+
+pub axis-sized : (w : Words) → rule-1 w ≡ true → (d : TraversalDirection) → AxisSized (axis-words d w) (edge-capacity w) (node-capacity w) (w .counts)
+axis-sized w h d = let s = sizes-sound w h in record { sized = s .sized d; nodes = s .nodes .bounded; edges = s .edges .bounded }
+
+-- the weights of every slot below the bound are there
+pub weights-there : (w : Words) → rule-1 w ≡ true → (w .counts .edges .bound ≤ length (w .lows)) × (w .counts .edges .bound ≤ length (w .highs))
+weights-there w h =
+    let s = sizes-sound w h in
+    let within = s .edges .bounded .bound-within in
+    (within, omega (arith, s .highs-long))
+
+-- ---- the rules in their order
+
+-- rules 1 to 6 hold
+pub structured : {w : Words} → Threaded w → rule-6 w ≡ true → Structured w
+structured t h = record { r1 = t .counted .r1; r2 = t .counted .r2; r3 = t .r3; r4 = t .r4; r5 = t .r5; r6 = h }
+
+-- the first of all
+pub broken-parts : (w : Words) → cond (not (rule-1 w)) 1 (cond (not (rule-2 w)) 2 (broken-axes w)) ≡ broken w
+unfolding broken broken-axes broken-lists
+broken-parts w = refl
+
+-- a slice's payload words are words of 32 bits, so words of which no rule is broken are a checked store
+pub judges : {w : Words} {rule : ℕ} → rule ≡ broken w → ((x : ℕ) → getD (w .nodes) x 0 < 2 ^ 32) → ((e : ℕ) → getD (w .highs) e 0 < 2 ^ 32) → Judged w rule
+judges {w} first nodes highs = record { first = first; checked = λ h. unbroken-checked w (record { nodes = nodes; highs = highs }) (sym first ∙ h) }
+
+-- ---- rule 7
 
 -- Rule 7 of plain lists by what they are read from: the walks, the ends and the flags.
 walks-read : (p : Plain) (d : TraversalDirection) (walk : ℕ → List ℕ) (ends : ℕ → ℕ) (nodes edges : List Bool) (nb eb : ℕ)

@@ -18,7 +18,7 @@ use Rattle.plain.specs.Numbers.{LIMIT}
 use Rattle.plain.specs.declared.Counts.{Counts}
 use Rattle.plain.specs.Lists.{member, distinct, from, keep, count}
 use Rattle.plain.specs.Laws.Booleans.{by-test, below-or-not, true-false, and-left, and-right, both-true, or-true}
-use Rattle.plain.specs.Laws.ListLaws.{member-first, member-later, member-append, member-mapped, member-source, member-keep, member-from, length-keep, length-from, count-length, distinct-full, distinct-left, distinct-right, distinct-keep, distinct-from}
+use Rattle.plain.specs.Laws.ListLaws.{member-first, member-later, member-append, member-mapped, member-source, member-keep, member-from, length-keep, length-from, distinct-full, distinct-left, distinct-right, distinct-keep, distinct-from}
 use Rattle.shape.specs.Columns.{cell, end-at, adjacency-at, next-at, last-at, mark-at, offset-at}
 use Rattle.shape.specs.Chains.{In, Seg, Ring}
 use Rattle.shape.specs.Shape.{between, base-of, ring-of}
@@ -28,7 +28,7 @@ use Rattle.shape.specs.Laws.Walking.{between-member}
 use Rattle.shape.specs.Laws.Frames.{offset-within}
 use Rattle.shape.specs.Laws.Indexing.{from-append}
 use Rattle.shape.specs.Laws.Taking.{keep-append, keep-passing}
-use Rattle.validate.specs.Passing.{slots-from, slots-more, slots-none}
+use Rattle.validate.specs.Laws.Passing.{slots-from, slots-more, slots-none}
 use Rattle.validate.specs.Marks.{Entered, Followed, Adds}
 use Rattle.validate.specs.Climbs.{Linked, Picked}
 use Rattle.validate.specs.Flat.{at-base, places, place-shown, base-entries, delta-links, PlaceReadable, EntryPlaced, Looked, CountReadable, BaseFlat, DeltaFlat, FlatReadable}
@@ -112,25 +112,6 @@ module _ (column : ℕ → ℕ) (test : ℕ → Bool) (P : ℕ → Type 0) (a b 
       → Followed (λ e. true) true (map column (keep test (slots-from a b))) seen₀ true seen
   unfolding keep
   marking-done {i} w l = follow-done (w .follows) true (rw (slots-none i b l))
-
--- the entries counted: those found and those still to come
-module _ (test : ℕ → Bool) where
-  pub count-more : (i b n step : ℕ) {P : Type 0} → i < b → n + count test (slots-from i b) ≡ count test (slots-from 0 b) → Looked (test i) P step → step ≤ 1
-      → (n + step) + count test (slots-from (i + 1) b) ≡ count test (slots-from 0 b)
-  unfolding count
-  count-more i b n step l q look small =
-      let here : count test (slots-from i b) ≡ cond (test i) 1 0 + count test (slots-from (i + 1) b) = rw (slots-more i b l) in
-      omega (arith, look .counts small)
-
-  pub count-low : (b n k : ℕ) → n + k ≡ count test (slots-from 0 b) → n ≤ b
-  count-low b n k q = omega (arith, count-length test (slots-from 0 b), length-from 0 (b - 0))
-
-  pub count-past : (i b n : ℕ) → b ≤ i → n + count test (slots-from i b) ≡ count test (slots-from 0 b) → n ≡ count test (from 0 b)
-  unfolding count
-  count-past i b n l q =
-      let none : count test (slots-from i b) ≡ 0 = rw (slots-none i b l) in
-      let whole : count test (slots-from 0 b) ≡ count test (from 0 b) = (let z : b - 0 ≡ b = omega arith in ap (λ (k : ℕ). count test (from 0 k)) z) in
-      omega arith
 
 -- the delta is flat
 pub delta-done : (ws : List ℕ) (ce cn : ℕ) (counts : Counts) {e : ℕ} {seen₀ seen : List ℕ}

@@ -11,9 +11,9 @@ use Rattle.plain.specs.Lists.{member, distinct, all, keep}
 use Rattle.plain.specs.Laws.Booleans.{by-test, true-false, refuted, and-left, and-right, both-true, or-other, or-false, or-true}
 use Rattle.plain.specs.Laws.ListLaws.{all-of, all-member, member-append, distinct-append}
 use Rattle.shape.specs.Laws.Chains.{in-front}
-use Rattle.validate.specs.Passing.{passed}
+use Rattle.validate.specs.Laws.Passing.{passed}
 use Rattle.validate.specs.Marks.{marked, Marked, Entered, fresh, passes, Followed, Adds}
-use Rattle.validate.specs.Fresh.{or-swap, passes-none, passes-fails, passes-marked, passes-more}
+use Rattle.validate.specs.Laws.Fresh.{or-swap, passes-none, passes-fails, passes-marked, passes-more}
 
 -- Of a list of entries the rest is still to be followed; those before are marked.
 pub record Following (test : ℕ → Bool) (l seen₀ seen rest : List ℕ) : Type 0 where

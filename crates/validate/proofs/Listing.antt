@@ -30,8 +30,8 @@ use Rattle.shape.specs.Laws.Chains.{in-none, in-front, ring-once, ring-least}
 use Rattle.shape.specs.Laws.Frames.{run-list-unmarked}
 use Rattle.shape.specs.Laws.Checking.{all-below, below-all, run-sound, run-complete, runs-complete}
 use Rattle.validate.specs.Marks.{marked, Followed, Adds}
-use Rattle.validate.specs.Runs.{entry-test, run-test, ends-in}
-use Rattle.validate.specs.Flat.{taken, base-entries, delta-links, NodeOnce, RunsOnce, BaseFlat, DeltaFlat, ListsOnce, FlatReadable, ListsReadable}
+use Rattle.validate.specs.Runs.{entry-test, run-test, ends-in, taken, RunsReadable, MapClear, NodeOnce, RunsOnce}
+use Rattle.validate.specs.Flat.{base-entries, delta-links, BaseFlat, DeltaFlat, ListsOnce, FlatReadable, ListsReadable}
 use Rattle.validate.specs.Walks.{marked-if-live, node-walk, walk-test, listed-test, walks-test}
 use Rattle.validate.proofs.Following.{Following, follow-start, follow-done, followed-all, followed-final, both-once, both-adds, adds-none}
 use Rattle.validate.proofs.Flattening.{base-own, base-once, base-low, base-there, entry-shown, link-there, link-shown}
@@ -145,6 +145,25 @@ listing-done w l = record { nodes = λ y k. w .nodes y (omega arith); marks = w 
 pub listing-none : {ws : List ℕ} {ce cn : ℕ} {counts : Counts} {seen : List ℕ} → ((x : ℕ) → x < counts .nodes .bound → mark-at ws ce cn x ≡ 0)
     → ((e : ℕ) → marked seen e ≡ false) → RunsOnce ws ce cn counts seen
 listing-none {ws} {ce} {cn} {counts} none clear = record { nodes = λ y k. node-plain ws ce cn (counts .edges .base) (counts .edges .bound) y (none y k); marks = λ e h. true-false h (clear e) }
+
+pub runless-right : (ws : List ℕ) (ce cn : ℕ) (counts : Counts) (nodes edges : List Bool) → ((x : ℕ) → x < counts .nodes .bound → mark-at ws ce cn x ≡ 0)
+    → runs-right ce cn counts nodes edges ws ≡ true
+runless-right ws ce cn counts nodes edges none =
+    runs-complete ws ce cn counts nodes edges
+    (record {
+      run = λ x l some. absurd (some (none x l));
+      apart = λ x y e l k m n. in-none e (rw (run-list-unmarked ws ce cn x (none x l)) at m);
+    })
+    (λ x e l dead m. in-none e (rw (run-list-unmarked ws ce cn x (none x l)) at m))
+
+-- what following the runs asks of what rules 1 to 5 establish, and of a pass
+pub lists-runs : {ws : List ℕ} {ce cn : ℕ} {counts : Counts} {live-nodes live-edges : List ℕ} → ListsReadable ws ce cn counts live-nodes live-edges
+    → RunsReadable ws ce cn counts live-nodes live-edges
+lists-runs r = record { axis = r .axis; nodes-long = r .nodes-long; edges-long = r .edges-long }
+
+pub flat-clear : {ws : List ℕ} {ce cn : ℕ} {counts : Counts} {runless : Bool} {seen : List ℕ} → FlatReadable ws ce cn counts runless seen → ((e : ℕ) → marked seen e ≡ false)
+    → MapClear ws ce cn counts runless seen
+flat-clear r clear = record { marks-long = r .marks-long; clear = clear; no-run = r .no-run }
 
 -- the three passes
 pub all-once : {ws : List ℕ} {ce cn : ℕ} {counts : Counts} {a b c : List ℕ} → RunsOnce ws ce cn counts a → BaseFlat ws ce cn counts × Adds (base-entries ws ce cn (counts .edges .base)) a b

@@ -1,6 +1,6 @@
 -- Runs: the chain of one, and the runs of all nodes, one after the other: what the nodes from one on decide, where the entries before are marked.
 use Prim.Native.Nat.{ℕ, zero, suc, _+_, _-_, _*_, _≤_, _<_}
-use mathlib.Core.Path.{_≡_, refl, sym, ap, _∙_}
+use mathlib.Core.Path.{_≡_, refl, sym, ap, subst, _∙_}
 use mathlib.Core.Bool.{Bool, true, false, _&&_, _||_, not}
 use mathlib.Core.List.{List, [], _∷_, map}
 use native.Mathlib.Omega.{arith}
@@ -13,11 +13,11 @@ use Rattle.shape.specs.Columns.{cell, end-at, tail-at, mark-at, count-at, first
 use Rattle.shape.specs.Chains.{chain}
 use Rattle.shape.specs.Shape.{run-list}
 use Rattle.shape.specs.Rules.{last-of, run-right}
-use Rattle.validate.specs.Passing.{slots-from, slots-more, slots-none}
+use Rattle.validate.specs.Laws.Passing.{slots-from, slots-more, slots-none}
 use Rattle.validate.specs.Marks.{marked, fresh, passes, Followed}
 use Rattle.validate.specs.Runs.{entry-test, run-test, ends-in}
 use Rattle.validate.proofs.Following.{follow-start, follow-done}
-use Rattle.validate.specs.Fresh.{fresh-clear, fresh-append}
+use Rattle.validate.specs.Laws.Fresh.{fresh-clear, fresh-append}
 
 -- the run of a node with a mark is its chain
 pub run-chain : (ws : List ℕ) (ce cn x : ℕ) → (mark-at ws ce cn x ≡ 0 → ⊥) → chain (cell ws (3 * ce)) (count-at ws ce cn x) (first-at ws ce cn x) ≡ run-list ws ce cn x
@@ -44,6 +44,12 @@ module _ (ws : List ℕ) (strict : Bool) (x eb : ℕ) (live : Bool) (flags : Lis
 
   pub run-entry : entry-test eb live flags e ≡ true → (not strict || eqb (end-at ws e) x) ≡ true → run-test ws strict x eb live flags e ≡ true
   run-entry h own = both-true own h
+
+-- a run followed, where it is known whether its entries have to end at the node
+pub followed-so : (ws : List ℕ) (x eb : ℕ) (live : Bool) (flags : List Bool) {strict known final answer : Bool} {l entry exit : List ℕ} → strict ≡ known
+    → Followed (run-test ws strict x eb live flags) final l entry answer exit → Followed (run-test ws known x eb live flags) final l entry answer exit
+followed-so ws x eb live flags {final = final} {answer} {l} {entry} {exit} q f =
+    subst (λ (s : Bool). Followed (run-test ws s x eb live flags) final l entry answer exit) q f
 
 module _ (link : ℕ → ℕ) where
   -- an entry of a chain, and those after it

@@ -15,7 +15,7 @@ use Rattle.liveness.specs.Flags.{live-flags}
 use Rattle.liveness.specs.Laws.Flags.{flag-at}
 use Rattle.shape.specs.Columns.{end-at}
 use Rattle.adjacency.specs.Walk.{walk-in}
-use Rattle.validate.specs.Passing.{slots-agree, rest, rest-first, rest-more, rest-fails, rest-none}
+use Rattle.validate.specs.Laws.Passing.{slots-agree, rest, rest-first, rest-more, rest-fails, rest-none}
 use Rattle.validate.specs.Marks.{marked, fresh, passes, Followed}
 use Rattle.validate.specs.Walks.{marked-if-live, node-walk, walk-test, listed-test, walks-test}
 

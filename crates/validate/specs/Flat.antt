@@ -1,4 +1,4 @@
--- Lists that are flat: what a quick test of each node with a run, of each entry of the compressed index and of each edge of the delta says, and what it marks.
+-- Lists that are flat: what a quick test of each entry of the compressed index and of each edge of the delta says, and what it marks.
 use Prim.Native.Nat.{ℕ, zero, suc, _+_, _*_, _-_, _≤_, _<_}
 use mathlib.Core.Path.{_≡_}
 use mathlib.Core.Bool.{Bool, true, cond}
@@ -11,33 +11,15 @@ use Rattle.plain.specs.Numbers.{LIMIT}
 use Rattle.plain.specs.Lists.{distinct, from, keep, count}
 use Rattle.shape.specs.Columns.{Sized, end-at, adjacency-at, next-at, mark-at, offset-at}
 use Rattle.shape.specs.Chains.{In}
-use Rattle.shape.specs.Shape.{run-list, ring-of}
 use Rattle.shape.specs.Checked.{LiveRight, Index, Rings}
-use Rattle.shape.specs.Rules.{run-right}
 use Rattle.validate.specs.Sizes.{AxisSized}
 use Rattle.validate.specs.Marks.{marked}
 use Rattle.validate.specs.Climbs.{Linked}
+use Rattle.validate.specs.Runs.{taken, NodeOnce}
 
 -- the end of an edge has no run, so that its base part is read
 abbrev pub at-base : List ℕ → ℕ → ℕ → ℕ → Bool
 at-base ws ce cn e = eqb (mark-at ws ce cn (end-at ws e)) 0
-
--- ---- nodes with a run
-
--- what such a node lists: its run, and behind that its ring
-abbrev pub taken : List ℕ → ℕ → ℕ → ℕ → ℕ → ℕ → List ℕ
-taken ws ce cn be eb x = cond (eqb (mark-at ws ce cn x) 0) [] (run-list ws ce cn x ++ ring-of ws ce be eb x)
-
--- A node's run is right; every entry of it and of the ring behind it ends at the node, and none comes twice.
-pub record NodeOnce (ws : List ℕ) (ce cn be eb x : ℕ) : Type 0 where
-  pub right : run-right ce cn eb ws x ≡ true
-  pub own : (e : ℕ) → In e (taken ws ce cn be eb x) → end-at ws e ≡ x
-  pub once : distinct (taken ws ce cn be eb x) ≡ true
-
--- All nodes are so, and only their entries are marked.
-pub record RunsOnce (ws : List ℕ) (ce cn : ℕ) (counts : Counts) (exit : List ℕ) : Type 0 where
-  pub nodes : (x : ℕ) → x < counts .nodes .bound → NodeOnce ws ce cn (counts .edges .base) (counts .edges .bound) x
-  pub marks : (e : ℕ) → marked exit e ≡ true → In e (taken ws ce cn (counts .edges .base) (counts .edges .bound) (end-at ws e))
 
 -- ---- base parts
 

@@ -3,165 +3,59 @@
 // with them the rings of their nodes; what has no run is looked at entry by entry, not node by node, since a walk of unknown length is what a check is slow at.
 
 use crate::axes::words_below;
-use crate::marks::mark;
 use crate::marks::mark_step;
 use crate::rings::edge_linked;
 use crate::rings::pick;
-use crate::runs::entry_own;
-use crate::runs::entry_right;
-use crate::runs::run_right;
+use crate::runs::runs_once;
 use crate::walks::live_marked;
-use liveness::is_live;
 use plain::Counts;
-use plain::NONE;
 ghost use mathlib.Core.Path.{_≡_};
 ghost use mathlib.Core.Bool.{true, false, not};
 ghost use Prim.Native.Nat.{ℕ, _*_, _≤_, _<_};
 ghost use lib.ListN.{length, getD};
 ghost use lib.Dec.{eqb};
 ghost use Rattle.liveness.specs.Flags.{live-bit, live-flags};
-ghost use Rattle.shape.specs.Columns.{Sized, cell, end-at, mark-at};
-ghost use Rattle.shape.specs.Chains.{until};
+ghost use Rattle.shape.specs.Columns.{Sized, end-at, mark-at};
 ghost use Rattle.shape.specs.Rules.{runs-right as runs-test};
-ghost use Rattle.validate.specs.Marks.{marked, Followed, Adds};
+ghost use Rattle.validate.specs.Marks.{marked, Adds};
 ghost use Rattle.validate.specs.Climbs.{Linked, LinkReadable};
-ghost use Rattle.validate.specs.Runs.{run-test, ChainReadable, RunReadable};
 ghost use Rattle.validate.specs.Walks.{walks-test};
-ghost use Rattle.validate.specs.Flat.{at-base, taken, base-entries, delta-links, places, NodeOnce, RunsOnce, PlaceReadable, EntryPlaced, Looked, CountReadable, BaseFlat, DeltaFlat, ListsOnce, FlatReadable, ListsReadable};
-
-// The ring of a node from its first entry on up to its last, `count` entries at most: each ends at the node and none is marked. Marks them.
-fn ring_once(
-    axis: &[u32],
-    edges: usize,
-    words: &[u64],
-    bound: u32,
-    live: bool,
-    node: usize,
-    first: u32,
-    count: u32,
-    last: u32,
-    seen: &mut [u64],
-) -> bool
-    requires { ⌜ ChainReadable (now axis) edges (now words) bound (now seen) ⌝ }
-    ensures { λ r. ⌜ Followed (run-test (now (axis .entry)) true node bound live (live-flags (now (words .entry)) bound)) true (until (cell (now (axis .entry)) (2 * edges)) last count first) (now (seen .entry)) r (now (seen .exit)) ⌝ }
-{
-    let mut e = first;
-    let mut left = count;
-    while left > 0 {
-        if !entry_right(words, bound, live, e) {
-            return false;
-        }
-        if !entry_own(axis, true, node, e) {
-            return false;
-        }
-        if !mark(seen, e as usize) {
-            return false;
-        }
-        if e == last {
-            return true;
-        }
-        e = axis[2 * edges + e as usize];
-        left -= 1;
-    }
-    true
-}
-
-// The run of a node and the ring behind it, where the node has a run: the run is right, every entry of both ends at the node, and none is marked. Marks them; only
-// the yes is promised.
-fn node_once(
-    axis: &[u32],
-    edges: usize,
-    nodes: usize,
-    words: &[u64],
-    base: u32,
-    bound: u32,
-    node: usize,
-    live: bool,
-    seen: &mut [u64],
-) -> bool
-    requires { ⌜ RunReadable (now axis) edges nodes (now words) bound node (now seen) × (base ≤ bound) ⌝ }
-    ensures { λ r. ⌜ (r ≡ true → NodeOnce (now (axis .entry)) edges nodes base bound node × Adds (taken (now (axis .entry)) edges nodes base bound node) (now (seen .entry)) (now (seen .exit))) ⌝ }
-{
-    if axis[4 * edges + 4 * nodes + node] == 0 {
-        return true;
-    }
-    if !run_right(axis, edges, nodes, words, bound, node, live, true, seen) {
-        return false;
-    }
-    let last = axis[4 * edges + node];
-    if last == NONE {
-        return true;
-    }
-    if last >= bound {
-        return false;
-    }
-    let first = axis[2 * edges + last as usize];
-    ring_once(
-        axis,
-        edges,
-        words,
-        bound,
-        live,
-        node,
-        first,
-        bound - base,
-        last,
-        seen,
-    )
-}
-
-// The same of all nodes; `runless` says that none has a run. Only the yes is promised.
-fn runs_once(
-    axis: &[u32],
-    edges: usize,
-    nodes: usize,
-    counts: Counts,
-    live_nodes: &[u64],
-    live_edges: &[u64],
-    runless: bool,
-    seen: &mut [u64],
-) -> bool
-    requires { ⌜ ListsReadable (now axis) edges nodes counts (now «live_nodes») (now «live_edges») × FlatReadable (now axis) edges nodes counts runless (now seen) × ((e : ℕ) → marked (now seen) e ≡ false) ⌝ }
-    ensures { λ r. ⌜ (r ≡ true → RunsOnce (now (axis .entry)) edges nodes counts (now (seen .exit))) ⌝ }
-{
-    let base = counts.edges.base;
-    let bound = counts.edges.bound;
-    let node_bound = counts.nodes.bound as usize;
-    if runless {
-        return true;
-    }
-    let mut x: usize = 0;
-    while x < node_bound {
-        let live = is_live(live_nodes, node_bound, x);
-        if !node_once(axis, edges, nodes, live_edges, base, bound, x, live, seen) {
-            return false;
-        }
-        x += 1;
-    }
-    true
-}
+ghost use Rattle.validate.specs.Flat.{at-base, base-entries, delta-links, places, PlaceReadable, EntryPlaced, Looked, CountReadable, BaseFlat, DeltaFlat, ListsOnce, FlatReadable, ListsReadable};
 
 // Whether a node has a run; where none has, `runless` says so, and its mark is not read.
-fn has_run(axis: &[u32], edges: usize, nodes: usize, runless: bool, node: usize) -> bool
-    requires { ⌜ Sized (now axis) edges nodes × (node < nodes) × (runless ≡ true → mark-at (now axis) edges nodes node ≡ 0) ⌝ }
-    ensures { λ r. ⌜ r ≡ not (eqb (mark-at (now (axis .entry)) edges nodes node) 0) ⌝ }
+fn has_run(
+    axis: &[u32],
+    edge_capacity: usize,
+    node_capacity: usize,
+    runless: bool,
+    node: usize,
+) -> bool
+    requires { ⌜ Sized (now axis) «edge_capacity» «node_capacity» × (node < «node_capacity») × (runless ≡ true → mark-at (now axis) «edge_capacity» «node_capacity» node ≡ 0) ⌝ }
+    ensures { λ r. ⌜ r ≡ not (eqb (mark-at (now (axis .entry)) «edge_capacity» «node_capacity» node) 0) ⌝ }
 {
     if runless {
         return false;
     }
-    axis[4 * edges + 4 * nodes + node] != 0
+    axis[4 * edge_capacity + 4 * node_capacity + node] != 0
 }
 
 // Whether entry i of the compressed index, edge `edge`, stands in the part of its end; only the yes is promised.
-fn entry_placed(axis: &[u32], edges: usize, nodes: usize, base: u32, i: u32, edge: u32) -> bool
-    requires { ⌜ PlaceReadable (now axis) edges nodes base edge ⌝ }
-    ensures { λ r. ⌜ (r ≡ true → EntryPlaced (now (axis .entry)) edges nodes base i edge) ⌝ }
+fn entry_placed(
+    axis: &[u32],
+    edge_capacity: usize,
+    node_capacity: usize,
+    base: u32,
+    i: u32,
+    edge: u32,
+) -> bool
+    requires { ⌜ PlaceReadable (now axis) «edge_capacity» «node_capacity» base edge ⌝ }
+    ensures { λ r. ⌜ (r ≡ true → EntryPlaced (now (axis .entry)) «edge_capacity» «node_capacity» base i edge) ⌝ }
 {
     let node = axis[edge as usize];
     if node >= base {
         return false;
     }
-    let at = 4 * edges + 5 * nodes + node as usize;
+    let at = 4 * edge_capacity + 5 * node_capacity + node as usize;
     if i < axis[at] {
         return false;
     }
@@ -171,32 +65,38 @@ fn entry_placed(axis: &[u32], edges: usize, nodes: usize, base: u32, i: u32, edg
 // A step past entry i of the compressed index: 0 where the end of its edge has a run, else 1 where it stands in the part of its end, and 2 where it does not.
 fn entry_step(
     axis: &[u32],
-    edges: usize,
-    nodes: usize,
+    edge_capacity: usize,
+    node_capacity: usize,
     base: u32,
     runless: bool,
     i: u32,
     edge: u32,
 ) -> u32
-    requires { ⌜ PlaceReadable (now axis) edges nodes base edge × (runless ≡ true → mark-at (now axis) edges nodes (end-at (now axis) edge) ≡ 0) ⌝ }
-    ensures { λ r. ⌜ Looked (at-base (now (axis .entry)) edges nodes edge) (EntryPlaced (now (axis .entry)) edges nodes base i edge) r ⌝ }
+    requires { ⌜ PlaceReadable (now axis) «edge_capacity» «node_capacity» base edge × (runless ≡ true → mark-at (now axis) «edge_capacity» «node_capacity» (end-at (now axis) edge) ≡ 0) ⌝ }
+    ensures { λ r. ⌜ Looked (at-base (now (axis .entry)) «edge_capacity» «node_capacity» edge) (EntryPlaced (now (axis .entry)) «edge_capacity» «node_capacity» base i edge) r ⌝ }
 {
-    if has_run(axis, edges, nodes, runless, axis[edge as usize] as usize) {
+    if has_run(
+        axis,
+        edge_capacity,
+        node_capacity,
+        runless,
+        axis[edge as usize] as usize,
+    ) {
         return 0;
     }
-    if entry_placed(axis, edges, nodes, base, i, edge) {
+    if entry_placed(axis, edge_capacity, node_capacity, base, i, edge) {
         return 1;
     }
     2
 }
 
 // How many entries the compressed index has in the parts of nodes that have no run.
-fn count_places(axis: &[u32], edges: usize, nodes: usize, base: usize) -> u32
-    requires { ⌜ CountReadable (now axis) edges nodes base ⌝ }
-    ensures { λ r. ⌜ r ≡ length (places (now (axis .entry)) edges nodes base) ⌝ }
+fn count_places(axis: &[u32], edge_capacity: usize, node_capacity: usize, base: usize) -> u32
+    requires { ⌜ CountReadable (now axis) «edge_capacity» «node_capacity» base ⌝ }
+    ensures { λ r. ⌜ r ≡ length (places (now (axis .entry)) «edge_capacity» «node_capacity» base) ⌝ }
 {
-    let marks = 4 * edges + 4 * nodes;
-    let offsets = 4 * edges + 5 * nodes;
+    let marks = 4 * edge_capacity + 4 * node_capacity;
+    let offsets = 4 * edge_capacity + 5 * node_capacity;
     let mut total: u32 = 0;
     let mut x: usize = 0;
     while x < base {
@@ -211,22 +111,30 @@ fn count_places(axis: &[u32], edges: usize, nodes: usize, base: usize) -> u32
 // is told by their number. Marks them; only the yes is promised.
 fn base_flat(
     axis: &[u32],
-    edges: usize,
-    nodes: usize,
+    edge_capacity: usize,
+    node_capacity: usize,
     counts: Counts,
     runless: bool,
     seen: &mut [u64],
 ) -> bool
-    requires { ⌜ FlatReadable (now axis) edges nodes counts runless (now seen) ⌝ }
-    ensures { λ r. ⌜ (r ≡ true → BaseFlat (now (axis .entry)) edges nodes counts × Adds (base-entries (now (axis .entry)) edges nodes (counts .edges .base)) (now (seen .entry)) (now (seen .exit))) ⌝ }
+    requires { ⌜ FlatReadable (now axis) «edge_capacity» «node_capacity» counts runless (now seen) ⌝ }
+    ensures { λ r. ⌜ (r ≡ true → BaseFlat (now (axis .entry)) «edge_capacity» «node_capacity» counts × Adds (base-entries (now (axis .entry)) «edge_capacity» «node_capacity» (counts .edges .base)) (now (seen .entry)) (now (seen .exit))) ⌝ }
 {
     let base = counts.edges.base;
     let base_nodes = counts.nodes.base;
     let mut placed: u32 = 0;
     let mut i: u32 = 0;
     while i < base {
-        let e = axis[edges + i as usize];
-        let step = entry_step(axis, edges, nodes, base_nodes, runless, i, e);
+        let e = axis[edge_capacity + i as usize];
+        let step = entry_step(
+            axis,
+            edge_capacity,
+            node_capacity,
+            base_nodes,
+            runless,
+            i,
+            e,
+        );
         if step > 1 {
             return false;
         }
@@ -239,26 +147,32 @@ fn base_flat(
     if runless {
         return true;
     }
-    count_places(axis, edges, nodes, base_nodes as usize) == placed
+    count_places(axis, edge_capacity, node_capacity, base_nodes as usize) == placed
 }
 
 // A step past an edge of the delta: 0 where its end has a run, else 1 where it is linked, and 2 where it is not.
 fn edge_step(
     axis: &[u32],
-    edges: usize,
-    nodes: usize,
+    edge_capacity: usize,
+    node_capacity: usize,
     base: u32,
     bound: u32,
     runless: bool,
     edge: u32,
 ) -> u32
-    requires { ⌜ LinkReadable (now axis) edges nodes bound edge × (runless ≡ true → mark-at (now axis) edges nodes (end-at (now axis) edge) ≡ 0) ⌝ }
-    ensures { λ r. ⌜ Looked (at-base (now (axis .entry)) edges nodes edge) (Linked (now (axis .entry)) edges base bound edge) r ⌝ }
+    requires { ⌜ LinkReadable (now axis) «edge_capacity» «node_capacity» bound edge × (runless ≡ true → mark-at (now axis) «edge_capacity» «node_capacity» (end-at (now axis) edge) ≡ 0) ⌝ }
+    ensures { λ r. ⌜ Looked (at-base (now (axis .entry)) «edge_capacity» «node_capacity» edge) (Linked (now (axis .entry)) «edge_capacity» base bound edge) r ⌝ }
 {
-    if has_run(axis, edges, nodes, runless, axis[edge as usize] as usize) {
+    if has_run(
+        axis,
+        edge_capacity,
+        node_capacity,
+        runless,
+        axis[edge as usize] as usize,
+    ) {
         return 0;
     }
-    if edge_linked(axis, edges, nodes, base, bound, edge) {
+    if edge_linked(axis, edge_capacity, node_capacity, base, bound, edge) {
         return 1;
     }
     2
@@ -267,24 +181,24 @@ fn edge_step(
 // Whether every edge of the delta whose end has no run is linked, and no link of such an edge is marked. Marks them; only the yes is promised.
 fn delta_flat(
     axis: &[u32],
-    edges: usize,
-    nodes: usize,
+    edge_capacity: usize,
+    node_capacity: usize,
     counts: Counts,
     runless: bool,
     seen: &mut [u64],
 ) -> bool
-    requires { ⌜ FlatReadable (now axis) edges nodes counts runless (now seen) ⌝ }
-    ensures { λ r. ⌜ (r ≡ true → DeltaFlat (now (axis .entry)) edges nodes counts × Adds (delta-links (now (axis .entry)) edges nodes counts) (now (seen .entry)) (now (seen .exit))) ⌝ }
+    requires { ⌜ FlatReadable (now axis) «edge_capacity» «node_capacity» counts runless (now seen) ⌝ }
+    ensures { λ r. ⌜ (r ≡ true → DeltaFlat (now (axis .entry)) «edge_capacity» «node_capacity» counts × Adds (delta-links (now (axis .entry)) «edge_capacity» «node_capacity» counts) (now (seen .entry)) (now (seen .exit))) ⌝ }
 {
     let base = counts.edges.base;
     let bound = counts.edges.bound;
     let mut e = base;
     while e < bound {
-        let step = edge_step(axis, edges, nodes, base, bound, runless, e);
+        let step = edge_step(axis, edge_capacity, node_capacity, base, bound, runless, e);
         if step > 1 {
             return false;
         }
-        if !mark_step(seen, axis[2 * edges + e as usize] as usize, step) {
+        if !mark_step(seen, axis[2 * edge_capacity + e as usize] as usize, step) {
             return false;
         }
         e += 1;
@@ -306,13 +220,13 @@ fn end_live(axis: &[u32], live_nodes: &[u64], live_edges: &[u64], edge: usize) -
 // Whether the end of every live edge is live; only the yes is promised.
 fn ends_live(
     axis: &[u32],
-    edges: usize,
-    nodes: usize,
+    edge_capacity: usize,
+    node_capacity: usize,
     counts: Counts,
     live_nodes: &[u64],
     live_edges: &[u64],
 ) -> bool
-    requires { ⌜ ListsReadable (now axis) edges nodes counts (now «live_nodes») (now «live_edges») ⌝ }
+    requires { ⌜ ListsReadable (now axis) «edge_capacity» «node_capacity» counts (now «live_nodes») (now «live_edges») ⌝ }
     ensures { λ r. ⌜ (r ≡ true → (e : ℕ) → e < counts .edges .bound → getD (live-flags (now («live_edges» .entry)) (counts .edges .bound)) e false ≡ true → getD (live-flags (now («live_nodes» .entry)) (counts .nodes .bound)) (end-at (now (axis .entry)) e) false ≡ true) ⌝ }
 {
     let bound = counts.edges.bound as usize;
@@ -333,54 +247,60 @@ fn ends_live(
 // The three passes, on a clear map; only the yes is promised.
 fn lists_once(
     axis: &[u32],
-    edges: usize,
-    nodes: usize,
+    edge_capacity: usize,
+    node_capacity: usize,
     counts: Counts,
     live_nodes: &[u64],
     live_edges: &[u64],
     runless: bool,
     seen: &mut [u64],
 ) -> bool
-    requires { ⌜ ListsReadable (now axis) edges nodes counts (now «live_nodes») (now «live_edges») × FlatReadable (now axis) edges nodes counts runless (now seen) × ((e : ℕ) → marked (now seen) e ≡ false) ⌝ }
-    ensures { λ r. ⌜ (r ≡ true → ListsOnce (now (axis .entry)) edges nodes counts (now (seen .exit))) ⌝ }
+    requires { ⌜ ListsReadable (now axis) «edge_capacity» «node_capacity» counts (now «live_nodes») (now «live_edges») × FlatReadable (now axis) «edge_capacity» «node_capacity» counts runless (now seen) × ((e : ℕ) → marked (now seen) e ≡ false) ⌝ }
+    ensures { λ r. ⌜ (r ≡ true → ListsOnce (now (axis .entry)) «edge_capacity» «node_capacity» counts (now (seen .exit))) ⌝ }
 {
     if !runs_once(
         axis,
-        edges,
-        nodes,
+        edge_capacity,
+        node_capacity,
         counts,
         live_nodes,
         live_edges,
         runless,
+        true,
         seen,
     ) {
         return false;
     }
-    if !base_flat(axis, edges, nodes, counts, runless, seen) {
+    if !base_flat(axis, edge_capacity, node_capacity, counts, runless, seen) {
         return false;
     }
-    delta_flat(axis, edges, nodes, counts, runless, seen)
+    delta_flat(axis, edge_capacity, node_capacity, counts, runless, seen)
 }
 
 // Whether the lists of one direction are quickly seen to be right, by rule 6 and by rule 7; only the yes is promised.
 pub fn lists_flat(
     axis: &[u32],
-    edges: usize,
-    nodes: usize,
+    edge_capacity: usize,
+    node_capacity: usize,
     counts: Counts,
     live_nodes: &[u64],
     live_edges: &[u64],
 ) -> bool
-    requires { ⌜ ListsReadable (now axis) edges nodes counts (now «live_nodes») (now «live_edges») ⌝ }
-    ensures { λ r. ⌜ (r ≡ true → (runs-test edges nodes counts (live-flags (now («live_nodes» .entry)) (counts .nodes .bound)) (live-flags (now («live_edges» .entry)) (counts .edges .bound)) (now (axis .entry)) ≡ true) × (walks-test (now (axis .entry)) edges nodes counts (now («live_nodes» .entry)) (now («live_edges» .entry)) ≡ true)) ⌝ }
+    requires { ⌜ ListsReadable (now axis) «edge_capacity» «node_capacity» counts (now «live_nodes») (now «live_edges») ⌝ }
+    ensures { λ r. ⌜ (r ≡ true → (runs-test «edge_capacity» «node_capacity» counts (live-flags (now («live_nodes» .entry)) (counts .nodes .bound)) (live-flags (now («live_edges» .entry)) (counts .edges .bound)) (now (axis .entry)) ≡ true) × (walks-test (now (axis .entry)) «edge_capacity» «node_capacity» counts (now («live_nodes» .entry)) (now («live_edges» .entry)) ≡ true)) ⌝ }
 {
     let slots = counts.edges.bound as usize;
-    let runless = words_below(axis, 4 * edges + 4 * nodes, counts.nodes.bound as usize, 1);
+    let runless = words_below(
+        axis,
+        4 * edge_capacity + 4 * node_capacity,
+        counts.nodes.bound as usize,
+        1,
+    );
     let mut seen = [0u64; 512];
     if !lists_once(
         axis,
-        edges,
-        nodes,
+        edge_capacity,
+        node_capacity,
         counts,
         live_nodes,
         live_edges,
@@ -389,7 +309,14 @@ pub fn lists_flat(
     ) {
         return false;
     }
-    if !ends_live(axis, edges, nodes, counts, live_nodes, live_edges) {
+    if !ends_live(
+        axis,
+        edge_capacity,
+        node_capacity,
+        counts,
+        live_nodes,
+        live_edges,
+    ) {
         return false;
     }
     live_marked(live_edges, &seen, slots)

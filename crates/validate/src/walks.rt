@@ -82,22 +82,29 @@ fn list_right(
 // The walk of one node, whose live flag is `live`.
 fn walk_right(
     axis: &[u32],
-    edges: usize,
-    nodes: usize,
+    edge_capacity: usize,
+    node_capacity: usize,
     counts: Counts,
     words: &[u64],
     node: u32,
     live: bool,
     seen: &mut [u64],
 ) -> bool
-    requires { ⌜ WalkReadable (now axis) edges nodes counts (now words) node (now seen) ⌝ }
-    ensures { λ r. ⌜ Followed (λ e. eqb (end-at (now (axis .entry)) e) node) true (walk-in (now (axis .entry)) edges nodes counts (now (words .entry)) node live) (now (seen .entry)) r (now (seen .exit)) ⌝ }
+    requires { ⌜ WalkReadable (now axis) «edge_capacity» «node_capacity» counts (now words) node (now seen) ⌝ }
+    ensures { λ r. ⌜ Followed (λ e. eqb (end-at (now (axis .entry)) e) node) true (walk-in (now (axis .entry)) «edge_capacity» «node_capacity» counts (now (words .entry)) node live) (now (seen .entry)) r (now (seen .exit)) ⌝ }
 {
-    let start = walk::start(axis, edges, nodes, counts, node as usize, live);
+    let start = walk::start(
+        axis,
+        edge_capacity,
+        node_capacity,
+        counts,
+        node as usize,
+        live,
+    );
     let linked = start.linked;
     let slots = counts.edges.bound as usize;
-    let entries = walk::entries_of(axis, edges, linked);
-    let next = walk::next_of(axis, edges);
+    let entries = walk::entries_of(axis, edge_capacity, linked);
+    let next = walk::next_of(axis, edge_capacity);
     let tombstoned = walk::tombstoned(counts);
     list_right(
         start.cursor,
@@ -166,15 +173,15 @@ pub fn live_marked(words: &[u64], seen: &[u64], slots: usize) -> bool
 // Rule 7: the walks of all nodes list each live edge once, at its end, and nothing else. They are not followed where a quick test has told that they are right.
 pub fn walks_right(
     axis: &[u32],
-    edges: usize,
-    nodes: usize,
+    edge_capacity: usize,
+    node_capacity: usize,
     counts: Counts,
     live_nodes: &[u64],
     live_edges: &[u64],
     known: bool,
 ) -> bool
-    requires { ⌜ WalksReadable (now axis) edges nodes counts (now «live_nodes») (now «live_edges») × (known ≡ true → walks-test (now axis) edges nodes counts (now «live_nodes») (now «live_edges») ≡ true) ⌝ }
-    ensures { λ r. ⌜ r ≡ walks-test (now (axis .entry)) edges nodes counts (now («live_nodes» .entry)) (now («live_edges» .entry)) ⌝ }
+    requires { ⌜ WalksReadable (now axis) «edge_capacity» «node_capacity» counts (now «live_nodes») (now «live_edges») × (known ≡ true → walks-test (now axis) «edge_capacity» «node_capacity» counts (now «live_nodes») (now «live_edges») ≡ true) ⌝ }
+    ensures { λ r. ⌜ r ≡ walks-test (now (axis .entry)) «edge_capacity» «node_capacity» counts (now («live_nodes» .entry)) (now («live_edges» .entry)) ⌝ }
 {
     let slots = counts.edges.bound as usize;
     let node_bound = counts.nodes.bound;
@@ -185,7 +192,16 @@ pub fn walks_right(
     let mut x: u32 = 0;
     while x < node_bound {
         let live = is_live(live_nodes, node_bound as usize, x as usize);
-        if !walk_right(axis, edges, nodes, counts, live_edges, x, live, &mut seen) {
+        if !walk_right(
+            axis,
+            edge_capacity,
+            node_capacity,
+            counts,
+            live_edges,
+            x,
+            live,
+            &mut seen,
+        ) {
             return false;
         }
         x += 1;

@@ -1,7 +1,7 @@
 -- `image::check::broken_content` meets its contract: each part stands where it is read, and the tests are those of rules 4 to 6.
 use native.Mathlib.Omega.{arith}
 use borrow.Author.Needs.{needs}
-use Rattle.validate.specs.Passing.{refused, accepted}
+use Rattle.validate.specs.Laws.Passing.{refused, accepted}
 use Rattle.image.proofs.Checking.{Standing, standing, padding-set, source-astray, target-astray, weight-astray, outs-wrong, ins-wrong, all-right}
 use Rattle.image.proofs.check.broken_content.Statement.{statement}
 use Rattle.image.proofs.check.broken_content.Tie as tie

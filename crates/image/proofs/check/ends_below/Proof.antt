@@ -4,7 +4,7 @@ use mathlib.Core.Path.{_≡_, sym, _∙_}
 use native.Mathlib.Omega.{arith}
 use lib.Dec.{ltb}
 use borrow.Author.Tests.{lt-ltb, le-ltb}
-use Rattle.validate.specs.Passing.{rest, rest-first, rest-more, rest-fails, rest-none}
+use Rattle.validate.specs.Laws.Passing.{rest, rest-first, rest-more, rest-fails, rest-none}
 use Rattle.image.specs.Checks.{end-in, ends-within}
 use Rattle.image.proofs.Checking.{column-fewer}
 use Rattle.image.proofs.check.ends_below.Statement.{statement}

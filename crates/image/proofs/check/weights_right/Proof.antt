@@ -6,7 +6,7 @@ use lib.Dec.{leb}
 use borrow.Author.Needs.{needs}
 use borrow.Author.Tests.{lt-leb, le-leb}
 use Rattle.plain.specs.Image.{weight-width}
-use Rattle.validate.specs.Passing.{rest, rest-first, rest-more, rest-fails, rest-none}
+use Rattle.validate.specs.Laws.Passing.{rest, rest-first, rest-more, rest-fails, rest-none}
 use Rattle.image.specs.Checks.{field-in, weights-ordered}
 use Rattle.image.proofs.Checking.{column-fewer}
 use Rattle.image.proofs.check.weights_right.Statement.{statement}

@@ -4,7 +4,7 @@ use mathlib.Core.Logic.{_⊎_, inl, inr, ⊎-elim}
 use borrow.Author.Needs.{needs}
 use borrow.Author.Tests.{eq-eqb, ne-eqb}
 use Rattle.shape.specs.Rules.{index-right}
-use Rattle.validate.specs.Passing.{passed}
+use Rattle.validate.specs.Laws.Passing.{passed}
 use Rattle.validate.proofs.Indexing.{unread, index-tests, read}
 use Rattle.validate.proofs.axes.index_right.Statement.{statement}
 use Rattle.validate.proofs.axes.index_right.Tie as tie
@@ -12,8 +12,8 @@ use Rattle.validate.proofs.axes.index_right.Tie as tie
 -- past the first test the rule is what is read
 reads : (c : tie.Joined1)
     → let a = c .before .before .before .args in
-    index-tests (a .axis .now) (a .edges) (a .nodes) (a .counts .nodes .base) (a .counts .edges .base)
-    ≡ index-right (a .edges) (a .nodes) (a .counts .nodes .base) (a .counts .edges .base) (a .axis .now)
+    index-tests (a .axis .now) (a .edge-capacity) (a .node-capacity) (a .counts .nodes .base) (a .counts .edges .base)
+    ≡ index-right (a .edge-capacity) (a .node-capacity) (a .counts .nodes .base) (a .counts .edges .base) (a .axis .now)
 reads c = read _ _ _ _ _ (⊎-elim (λ w. inr (w .1 .left)) (λ w. inl (w .left)) (c .if1 .came))
 
 returns : tie.Need-returns

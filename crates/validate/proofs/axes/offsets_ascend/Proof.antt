@@ -10,7 +10,7 @@ use borrow.Author.Tests.{lt-leb, le-leb}
 use Rattle.plain.specs.Lists.{all, from}
 use Rattle.plain.specs.Laws.Booleans.{and-true, and-false}
 use Rattle.shape.specs.Columns.{cell}
-use Rattle.validate.specs.Passing.{rest, rest-first, rest-more, rest-fails, rest-none}
+use Rattle.validate.specs.Laws.Passing.{rest, rest-first, rest-more, rest-fails, rest-none}
 use Rattle.validate.proofs.axes.offsets_ascend.Statement.{statement}
 use Rattle.validate.proofs.axes.offsets_ascend.Tie as tie
 

@@ -9,7 +9,7 @@ use borrow.Author.Tests.{lt-ltb, le-ltb}
 use Rattle.plain.specs.Lists.{all, from}
 use Rattle.plain.specs.Laws.Booleans.{and-true, and-false}
 use Rattle.shape.specs.Columns.{cell}
-use Rattle.validate.specs.Passing.{rest, rest-first, rest-more, rest-fails, rest-none}
+use Rattle.validate.specs.Laws.Passing.{rest, rest-first, rest-more, rest-fails, rest-none}
 use Rattle.validate.proofs.axes.words_below.Statement.{statement}
 use Rattle.validate.proofs.axes.words_below.Tie as tie
 

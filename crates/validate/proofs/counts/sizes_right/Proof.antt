@@ -9,22 +9,22 @@ use Rattle.plain.specs.Numbers.{LIMIT}
 use Rattle.shape.specs.Rules.{slots-right}
 use Rattle.shape.specs.Laws.Judging.{slots-sound}
 use Rattle.validate.specs.Sizes.{sizes-test}
-use Rattle.validate.specs.Passing.{passed}
+use Rattle.validate.specs.Laws.Passing.{passed}
 use Rattle.validate.proofs.counts.sizes_right.Statement.{statement}
 use Rattle.validate.proofs.counts.sizes_right.Tie as tie
 
 -- the node slots pass
 nodes-right : (c : tie.Then1)
-    → let a = c .before .before .before .before .args in slots-right (a .nodes) (a .live-nodes) (a .counts .nodes) ≡ true
+    → let a = c .before .before .before .before .args in slots-right (a .node-capacity) (a .live-nodes) (a .counts .nodes) ≡ true
 nodes-right c = sym (c .before .slots-right .ensures) ∙ c .if1 .taken
 
 -- and the edge slots
 edges-right : (c : tie.Then2)
-    → let a = c .before .before .before .before .before .before .args in slots-right (a .edges) (a .live-edges) (a .counts .edges) ≡ true
+    → let a = c .before .before .before .before .before .before .args in slots-right (a .edge-capacity) (a .live-edges) (a .counts .edges) ≡ true
 edges-right c = sym (c .before .slots-right2 .ensures) ∙ c .if2 .taken
 
 -- so the capacities are within the limit
-within : (c : tie.Then2) → let a = c .before .before .before .before .before .before .args in (a .nodes ≤ LIMIT) × (a .edges ≤ LIMIT)
+within : (c : tie.Then2) → let a = c .before .before .before .before .before .before .args in (a .node-capacity ≤ LIMIT) × (a .edge-capacity ≤ LIMIT)
 within c =
     let a = c .before .before .before .before .before .before .args in
     (slots-sound _ _ (a .counts .nodes) (nodes-right (c .before .before)) .within, slots-sound _ _ (a .counts .edges) (edges-right c) .within)

@@ -33,7 +33,7 @@ edge-step-requires c κs =
     )
 
 cast-link : tie.Need-cast-mark-step-2 Inv-loop μ-loop
-cast-link c = omega (arith, c .shared-slice-known2 .given (2 * c .before .before .before .before .before .before .before .before .args .edges + c .before .before .before .before .before .loop .e))
+cast-link c = omega (arith, c .shared-slice-known2 .given (2 * c .before .before .before .before .before .before .before .before .args .edge-capacity + c .before .before .before .before .before .loop .e))
 
 mark-step-requires : tie.Need-mark-step-requires Inv-loop μ-loop
 mark-step-requires c κs =

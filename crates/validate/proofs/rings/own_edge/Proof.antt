@@ -2,7 +2,7 @@
 use mathlib.Core.Path.{refl}
 use borrow.Author.Needs.{needs}
 use borrow.Author.Tests.{le-leb, lt-leb, lt-ltb, le-ltb}
-use Rattle.validate.specs.Passing.{passed}
+use Rattle.validate.specs.Laws.Passing.{passed}
 use Rattle.validate.specs.Rings.{own-test}
 use Rattle.validate.proofs.rings.own_edge.Statement.{statement}
 use Rattle.validate.proofs.rings.own_edge.Tie as tie

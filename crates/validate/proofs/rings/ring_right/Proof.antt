@@ -6,7 +6,7 @@ use borrow.Author.Needs.{needs}
 use mathlib.Core.Bool.{true}
 use Rattle.shape.specs.Columns.{cell, last-at}
 use Rattle.shape.specs.Rules.{ring-right}
-use Rattle.validate.specs.Passing.{refused, accepted}
+use Rattle.validate.specs.Laws.Passing.{refused, accepted}
 use Rattle.validate.specs.Rings.{own-test}
 use Rattle.validate.proofs.Ringing.{closes, closes-none, closes-fails, closes-last, closes-more, own-below, ring-none, ring-some, ring-out}
 use Rattle.validate.proofs.rings.ring_right.Statement.{statement}
@@ -32,8 +32,8 @@ loop-holds c = refl
 -- a ring is what its links decide
 some : (s : tie.At-loop Inv-loop μ-loop)
     → let a = s .before .before .before .before .before .before .args in
-    closes (cell (a .axis .now) (2 * a .edges)) (last-at (a .axis .now) (a .edges) (a .node)) (own-test (a .base) (a .bound) (a .axis .now) (a .node)) (s .loop .left) (s .loop .e)
-    ≡ ring-right (a .edges) (a .base) (a .bound) (a .axis .now) (a .node)
+    closes (cell (a .axis .now) (2 * a .edge-capacity)) (last-at (a .axis .now) (a .edge-capacity) (a .node)) (own-test (a .base) (a .bound) (a .axis .now) (a .node)) (s .loop .left) (s .loop .e)
+    ≡ ring-right (a .edge-capacity) (a .base) (a .bound) (a .axis .now) (a .node)
 some s = sym (s .loop .inv) ∙ ring-some _ _ _ _ _ (s .before .before .before .if1 .left)
 
 -- the entry is one of the node's own edges

@@ -5,7 +5,7 @@ use native.Mathlib.Omega.{arith}
 use borrow.Author.Needs.{needs}
 use Rattle.plain.specs.Lists.{all, from}
 use Rattle.shape.specs.Rules.{ring-right}
-use Rattle.validate.specs.Passing.{refused, accepted, rest, rest-first, rest-more, rest-fails, rest-none}
+use Rattle.validate.specs.Laws.Passing.{refused, accepted, rest, rest-first, rest-more, rest-fails, rest-none}
 use Rattle.validate.proofs.rings.rings_right.Statement.{statement}
 use Rattle.validate.proofs.rings.rings_right.Tie as tie
 

@@ -9,7 +9,7 @@ use Rattle.liveness.specs.Flags.{live-flags}
 use Rattle.shape.specs.Columns.{cell}
 use Rattle.shape.specs.Chains.{chain}
 use Rattle.shape.specs.Rules.{last-of}
-use Rattle.validate.specs.Passing.{refused, accepted}
+use Rattle.validate.specs.Laws.Passing.{refused, accepted}
 use Rattle.validate.specs.Runs.{run-test}
 use Rattle.validate.proofs.Following.{Following, follow-start, follow-fails, follow-marked, follow-more, follow-done}
 use Rattle.validate.proofs.Running.{entry-below, run-fails, run-away, run-entry, chain-more, chain-none, last-more, last-none}

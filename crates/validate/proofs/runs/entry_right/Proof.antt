@@ -3,7 +3,7 @@ use mathlib.Core.Path.{ap}
 use mathlib.Core.Bool.{not}
 use borrow.Author.Needs.{needs}
 use borrow.Author.Tests.{lt-ltb, le-ltb}
-use Rattle.validate.specs.Passing.{passed}
+use Rattle.validate.specs.Laws.Passing.{passed}
 use Rattle.validate.specs.Runs.{entry-test}
 use Rattle.validate.proofs.runs.entry_right.Statement.{statement}
 use Rattle.validate.proofs.runs.entry_right.Tie as tie

@@ -14,7 +14,7 @@ use native.Mathlib.Omega.{arith}
 use borrow.Author.Needs.{needs}
 use Rattle.plain.specs.Lists.{all, from}
 use Rattle.liveness.specs.Flags.{live-flags}
-use Rattle.validate.specs.Passing.{refused, accepted, rest, rest-first, rest-more, rest-fails, rest-none}
+use Rattle.validate.specs.Laws.Passing.{refused, accepted, rest, rest-first, rest-more, rest-fails, rest-none}
 use Rattle.validate.specs.Walks.{Within, marked-if-live}
 use Rattle.validate.proofs.Marking.{within-and}
 use Rattle.validate.proofs.walks.live_marked.Statement.{statement}

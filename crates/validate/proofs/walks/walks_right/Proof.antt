@@ -6,7 +6,7 @@ use native.Mathlib.Omega.{arith}
 use borrow.Author.Needs.{needs}
 use borrow.Author.Tests.{not-true, not-false}
 use lib.ListN.{replicate}
-use Rattle.validate.specs.Fresh.{clear-map}
+use Rattle.validate.specs.Laws.Fresh.{clear-map}
 use Rattle.validate.proofs.Walking.{Walking, walking-start, walking-on, walking-fails, walking-done}
 use Rattle.validate.proofs.walks.walks_right.Statement.{statement}
 use Rattle.validate.proofs.walks.walks_right.Tie as tie

@@ -10,7 +10,7 @@ use lib.Dec.{leb}
 use borrow.Author.Tests.{lt-leb, le-leb}
 use Rattle.plain.specs.Laws.Booleans.{and-true, and-false}
 use Rattle.shape.specs.Rules.{weights-right}
-use Rattle.validate.specs.Passing.{rest, rest-first, rest-more, rest-fails, rest-none}
+use Rattle.validate.specs.Laws.Passing.{rest, rest-first, rest-more, rest-fails, rest-none}
 use Rattle.validate.proofs.weights.weights_right.Statement.{statement}
 use Rattle.validate.proofs.weights.weights_right.Tie as tie
 

@@ -18,7 +18,7 @@ use Rattle.plain.specs.Laws.Booleans.{and-left, below-or-not}
 use Rattle.plain.specs.Laws.Cases.{Slot, absent, removed, live, slot, fault-absent, fault-removed}
 use Rattle.plain.specs.Laws.Operating.{node-below}
 use Rattle.nearest.specs.Chains.{Chain, nearest}
-use Rattle.nearest.specs.ChainLaws.{by-option, Within, First, nearest-is-first, nearest-none, first-unique, first-nearest}
+use Rattle.nearest.specs.Laws.Chains.{by-option, Within, First, nearest-is-first, nearest-none, first-unique, first-nearest}
 use Rattle.nearest.specs.Calls.{Searched, unsearched, search-unless, work-needed, cleared, chain-answer, nearest-lot, judged-search}
 
 -- ---- the definition's cases

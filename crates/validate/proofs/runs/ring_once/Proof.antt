@@ -1,4 +1,4 @@
--- `validate::flat::ring_once` meets its contract. The loop's invariant: the entries from e on are still to be followed, those before are marked. The measure is the
+-- `validate::runs::ring_once` meets its contract. The loop's invariant: the entries from e on are still to be followed, those before are marked. The measure is the
 -- number of entries left.
 use Prim.Native.Nat.{_*_, _<_}
 use mathlib.Core.Path.{_∙_}
@@ -9,13 +9,13 @@ use borrow.Author.Tests.{not-true, not-false}
 use Rattle.liveness.specs.Flags.{live-flags}
 use Rattle.shape.specs.Columns.{cell}
 use Rattle.shape.specs.Chains.{until}
-use Rattle.validate.specs.Passing.{refused, accepted}
+use Rattle.validate.specs.Laws.Passing.{refused, accepted}
 use Rattle.validate.specs.Runs.{run-test}
 use Rattle.validate.proofs.Following.{Following, follow-start, follow-fails, follow-marked, follow-more, follow-done}
 use Rattle.validate.proofs.Running.{entry-below, run-fails, run-away, run-entry}
 use Rattle.validate.proofs.Listing.{until-some, until-none, until-last, until-on}
-use Rattle.validate.proofs.flat.ring_once.Statement.{statement}
-use Rattle.validate.proofs.flat.ring_once.Tie as tie
+use Rattle.validate.proofs.runs.ring_once.Statement.{statement}
+use Rattle.validate.proofs.runs.ring_once.Tie as tie
 
 abbrev Inv-loop : tie.InvT-loop
 Inv-loop axis edges words bound live node first count last seen₀ e₀ left₀ seen e left =

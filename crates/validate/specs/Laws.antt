@@ -1,0 +1,4 @@
+-- The laws of the check, for the crates above to cite.
+pub mod Passing
+pub mod Fresh
+pub mod Judging
