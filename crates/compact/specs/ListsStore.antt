@@ -118,5 +118,6 @@ module _ {w : Words} (k : Checked w) (d : TraversalDirection) where
   checked-writable room = record {
     walkable = λ x node. checked-walkable k d x node;
     live-long = let long = k .nodes .live-long in let bounded = k .nodes .bounded in omega arith;
-    fits = omega (arith, lists-total);
+    counted = lists-total ∙ sym (k .edges .live .live-right);
+    fits = let right = k .edges .live .live-right in omega arith;
   }
