@@ -104,15 +104,15 @@ module _ {w : Words} {node-map work : List ℕ} (pre : Droppable w node-map work
   pub second-half : w .counts .edges .live ≤ length (take (length work - w .counts .edges .live) (drop (w .counts .edges .live) work))
   second-half = rw (rest-whole (w .counts .edges .live) work) drop-room
 
-  pub nodes-keepable : Keepable (w .nodes) (w .live-nodes) (w .counts .nodes .bound)
-  nodes-keepable = record { there = nodes-there; room = pre .checked .nodes .bounded .bound-within }
+  pub nodes-keepable : Keepable (w .nodes) (w .live-nodes) (w .counts .nodes .bound) (w .counts .nodes .live)
+  nodes-keepable = record { there = nodes-there; room = pre .checked .nodes .bounded .bound-within; counted = pre .checked .nodes .live .live-right }
 
-  pub weights-keepable : WeightsKeepable (w .lows) (w .highs) (w .live-edges) (w .counts .edges .bound)
+  pub weights-keepable : WeightsKeepable (w .lows) (w .highs) (w .live-edges) (w .counts .edges .bound) (w .counts .edges .live)
   weights-keepable =
       let k = pre .checked in
       record {
-        lows-keepable = record { there = edges-there; room = k .edges .bounded .bound-within };
-        highs-keepable = record { there = edges-there; room = omega (arith, k .highs-long, k .edges .bounded .bound-within) };
+        lows-keepable = record { there = edges-there; room = k .edges .bounded .bound-within; counted = k .edges .live .live-right };
+        highs-keepable = record { there = edges-there; room = omega (arith, k .highs-long, k .edges .bounded .bound-within); counted = k .edges .live .live-right };
       }
 
   pub nodes-resettable : w .counts .nodes .live ≤ 64 * length (w .live-nodes)

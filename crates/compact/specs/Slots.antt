@@ -1,25 +1,27 @@
 -- What the functions over slots ask and promise, and laws of what they leave, for their callers.
 use Prim.Native.Nat.{ℕ, _+_, _-_, _*_, _≤_, _<_}
-use mathlib.Core.Path.{_≡_, sym, ap, ap₂, _∙_}
+use mathlib.Core.Path.{_≡_, refl, sym, ap, ap₂, _∙_}
 use mathlib.Core.Bool.{Bool, true, false, cond}
 use mathlib.Core.Logic.{_⊎_, inl, inr}
-use mathlib.Core.List.{List, _++_, map}
+use mathlib.Core.List.{List, [], _∷_, _++_, map}
 use native.Mathlib.Omega.{arith}
 use native.Mathlib.Nat.{zero-add}
 use lib.ListN.{length, getD, take, drop, replicate, length-append, length-drop, take-append-drop, List·getD-append}
 use lib.Seq.{ext-getD, getD-drop}
 use Rattle.plain.specs.Numbers.{NONE}
-use Rattle.plain.specs.Lists.{from, written}
+use Rattle.plain.specs.Lists.{count, from, written}
 use Rattle.plain.specs.Reads.{live-count, live-slots}
 use Rattle.plain.specs.Compaction.{rank, renumbering, renumbering-from}
 use Rattle.plain.specs.Renumbering.{lookup}
 use Rattle.plain.specs.Laws.Booleans.{below-or-not}
-use Rattle.plain.specs.Laws.ListLaws.{getD-default, getD-from, map-getD}
+use Rattle.plain.specs.Laws.ListLaws.{count-length, getD-default, getD-from, map-getD}
 use Rattle.plain.specs.Laws.Rank.{live-below, live-count-all-live, live-from-all-live}
 use Rattle.plain.specs.Laws.Renumberings.{length-renumbering, lookup-from}
+use Rattle.liveness.specs.Flags.{live-flags}
+use Rattle.liveness.specs.FlagLaws.{length-flags}
 use Rattle.shape.specs.Columns.{cell}
 use Rattle.shape.specs.Index.{Rewritten}
-use Rattle.shape.specs.Laws.Indexing.{rewritten-as, rewritten-again, map-from-same, front-range}
+use Rattle.shape.specs.Laws.Indexing.{rewritten-here, rewritten-as, rewritten-again, map-from-same, front-range}
 
 -- ---- what is asked
 
@@ -29,15 +31,16 @@ pub record MapFits (live : List ℕ) (bound first : ℕ) (words : List ℕ) : Ty
   pub few : first + bound ≤ NONE
   pub room : bound ≤ length words
 
--- The slots have their words and their liveness words.
-pub record Keepable (words live : List ℕ) (bound : ℕ) : Type 0 where
+-- The slots have their words and their liveness words, and as many are live as are counted.
+pub record Keepable (words live : List ℕ) (bound count : ℕ) : Type 0 where
   pub there : bound ≤ 64 * length live
   pub room : bound ≤ length words
+  pub counted : count ≡ live-count (live-flags live bound)
 
 -- So have the edges' slots, of both weights.
-pub record WeightsKeepable (lows highs live : List ℕ) (bound : ℕ) : Type 0 where
-  pub lows-keepable : Keepable lows live bound
-  pub highs-keepable : Keepable highs live bound
+pub record WeightsKeepable (lows highs live : List ℕ) (bound count : ℕ) : Type 0 where
+  pub lows-keepable : Keepable lows live bound count
+  pub highs-keepable : Keepable highs live bound count
 
 -- The first words are entries of the map.
 pub record Translatable (words : List ℕ) (count : ℕ) (entries : List ℕ) : Type 0 where
@@ -134,9 +137,14 @@ rewritten-through {b = b} {f = f} entries r s =
     rewritten-as (λ i. getD entries (f i) 0) (rewritten-again r s)
     (λ i h. ap (λ (w : ℕ). getD entries w 0) (ap (λ (z : ℕ). getD b z 0) (sym (zero-add i)) ∙ r .within i h))
 
--- ---- the words of the live slots
-
 -- ---- where every slot is live
+
+-- as many as there are slots
+all-flags : (flags : List Bool) → live-count flags ≡ length flags → flags ≡ replicate (length flags) true
+unfolding count
+all-flags [] full = refl
+all-flags (true ∷ flags) full = ap (λ (l : List Bool). true ∷ l) (all-flags flags (omega arith))
+all-flags (false ∷ flags) full = absurd (omega (arith, count-length (λ f. f) flags))
 
 module _ (flags : List Bool) (bound : ℕ) (all : flags ≡ replicate bound true) where
   -- live slot number i is slot i
@@ -148,3 +156,11 @@ module _ (flags : List Bool) (bound : ℕ) (all : flags ≡ replicate bound true
   -- no word moves
   pub kept-all-live : {entry exit : List ℕ} → Rewritten entry exit 0 (live-count flags) (kept-word entry flags) → exit ≡ entry
   kept-all-live {entry = entry} r = rewritten-same r (λ i h. ap (λ (x : ℕ). getD entry x 0) (slot-all-live i h ∙ sym (zero-add i)))
+
+-- so the words are as kept
+pub kept-already : (words live : List ℕ) (bound : ℕ) → live-count (live-flags live bound) ≡ bound
+    → Rewritten words words 0 (live-count (live-flags live bound)) (kept-word words (live-flags live bound))
+kept-already words live bound full =
+    let flags = live-flags live bound in
+    let all : flags ≡ replicate (length flags) true = all-flags flags (full ∙ sym (length-flags live bound)) in
+    rewritten-here (λ i h. ap (λ (x : ℕ). getD words x 0) (zero-add i ∙ sym (slot-all-live flags (length flags) all i h)))

@@ -41,7 +41,7 @@ pub fn compact_axis(
     ensures { λ _. ⌜ AxisCompacted (now (axis .entry)) edges nodes (now («live_edges» .entry)) bound (now («node_map» .entry)) «count_nodes» «count_edges»
         (now (entries .entry)) (now (axis .exit)) ⌝ }
 {
-    slots::keep_live(axis, live_edges, bound);
+    slots::keep_live(axis, live_edges, bound, count_edges);
     slots::translate(axis, count_edges, node_map);
     rebuild(axis, edges, nodes, count_nodes, count_edges, entries);
 }

@@ -112,8 +112,8 @@ fn drop_dead(
         m,
         &work[m..],
     );
-    slots::keep_live(nodes, live_nodes, node_slots.bound as usize);
-    slots::keep_weights(lows, highs, live_edges, bound);
+    slots::keep_live(nodes, live_nodes, node_slots.bound as usize, n);
+    slots::keep_weights(lows, highs, live_edges, bound, m);
     liveness::reset_all_live(live_nodes, n);
     liveness::reset_all_live(live_edges, m);
     Counts {
