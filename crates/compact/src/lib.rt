@@ -14,7 +14,7 @@ ghost use Rattle.plain.specs.Lists.{written};
 ghost use Rattle.plain.specs.Compaction.{survivors, adjacency};
 ghost use Rattle.shape.specs.Shape.{lists};
 ghost use Rattle.shape.specs.Lent.{lent, at-entry, at-exit};
-ghost use Rattle.compact.specs.Holding.{based};
+ghost use Rattle.compact.specs.Bases.{based};
 ghost use Rattle.compact.specs.Working.{Workable};
 ghost use Rattle.compact.specs.Settling.{Settleable, Settling};
 ghost use Rattle.compact.specs.Calls.{CompactOf};

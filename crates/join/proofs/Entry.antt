@@ -21,7 +21,7 @@ use Rattle.shape.specs.Rules.{broken}
 use Rattle.shape.specs.Laws.Reading.{plain-node-bound, plain-edge-bound, plain-node-flags, plain-edge-flags}
 use Rattle.validate.specs.Judging.{Judged}
 use Rattle.shape.specs.Steps.{state-of}
-use Rattle.compact.specs.Holding.{Holding, holding-shape, holding-state, holding-checked, holding-canonical, canonical-leaves}
+use Rattle.compact.specs.Laws.Holding.{Holding, holding-shape, holding-state, holding-checked, holding-canonical, canonical-leaves}
 use Rattle.join.specs.Answers.{sizes-of, first-sound, second-sound, join-done, accepted}
 use Rattle.join.specs.Calls.{LentMaps, joining-of, JoinOf}
 use Rattle.join.specs.Settling.{Settleable, Settled, settled-holding, settled-renewed}

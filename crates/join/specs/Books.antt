@@ -21,9 +21,9 @@ use Rattle.shape.specs.Shape.{Words, node-live, edge-live, axis-words, lists, n
 use Rattle.shape.specs.Checked.{Checked}
 use Rattle.shape.specs.Laws.Reading.{plain-node-flags}
 use Rattle.adjacency.specs.StoreWalks.{checked-walkable}
-use Rattle.compact.specs.ListsStore.{lists-renumbered, lists-live, lists-total}
+use Rattle.compact.specs.Laws.Lists.{lists-renumbered, lists-live, lists-total}
 use Rattle.compact.specs.Lists.{live-walks}
-use Rattle.compact.specs.Left.{slot-low, end-in, ends-left}
+use Rattle.compact.specs.Laws.Left.{slot-low, end-in, ends-left}
 use Rattle.join.specs.Slots.{LiveReadable}
 use Rattle.join.specs.Sides.{Side, side, side-ends, side-entries, EndsReadable, EntriesReadable}
 

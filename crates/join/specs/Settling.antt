@@ -34,12 +34,15 @@ use Rattle.shape.specs.Kept.{SameLengths, AxisRenewed, Renewed, same-nodes, sam
 use Rattle.shape.specs.Index.{ends-of}
 use Rattle.shape.specs.Laws.NewBase.{NewBase}
 use Rattle.shape.specs.Laws.Indexing.{joined-append, map-from-same}
-use Rattle.compact.specs.Slots.{written-from, mapped-long}
-use Rattle.compact.specs.Bases.{Rebuildable, rebuilt-base, rebuilt-renewed}
-use Rattle.compact.specs.Holding.{based, front, Holding, reset-same, reset-word, sized-as}
+use Rattle.compact.specs.Laws.Slots.{written-from, mapped-long}
+use Rattle.compact.specs.Bases.{Rebuildable}
+use Rattle.compact.specs.Laws.Bases.{rebuilt-base, rebuilt-renewed}
+use Rattle.compact.specs.Bases.{based}
+use Rattle.compact.specs.Laws.Holding.{front, Holding, reset-same, reset-word, sized-as}
 use Rattle.join.specs.Slots.{BothCopyable, MapsFit, MapsWritten}
 use Rattle.join.specs.Sides.{Side, side-ends, side-entries, AxisJoinable, AxisJoined, compressible, all-entries-long}
-use Rattle.compact.specs.Left.{live-words-of, end-in, left-sound, left-nodes, left-edges, nodes-left, lows-left, highs-left}
+use Rattle.compact.specs.Laws.Left.{end-in, left-sound, left-nodes, left-edges, nodes-left, lows-left, highs-left}
+use Rattle.compact.specs.Slots.{live-words-of}
 use Rattle.join.specs.Books.{lists-in, nodes-few, edges-few, live-nodes-few, live-edges-few, nodes-there, edges-there, nodes-readable, lows-readable, highs-readable, Mapped, side-of, ends-readable, entries-readable, book-ends, book-entries}
 use Rattle.join.specs.Calls.{LentMaps}
 

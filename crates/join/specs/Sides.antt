@@ -21,7 +21,7 @@ use Rattle.compact.specs.Lists.{live-walks, ListsFit}
 use Rattle.compact.specs.Slots.{Translatable, translated-word}
 use Rattle.compact.specs.Bases.{Rebuilt}
 use Rattle.join.specs.Written.{rest, with-rest, through, written-length, through-fits, written-through, room-behind, written-behind, length-rest, part-rewritten}
-use Rattle.compact.specs.Left.{live-words-of}
+use Rattle.compact.specs.Slots.{live-words-of}
 use Rattle.join.specs.Slots.{length-live-words, LiveReadable, Copyable}
 
 -- ---- ends

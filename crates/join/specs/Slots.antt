@@ -14,8 +14,9 @@ use Rattle.plain.specs.Laws.ListLaws.{map-getD}
 use Rattle.plain.specs.Laws.Rank.{length-live-slots}
 use Rattle.liveness.specs.Flags.{live-flags}
 use Rattle.shape.specs.Index.{Rewritten}
-use Rattle.compact.specs.Slots.{kept-word, MapFits, rewritten-list}
-use Rattle.compact.specs.Left.{live-words-of}
+use Rattle.compact.specs.Laws.Slots.{rewritten-list}
+use Rattle.compact.specs.Slots.{kept-word, MapFits}
+use Rattle.compact.specs.Slots.{live-words-of}
 use Rattle.join.specs.Written.{rest, with-rest, room-behind, written-behind}
 
 -- as many as are live

@@ -10,7 +10,8 @@ use Rattle.plain.specs.Laws.ListLaws.{member-at, map-getD}
 use Rattle.shape.specs.Chains.{In}
 use Rattle.shape.specs.Index.{Rewritten}
 use Rattle.shape.specs.Laws.Indexing.{map-from-same}
-use Rattle.compact.specs.Slots.{Translatable, translated-word, rewritten-list}
+use Rattle.compact.specs.Laws.Slots.{rewritten-list}
+use Rattle.compact.specs.Slots.{Translatable, translated-word}
 
 -- a slice is as long as before
 pub written-length : (xs entry : List ℕ) → length xs ≤ length entry → length (written xs entry) ≡ length entry

@@ -5,7 +5,7 @@ use Rattle.plain.specs.declared.TraversalDirection.the-variants.{Outgoing, Inco
 use Rattle.plain.specs.declared.Slots.{Slots}
 use Rattle.plain.specs.declared.Counts.{Counts}
 use Rattle.shape.specs.Kept.{each-length}
-use Rattle.compact.specs.Dropping.{axis-compactable, from-rest, first-half, second-half, nodes-keepable, weights-keepable, nodes-resettable, edges-resettable}
+use Rattle.compact.proofs.Dropping.{axis-compactable, from-rest, first-half, second-half, nodes-keepable, weights-keepable, nodes-resettable, edges-resettable}
 use Rattle.compact.proofs.drop_dead.Statement.{statement}
 use Rattle.compact.proofs.drop_dead.Tie as tie
 
