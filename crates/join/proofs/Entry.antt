@@ -22,9 +22,11 @@ use Rattle.shape.specs.Laws.Reading.{plain-node-bound, plain-edge-bound, plain-
 use Rattle.validate.specs.Judging.{Judged}
 use Rattle.shape.specs.Steps.{state-of}
 use Rattle.compact.specs.Laws.Holding.{Holding, holding-shape, holding-state, holding-checked, holding-canonical, canonical-leaves}
-use Rattle.join.specs.Answers.{sizes-of, first-sound, second-sound, join-done, accepted}
+use Rattle.join.specs.Answers.{sizes-of}
+use Rattle.join.specs.Laws.Answers.{first-sound, second-sound, join-done, accepted}
 use Rattle.join.specs.Calls.{LentMaps, joining-of, JoinOf}
-use Rattle.join.specs.Settling.{Settleable, Settled, settled-holding, settled-renewed}
+use Rattle.join.proofs.Settling.{settled-holding, settled-renewed}
+use Rattle.join.specs.Settling.{Settleable, Settled}
 
 -- the sizes of a checked book are those of its plain lists
 nodes-left : {w : Words} → Checked w → live-nodes (lists w) ≡ w .counts .nodes .live

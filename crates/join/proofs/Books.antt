@@ -1,31 +1,31 @@
 -- What a checked book hands over: its live slots can be read, and in each direction the ends and lists by its maps are those of its survivors, raised.
-use Prim.Native.Nat.{ℕ, _+_, _*_, _≤_, _<_}
-use mathlib.Core.Path.{_≡_, refl, sym, ap, _∙_}
-use mathlib.Core.Bool.{Bool, true, false}
+use Prim.Native.Nat.{_*_, _+_, _<_, _≤_, ℕ}
+use mathlib.Core.Bool.{Bool, false, true}
 use mathlib.Core.List.{List, map, map-map}
+use mathlib.Core.Path.{_∙_, _≡_, ap, refl, sym}
 use native.Mathlib.Omega.{arith}
-use lib.ListN.{length, getD}
-use Rattle.plain.specs.declared.TraversalDirection.{TraversalDirection}
-use Rattle.plain.specs.declared.TraversalDirection.the-variants.{Outgoing, Incoming}
-use Rattle.plain.specs.Numbers.{LIMIT}
+use lib.ListN.{getD, length}
+use Rattle.plain.specs.Compaction.{Survivors, rank, surviving-list, survivors}
+use Rattle.plain.specs.Joining.{raised}
+use Rattle.plain.specs.Laws.ListLaws.{count-length, map-same}
 use Rattle.plain.specs.Lists.{joined}
+use Rattle.plain.specs.Numbers.{LIMIT}
 use Rattle.plain.specs.Plain.{node-flags}
 use Rattle.plain.specs.Reads.{live-count, live-slots}
-use Rattle.plain.specs.Compaction.{Survivors, rank, survivors, surviving-list}
-use Rattle.plain.specs.Joining.{raised}
-use Rattle.plain.specs.Laws.ListLaws.{map-same, count-length}
-use Rattle.liveness.specs.Flags.{live-flags}
+use Rattle.plain.specs.declared.TraversalDirection.{TraversalDirection}
+use Rattle.plain.specs.declared.TraversalDirection.the-variants.{Incoming, Outgoing}
 use Rattle.liveness.specs.FlagLaws.{length-flags}
-use Rattle.shape.specs.Columns.{end-at}
-use Rattle.shape.specs.Shape.{Words, node-live, edge-live, axis-words, lists, node-capacity, edge-capacity}
+use Rattle.liveness.specs.Flags.{live-flags}
 use Rattle.shape.specs.Checked.{Checked}
+use Rattle.shape.specs.Columns.{end-at}
 use Rattle.shape.specs.Laws.Reading.{plain-node-flags}
+use Rattle.shape.specs.Shape.{Words, axis-words, edge-capacity, edge-live, lists, node-capacity, node-live}
 use Rattle.adjacency.specs.StoreWalks.{checked-walkable}
-use Rattle.compact.specs.Laws.Lists.{lists-renumbered, lists-live, lists-total}
+use Rattle.compact.specs.Laws.Left.{end-in, ends-left, slot-low}
+use Rattle.compact.specs.Laws.Lists.{lists-live, lists-renumbered, lists-total}
 use Rattle.compact.specs.Lists.{live-walks}
-use Rattle.compact.specs.Laws.Left.{slot-low, end-in, ends-left}
+use Rattle.join.specs.Sides.{EndsReadable, EntriesReadable, side-ends, side-entries, side-of}
 use Rattle.join.specs.Slots.{LiveReadable}
-use Rattle.join.specs.Sides.{Side, side, side-ends, side-entries, EndsReadable, EntriesReadable}
 
 -- no more slots are live than there are
 few-live : (live : List ℕ) (bound : ℕ) → live-count (live-flags live bound) ≤ bound
@@ -75,10 +75,6 @@ pub record Mapped (w : Words) (nodes-from edges-from : ℕ) (node-map edge-map :
   pub edges : (e : ℕ) → getD (edge-live w) e false ≡ true → getD edge-map e 0 ≡ edges-from + rank (edge-live w) e
   pub nodes-long : w .counts .nodes .bound ≤ length node-map
   pub edges-long : w .counts .edges .bound ≤ length edge-map
-
--- a book in one direction, with its maps
-abbrev pub side-of : TraversalDirection → Words → List ℕ → List ℕ → Side
-side-of d w node-map edge-map = side (w .counts) (edge-capacity w) (node-capacity w) (axis-words d w) (w .live-nodes) (w .live-edges) node-map edge-map
 
 lists-survive : (w : Words) (d : TraversalDirection) → joined (map (surviving-list d (lists w)) (live-slots (node-flags (lists w)))) ≡ joined (lists-in d (survivors (lists w)))
 unfolding survivors
