@@ -6,7 +6,6 @@ use mathlib.Core.Path.{_≡_, subst}
 use native.Mathlib.Omega.{arith}
 use lib.ListN.{drop, getD, length, length-drop, take}
 use lib.Seq.{take-all}
-use Rattle.plain.specs.Laws.ListLaws.{count-length}
 use Rattle.plain.specs.Laws.Rank.{live-below, rank-live}
 use Rattle.plain.specs.declared.TraversalDirection.{TraversalDirection}
 use Rattle.liveness.specs.FlagLaws.{length-flags}
@@ -16,6 +15,9 @@ use Rattle.relocate.specs.Stores.{checked-end}
 use Rattle.compact.specs.Bases.{AxisCompacted, Compactable}
 use Rattle.compact.specs.Dropping.{Droppable}
 use Rattle.compact.specs.Slots.{Keepable, WeightsKeepable}
+use Rattle.plain.specs.declared.Slots.{Slots}
+use Rattle.shape.specs.Checked.{Checked, SlotsChecked}
+use Rattle.compact.specs.Laws.Slots.{live-few, slots-there}
 
 -- ---- a part of a slice up to its end
 
@@ -31,20 +33,6 @@ from-rest {ws} {ce} {cn} {live} {bound} {node-map} {n} {m} {ws'} k work a =
 -- ---- what the calls ask
 
 module _ {w : Words} {node-map work : List ℕ} (pre : Droppable w node-map work) where
-  pub node-count : w .counts .nodes .live ≤ w .counts .nodes .bound
-  node-count = let right = pre .checked .nodes .live .live-right in
-      omega (arith, count-length (λ f. f) (node-live w), length-flags (w .live-nodes) (w .counts .nodes .bound))
-
-  pub edge-count : w .counts .edges .live ≤ w .counts .edges .bound
-  edge-count = let right = pre .checked .edges .live .live-right in
-      omega (arith, count-length (λ f. f) (edge-live w), length-flags (w .live-edges) (w .counts .edges .bound))
-
-  nodes-there : w .counts .nodes .bound ≤ 64 * length (w .live-nodes)
-  nodes-there = let long = pre .checked .nodes .live-long in omega (arith, pre .checked .nodes .bounded .bound-within)
-
-  edges-there : w .counts .edges .bound ≤ 64 * length (w .live-edges)
-  edges-there = let long = pre .checked .edges .live-long in omega (arith, pre .checked .edges .bounded .bound-within)
-
   pub axis-compactable : (d : TraversalDirection) (entries : List ℕ) → w .counts .edges .live ≤ length entries
       → Compactable (axis-words d w) (edge-capacity w) (node-capacity w) (w .live-edges) (w .counts .edges .bound) node-map (w .counts .nodes .live)
       (w .counts .edges .live) entries
@@ -52,9 +40,9 @@ module _ {w : Words} {node-map work : List ℕ} (pre : Droppable w node-map work
       let k = pre .checked in
       record {
         sized = k .axis d .sized;
-        slots-there = edges-there;
+        slots-there = slots-there (k .edges);
         slots-fit = k .edges .bounded .bound-within;
-        nodes-fit = omega (arith, node-count, k .nodes .bounded .bound-within);
+        nodes-fit = omega (arith, live-few (k .nodes), k .nodes .bounded .bound-within);
         counted = k .edges .live .live-right;
         ends-there = λ e l. let low = end-low d e l in omega (arith, pre .nodes-there);
         ends-below = λ e l. let alive = checked-end k d e l in
@@ -79,19 +67,16 @@ module _ {w : Words} {node-map work : List ℕ} (pre : Droppable w node-map work
   pub second-half : w .counts .edges .live ≤ length (take (length work - w .counts .edges .live) (drop (w .counts .edges .live) work))
   second-half = rw (rest-whole (w .counts .edges .live) work) drop-room
 
-  pub nodes-keepable : Keepable (w .nodes) (w .live-nodes) (w .counts .nodes .bound) (w .counts .nodes .live)
-  nodes-keepable = record { there = nodes-there; room = pre .checked .nodes .bounded .bound-within; counted = pre .checked .nodes .live .live-right }
+-- ---- the slots of a kind
 
-  pub weights-keepable : WeightsKeepable (w .lows) (w .highs) (w .live-edges) (w .counts .edges .bound) (w .counts .edges .live)
-  weights-keepable =
-      let k = pre .checked in
-      record {
-        lows-keepable = record { there = edges-there; room = k .edges .bounded .bound-within; counted = k .edges .live .live-right };
-        highs-keepable = record { there = edges-there; room = omega (arith, k .highs-long, k .edges .bounded .bound-within); counted = k .edges .live .live-right };
-      }
+module _ {c : ℕ} {words : List ℕ} {s : Slots} (k : SlotsChecked c words s) where
+  -- a column that is long enough can be moved down
+  pub keepable : (column : List ℕ) → c ≤ length column → Keepable column words (s .bound) (s .live)
+  keepable column long = record { there = slots-there k; room = omega (arith, k .bounded .bound-within); counted = k .live .live-right }
 
-  pub nodes-resettable : w .counts .nodes .live ≤ 64 * length (w .live-nodes)
-  nodes-resettable = omega (arith, node-count, nodes-there)
+  -- there are liveness words for those that are left
+  pub resettable : s .live ≤ 64 * length words
+  resettable = omega (arith, live-few k, slots-there k)
 
-  pub edges-resettable : w .counts .edges .live ≤ 64 * length (w .live-edges)
-  edges-resettable = omega (arith, edge-count, edges-there)
+pub weights-keepable : {w : Words} → Checked w → WeightsKeepable (w .lows) (w .highs) (w .live-edges) (w .counts .edges .bound) (w .counts .edges .live)
+weights-keepable {w} k = record { lows-keepable = keepable (k .edges) (w .lows) (omega arith); highs-keepable = keepable (k .edges) (w .highs) (k .highs-long) }

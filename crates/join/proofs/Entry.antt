@@ -14,10 +14,9 @@ use Rattle.plain.specs.Reads.{live-count, live-nodes, live-edges}
 use Rattle.plain.specs.Compaction.{survivors, renumbering-from}
 use Rattle.plain.specs.Calls.{judged}
 use Rattle.plain.specs.Joining.{Sizes, sizes, MapRooms, Maps, join-maps, no-maps, join-answer, join, joined-survivors, joined-plain, joined-state}
-use Rattle.shape.specs.Shape.{Words, store, lengths-of, shape-of, lists}
+use Rattle.shape.specs.Shape.{Words, lengths-of, shape-of, lists}
 use Rattle.shape.specs.Checked.{Checked}
 use Rattle.shape.specs.Kept.{nothing-spared, renewed-none, renewed-spared, same-nodes, same-edges}
-use Rattle.shape.specs.Rules.{broken}
 use Rattle.shape.specs.Laws.Reading.{plain-node-bound, plain-edge-bound, plain-node-flags, plain-edge-flags}
 use Rattle.validate.specs.Judging.{Judged}
 use Rattle.shape.specs.Steps.{state-of}

@@ -35,9 +35,9 @@ use Rattle.compact.specs.Bases.{Rebuildable, based}
 use Rattle.compact.specs.Laws.Bases.{rebuilt-base, rebuilt-renewed}
 use Rattle.compact.specs.Laws.Holding.{Holding, front, reset-same, reset-word, sized-as}
 use Rattle.compact.specs.Laws.Left.{end-in, highs-left, left-edges, left-nodes, left-sound, lows-left, nodes-left}
-use Rattle.compact.specs.Laws.Slots.{mapped-long, written-from}
+use Rattle.compact.specs.Laws.Slots.{mapped-long, written-from, live-few, slots-there}
 use Rattle.compact.specs.Slots.{live-words-of}
-use Rattle.join.proofs.Books.{Mapped, book-ends, book-entries, edges-few, edges-there, ends-readable, entries-readable, highs-readable, lists-in, live-edges-few, live-nodes-few, lows-readable, nodes-few, nodes-readable, nodes-there}
+use Rattle.join.proofs.Books.{Mapped, book-ends, book-entries, edges-few, ends-readable, entries-readable, lists-in, nodes-few, slots-readable}
 use Rattle.join.proofs.Sides.{all-entries-long, compressible}
 use Rattle.join.specs.Calls.{LentMaps}
 use Rattle.join.specs.Settling.{Settleable, Settled}
@@ -111,8 +111,8 @@ module _ {first second w : Words} {maps : LentMaps} (pre : Settleable first seco
   first-maps-fit =
       let k = pre .first-checked in
       record {
-        nodes = record { there = nodes-there k; few = omega (arith, nodes-few k); room = pre .first-nodes };
-        edges = record { there = edges-there k; few = omega (arith, edges-few k); room = pre .first-edges };
+        nodes = record { there = slots-there (k .nodes); few = omega (arith, nodes-few k); room = pre .first-nodes };
+        edges = record { there = slots-there (k .edges); few = omega (arith, edges-few k); room = pre .first-edges };
       }
 
   pub second-maps-fit : MapsFit (second .counts) (second .live-nodes) (second .live-edges) (first .counts .nodes .live) (first .counts .edges .live) (maps .second-nodes) (maps .second-edges)
@@ -120,30 +120,30 @@ module _ {first second w : Words} {maps : LentMaps} (pre : Settleable first seco
       let k = pre .second-checked in
       let h = pre .first-checked in
       record {
-        nodes = record { there = nodes-there k; few = omega (arith, nodes-few k, nodes-few h, live-nodes-few h); room = pre .second-nodes };
-        edges = record { there = edges-there k; few = omega (arith, edges-few k, edges-few h, live-edges-few h); room = pre .second-edges };
+        nodes = record { there = slots-there (k .nodes); few = omega (arith, nodes-few k, nodes-few h, live-few (h .nodes)); room = pre .second-nodes };
+        edges = record { there = slots-there (k .edges); few = omega (arith, edges-few k, edges-few h, live-few (h .edges)); room = pre .second-edges };
       }
 
   pub nodes-copyable : BothCopyable (w .nodes) (first .counts .nodes) (first .nodes) (first .live-nodes) (second .counts .nodes) (second .nodes) (second .live-nodes)
   nodes-copyable = record {
-    first-readable = nodes-readable (pre .first-checked);
-    second-readable = nodes-readable (pre .second-checked);
+    first-readable = slots-readable (pre .first-checked .nodes) (first .nodes) (omega arith);
+    second-readable = slots-readable (pre .second-checked .nodes) (second .nodes) (omega arith);
     counted = pre .first-checked .nodes .live .live-right;
     room = omega (arith, pre .nodes-fit, pre .second-checked .nodes .live .live-right);
   }
 
   pub lows-copyable : BothCopyable (w .lows) (first .counts .edges) (first .lows) (first .live-edges) (second .counts .edges) (second .lows) (second .live-edges)
   lows-copyable = record {
-    first-readable = lows-readable (pre .first-checked);
-    second-readable = lows-readable (pre .second-checked);
+    first-readable = slots-readable (pre .first-checked .edges) (first .lows) (omega arith);
+    second-readable = slots-readable (pre .second-checked .edges) (second .lows) (omega arith);
     counted = pre .first-checked .edges .live .live-right;
     room = omega (arith, pre .edges-fit, pre .second-checked .edges .live .live-right);
   }
 
   pub highs-copyable : BothCopyable (w .highs) (first .counts .edges) (first .highs) (first .live-edges) (second .counts .edges) (second .highs) (second .live-edges)
   highs-copyable = record {
-    first-readable = highs-readable (pre .first-checked);
-    second-readable = highs-readable (pre .second-checked);
+    first-readable = slots-readable (pre .first-checked .edges) (first .highs) (pre .first-checked .highs-long);
+    second-readable = slots-readable (pre .second-checked .edges) (second .highs) (pre .second-checked .highs-long);
     counted = pre .first-checked .edges .live .live-right;
     room = omega (arith, pre .edges-fit, pre .roomy .highs-room, pre .second-checked .edges .live .live-right);
   }

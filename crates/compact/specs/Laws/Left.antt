@@ -3,7 +3,7 @@
 use Prim.Native.Nat.{_+_, _<_, ℕ}
 use mathlib.Core.Bool.{Bool, false, true}
 use mathlib.Core.List.{List, map, map-map}
-use mathlib.Core.Path.{_∙_, _≡_, ap, ap₂, sym}
+use mathlib.Core.Path.{_∙_, _≡_, ap, ap₂, sym, refl}
 use native.Mathlib.Omega.{arith}
 use lib.ListN.{getD, length}
 use Rattle.plain.specs.Compaction.{EdgeRecord, Survivors, rank, source-of, surviving-edge, survivors, target-of}
@@ -22,9 +22,10 @@ use Rattle.liveness.specs.Flags.{live-flags}
 use Rattle.shape.specs.Checked.{Checked}
 use Rattle.shape.specs.Columns.{end-at}
 use Rattle.shape.specs.Laws.Reading.{edge-at, node-at, plain-edge-flags, plain-end, plain-node-flags}
-use Rattle.shape.specs.Shape.{Words, axis-words, capacities, edge-live, lists, node-live, plain-of, shape-of}
+use Rattle.shape.specs.Shape.{Words, axis-words, capacities, edge-live, lists, node-live, plain-of, shape-of, edge-payload-at}
 use Rattle.relocate.specs.Stores.{checked-end}
 use Rattle.compact.specs.Slots.{live-words-of}
+use Rattle.plain.specs.declared.EdgePayload.{EdgePayload}
 
 -- the end of a record in a direction
 abbrev pub end-in : TraversalDirection → EdgeRecord → ℕ
@@ -68,21 +69,21 @@ module _ {w : Words} (k : Checked w) where
       (λ x l. sym (node-at w x (slot-low (w .live-nodes) (w .counts .nodes .bound) x l)))
       ∙ ap (λ (f : List Bool). map (λ x. getD (shape-of w .nodes) x no-node .payload) (live-slots f)) (sym (plain-node-flags w))
 
-  pub lows-left : live-words-of (w .lows) (edge-live w) ≡ map record-low (left .edges)
+  -- a column that has a weight of each edge
+  weights-left : (words : List ℕ) (weight : EdgePayload → ℕ) → ((e : ℕ) → getD words e 0 ≡ weight (edge-payload-at w e))
+      → live-words-of words (edge-live w) ≡ map (λ (r : EdgeRecord). weight (r .payload)) (left .edges)
   unfolding plain-of survivors
-  lows-left =
-      live-same (λ e. getD (w .lows) e 0) (λ e. getD (shape-of w .edges) e no-edge .payload .low) (edge-live w)
-      (λ e l. ap low-of (sym (edge-at w e (slot-low (w .live-edges) (w .counts .edges .bound) e l))))
-      ∙ ap (λ (f : List Bool). map (λ e. getD (shape-of w .edges) e no-edge .payload .low) (live-slots f)) (sym (plain-edge-flags w))
-      ∙ sym (map-map record-low (surviving-edge (lists w)) (live-slots (edge-flags (lists w))))
+  weights-left words weight is =
+      live-same (λ e. getD words e 0) (λ e. weight (getD (shape-of w .edges) e no-edge .payload)) (edge-live w)
+      (λ e l. is e ∙ ap weight (sym (edge-at w e (slot-low (w .live-edges) (w .counts .edges .bound) e l))))
+      ∙ ap (λ (f : List Bool). map (λ e. weight (getD (shape-of w .edges) e no-edge .payload)) (live-slots f)) (sym (plain-edge-flags w))
+      ∙ sym (map-map (λ (r : EdgeRecord). weight (r .payload)) (surviving-edge (lists w)) (live-slots (edge-flags (lists w))))
+
+  pub lows-left : live-words-of (w .lows) (edge-live w) ≡ map record-low (left .edges)
+  lows-left = weights-left (w .lows) low-of (λ e. refl)
 
   pub highs-left : live-words-of (w .highs) (edge-live w) ≡ map record-high (left .edges)
-  unfolding plain-of survivors
-  highs-left =
-      live-same (λ e. getD (w .highs) e 0) (λ e. getD (shape-of w .edges) e no-edge .payload .high) (edge-live w)
-      (λ e l. ap high-of (sym (edge-at w e (slot-low (w .live-edges) (w .counts .edges .bound) e l))))
-      ∙ ap (λ (f : List Bool). map (λ e. getD (shape-of w .edges) e no-edge .payload .high) (live-slots f)) (sym (plain-edge-flags w))
-      ∙ sym (map-map record-high (surviving-edge (lists w)) (live-slots (edge-flags (lists w))))
+  highs-left = weights-left (w .highs) high-of (λ e. refl)
 
   -- ---- ends, by a node map that counts the live nodes from a number on
 

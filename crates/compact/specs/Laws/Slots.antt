@@ -1,5 +1,5 @@
 -- What a written map holds, and words rewritten at the front of a slice as lists.
-use Prim.Native.Nat.{_+_, _-_, _≤_, ℕ}
+use Prim.Native.Nat.{_+_, _-_, _≤_, ℕ, _*_}
 use mathlib.Core.Bool.{Bool, cond, false, true}
 use mathlib.Core.List.{List, _++_, map}
 use mathlib.Core.Path.{_∙_, _≡_, ap, ap₂, sym}
@@ -8,7 +8,7 @@ use native.Mathlib.Omega.{arith}
 use lib.ListN.{List·getD-append, drop, getD, length, length-append, length-drop, take, take-append-drop}
 use lib.Seq.{ext-getD, getD-drop}
 use Rattle.plain.specs.Compaction.{rank, renumbering-from}
-use Rattle.plain.specs.Laws.ListLaws.{getD-default, map-getD}
+use Rattle.plain.specs.Laws.ListLaws.{getD-default, map-getD, count-length}
 use Rattle.plain.specs.Laws.Rank.{live-below}
 use Rattle.plain.specs.Laws.Renumberings.{length-renumbering, lookup-from}
 use Rattle.plain.specs.Lists.{from, written}
@@ -16,6 +16,21 @@ use Rattle.plain.specs.Numbers.{NONE}
 use Rattle.plain.specs.Renumbering.{lookup}
 use Rattle.shape.specs.Index.{Rewritten}
 use Rattle.shape.specs.Laws.Indexing.{front-range, map-from-same}
+use Rattle.plain.specs.declared.Slots.{Slots}
+use Rattle.liveness.specs.Flags.{live-flags}
+use Rattle.liveness.specs.FlagLaws.{length-flags}
+use Rattle.shape.specs.Checked.{SlotsChecked}
+
+-- ---- one kind of slot of a checked store
+
+module _ {c : ℕ} {words : List ℕ} {s : Slots} (k : SlotsChecked c words s) where
+  -- no more are live than there are
+  pub live-few : s .live ≤ s .bound
+  live-few = omega (arith, k .live .live-right, count-length (λ f. f) (live-flags words (s .bound)), length-flags words (s .bound))
+
+  -- they have their liveness words
+  pub slots-there : s .bound ≤ 64 * length words
+  slots-there = let long = k .live-long in omega (arith, k .bounded .bound-within)
 
 -- ---- the map
 
