@@ -17,7 +17,7 @@ use Rattle.plain.specs.Lists.{count, written}
 use Rattle.plain.specs.Numbers.{NONE}
 use Rattle.plain.specs.Reads.{live-count, live-slots}
 use Rattle.plain.specs.Renumbering.{lookup}
-use Rattle.liveness.specs.FlagLaws.{length-flags}
+use Rattle.liveness.specs.Laws.Flags.{length-flags}
 use Rattle.liveness.specs.Flags.{live-flags}
 use Rattle.shape.specs.Columns.{cell}
 use Rattle.shape.specs.Index.{Rewritten}

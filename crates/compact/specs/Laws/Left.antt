@@ -17,13 +17,13 @@ use Rattle.plain.specs.Reads.{live-count, live-slots}
 use Rattle.plain.specs.WellFormed.{Sound}
 use Rattle.plain.specs.declared.TraversalDirection.{TraversalDirection}
 use Rattle.plain.specs.declared.TraversalDirection.the-variants.{Incoming, Outgoing}
-use Rattle.liveness.specs.FlagLaws.{length-flags}
+use Rattle.liveness.specs.Laws.Flags.{length-flags}
 use Rattle.liveness.specs.Flags.{live-flags}
 use Rattle.shape.specs.Checked.{Checked}
 use Rattle.shape.specs.Columns.{end-at}
 use Rattle.shape.specs.Laws.Reading.{edge-at, node-at, plain-edge-flags, plain-end, plain-node-flags}
 use Rattle.shape.specs.Shape.{Words, axis-words, capacities, edge-live, lists, node-live, plain-of, shape-of, edge-payload-at}
-use Rattle.relocate.specs.Stores.{checked-end}
+use Rattle.relocate.specs.Laws.Stores.{checked-end}
 use Rattle.compact.specs.Slots.{live-words-of}
 use Rattle.plain.specs.declared.EdgePayload.{EdgePayload}
 

@@ -18,7 +18,7 @@ use Rattle.shape.specs.Index.{Rewritten}
 use Rattle.shape.specs.Laws.Indexing.{front-range, map-from-same}
 use Rattle.plain.specs.declared.Slots.{Slots}
 use Rattle.liveness.specs.Flags.{live-flags}
-use Rattle.liveness.specs.FlagLaws.{length-flags}
+use Rattle.liveness.specs.Laws.Flags.{length-flags}
 use Rattle.shape.specs.Checked.{SlotsChecked}
 
 -- ---- one kind of slot of a checked store
