@@ -30,10 +30,13 @@ use Rattle.shape.specs.Shape.{Words, capacities, node-live, edge-live, axis-wor
 use Rattle.shape.specs.Checked.{Checked}
 use Rattle.shape.specs.Laws.Reading.{plain-node-bound, plain-edge-bound, plain-node-flags, plain-edge-flags}
 use Rattle.shape.specs.Index.{Rewritten, before, ends-of}
-use Rattle.compact.specs.Slots.{kept-word, rewritten-same, kept-all-live}
+use Rattle.compact.proofs.Turns.{rewritten-same, kept-all-live}
+use Rattle.compact.specs.Slots.{kept-word}
 use Rattle.compact.specs.Bases.{Compactable, AxisCompacted}
-use Rattle.compact.specs.Dropping.{Droppable, Dropped, axis-compactable, first-half, drop-room}
-use Rattle.compact.specs.Holding.{based, all-lists}
+use Rattle.compact.proofs.Dropping.{axis-compactable, first-half, drop-room}
+use Rattle.compact.specs.Dropping.{Droppable, Dropped}
+use Rattle.compact.specs.Bases.{based}
+use Rattle.compact.specs.Laws.Holding.{all-lists}
 use Rattle.compact.specs.Calls.{AxisCanonical, Canonical}
 
 -- ---- a canonical store compacted

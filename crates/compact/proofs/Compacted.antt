@@ -23,12 +23,19 @@ use Rattle.shape.specs.Shape.{Words, node-live, edge-live, axis-words, lists, n
 use Rattle.shape.specs.Kept.{AxisRenewed, Renewed, same-nodes, same-edges, same-highs, same-live-nodes, same-live-edges, same-axis}
 use Rattle.shape.specs.Index.{Rewritten, ends-of}
 use Rattle.shape.specs.Laws.NewBase.{NewBase}
-use Rattle.compact.specs.Holding.{based, front, Holding, reset-same, reset-word, sized-as}
-use Rattle.compact.specs.Slots.{kept-word, rewritten-through}
-use Rattle.compact.specs.Left.{live-words-of, end-in, left-sound, left-nodes, left-edges, nodes-left, lows-left, highs-left, ends-left}
+use Rattle.compact.specs.Bases.{based}
+use Rattle.compact.specs.Laws.Holding.{front, Holding, reset-same, reset-word, sized-as}
+use Rattle.compact.proofs.Turns.{rewritten-through}
+use Rattle.compact.specs.Slots.{kept-word}
+use Rattle.compact.specs.Laws.Left.{end-in, left-sound, left-nodes, left-edges, nodes-left, lows-left, highs-left, ends-left}
+use Rattle.compact.specs.Slots.{live-words-of}
 use Rattle.plain.specs.Laws.Joining.{raised-none}
-use Rattle.compact.specs.Bases.{Compactable, AxisCompacted, rebuildable, rebuilt-base, rebuilt-renewed}
-use Rattle.compact.specs.Dropping.{node-count, edge-count, Droppable, Dropped, axis-compactable, first-half, drop-room}
+use Rattle.compact.proofs.Bases.{rebuildable}
+use Rattle.compact.specs.Bases.{Compactable, AxisCompacted}
+use Rattle.compact.specs.Laws.Bases.{rebuilt-base, rebuilt-renewed}
+use Rattle.compact.proofs.Dropping.{axis-compactable, first-half, drop-room}
+use Rattle.compact.specs.Dropping.{Droppable, Dropped}
+use Rattle.compact.specs.Laws.Slots.{live-few}
 
 -- a function of the live slots, slot by slot
 slots-mapped : {A : Type 0} (f g : ℕ → A) (flags : List Bool) → ((i : ℕ) → i < live-count flags → f i ≡ g (getD (live-slots flags) i 0))
@@ -121,8 +128,8 @@ module _ {w : Words} {node-map work : List ℕ} {v : Words} (pre : Droppable w n
         record {
           sound = left-sound k;
           counts = r .counts ∙ ap₂ {C = Counts} (λ (n m : ℕ). record { nodes = based n; edges = based m }) (sym (left-nodes k)) (sym (left-edges k));
-          nodes-fit = let low = node-count pre in omega (arith, left-nodes k, same-nodes same, k .nodes .bounded .bound-within);
-          edges-fit = let low = edge-count pre in omega (arith, left-edges k, same-edges same, k .edges .bounded .bound-within);
+          nodes-fit = let low = live-few (k .nodes) in omega (arith, left-nodes k, same-nodes same, k .nodes .bounded .bound-within);
+          edges-fit = let low = live-few (k .edges) in omega (arith, left-edges k, same-edges same, k .edges .bounded .bound-within);
           live-nodes-long = rw (same-nodes same, same-live-nodes same) (k .nodes .live-long);
           live-edges-long = rw (same-edges same, same-live-edges same) (k .edges .live-long);
           sized = sized-left;

@@ -24,8 +24,9 @@ use Rattle.shape.specs.Steps.{state-of}
 use Rattle.shape.specs.Laws.NewBase.{fitted-total}
 use Rattle.shape.specs.Laws.Reading.{plain-node-bound, plain-edge-bound, plain-node-flags, plain-edge-flags}
 use Rattle.validate.specs.Judging.{Judged}
-use Rattle.compact.specs.Settling.{Settleable, Settling, droppable}
-use Rattle.compact.specs.Holding.{holding-shape, holding-state, holding-checked, holding-canonical, canonical-leaves}
+use Rattle.compact.proofs.Settling.{droppable}
+use Rattle.compact.specs.Settling.{Settleable, Settling}
+use Rattle.compact.specs.Laws.Holding.{holding-shape, holding-state, holding-checked, holding-canonical, canonical-leaves}
 use Rattle.compact.proofs.Compacted.{dropped-holding, dropped-renewed}
 use Rattle.compact.specs.Calls.{compacting-of, CompactOf}
 use Rattle.compact.proofs.Again.{dropped-again}

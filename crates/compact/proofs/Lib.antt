@@ -1,3 +1,8 @@
-mod Again
+mod Turns
+mod Working
+mod Bases
+mod Dropping
+mod Settling
 mod Compacted
+mod Again
 mod Entry

@@ -14,7 +14,7 @@ ghost use Rattle.plain.specs.Lists.{written};
 ghost use Rattle.plain.specs.Compaction.{survivors, adjacency};
 ghost use Rattle.shape.specs.Shape.{lists};
 ghost use Rattle.shape.specs.Lent.{lent, at-entry, at-exit};
-ghost use Rattle.compact.specs.Holding.{based};
+ghost use Rattle.compact.specs.Bases.{based};
 ghost use Rattle.compact.specs.Working.{Workable};
 ghost use Rattle.compact.specs.Settling.{Settleable, Settling};
 ghost use Rattle.compact.specs.Calls.{CompactOf};
@@ -112,8 +112,8 @@ fn drop_dead(
         m,
         &work[m..],
     );
-    slots::keep_live(nodes, live_nodes, node_slots.bound as usize);
-    slots::keep_weights(lows, highs, live_edges, bound);
+    slots::keep_live(nodes, live_nodes, node_slots.bound as usize, n);
+    slots::keep_weights(lows, highs, live_edges, bound, m);
     liveness::reset_all_live(live_nodes, n);
     liveness::reset_all_live(live_edges, m);
     Counts {

@@ -31,12 +31,15 @@ pub fn write_map(live: &[u64], bound: usize, first: u32, map: &mut [u32])
     }
 }
 
-// Moves the words of the live slots down, in slot order; words past as many as are live are as they were.
-pub fn keep_live(words: &mut [u32], live: &[u64], bound: usize)
-    requires { ⌜ Keepable (now words) (now live) bound ⌝ }
+// Moves the words of the live slots, `count` of them, down in slot order; words past those are as they were. Where every slot is live no word moves.
+pub fn keep_live(words: &mut [u32], live: &[u64], bound: usize, count: usize)
+    requires { ⌜ Keepable (now words) (now live) bound count ⌝ }
     ensures { λ _. ⌜ Rewritten (now (words .entry)) (now (words .exit)) 0 (live-count (live-flags (now (live .entry)) bound))
         (kept-word (now (words .entry)) (live-flags (now (live .entry)) bound)) ⌝ }
 {
+    if count == bound {
+        return;
+    }
     let mut to: usize = 0;
     let mut slot: usize = 0;
     while slot < bound {
@@ -50,12 +53,12 @@ pub fn keep_live(words: &mut [u32], live: &[u64], bound: usize)
 }
 
 // Moves the lows and the highs of the live edges down.
-pub fn keep_weights(lows: &mut [u32], highs: &mut [u32], live: &[u64], bound: usize)
-    requires { ⌜ WeightsKeepable (now lows) (now highs) (now live) bound ⌝ }
+pub fn keep_weights(lows: &mut [u32], highs: &mut [u32], live: &[u64], bound: usize, count: usize)
+    requires { ⌜ WeightsKeepable (now lows) (now highs) (now live) bound count ⌝ }
     ensures { λ _. ⌜ WeightsKept (now (lows .entry)) (now (highs .entry)) (live-flags (now (live .entry)) bound) (now (lows .exit)) (now (highs .exit)) ⌝ }
 {
-    keep_live(lows, live, bound);
-    keep_live(highs, live, bound);
+    keep_live(lows, live, bound, count);
+    keep_live(highs, live, bound, count);
 }
 
 // Puts the first words through a map: each becomes what the map holds at it.

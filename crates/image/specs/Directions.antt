@@ -18,8 +18,9 @@ use Rattle.shape.specs.Index.{Rewritten, before, ends-of}
 use Rattle.shape.specs.Laws.Indexing.{rewritten-as}
 use Rattle.shape.specs.Laws.NewBase.{NewBase}
 use Rattle.adjacency.specs.Index.{Compressible}
-use Rattle.compact.specs.Bases.{Rebuildable, Rebuilt, rebuilt-base}
-use Rattle.compact.specs.Slots.{rewritten-range}
+use Rattle.compact.specs.Bases.{Rebuildable, Rebuilt}
+use Rattle.compact.specs.Laws.Bases.{rebuilt-base}
+use Rattle.compact.specs.Laws.Slots.{rewritten-range}
 use Rattle.image.specs.Spread.{spread, SpreadFits, spread-as, fields-spread, spread-at}
 
 -- ---- the base, once the ends are there

@@ -29,9 +29,10 @@ use Rattle.shape.specs.Shape.{Words, node-capacity, edge-capacity, lengths-of, 
 use Rattle.shape.specs.Kept.{SameLengths, AxisRenewed, Renewed, same-nodes, same-edges, same-highs, same-live-nodes, same-live-edges, same-axis}
 use Rattle.shape.specs.Index.{Rewritten}
 use Rattle.shape.specs.Laws.NewBase.{NewBase}
-use Rattle.compact.specs.Slots.{rewritten-range}
-use Rattle.compact.specs.Bases.{rebuilt-renewed}
-use Rattle.compact.specs.Holding.{based, front, Holding, reset-same, reset-word, sized-as}
+use Rattle.compact.specs.Laws.Slots.{rewritten-range}
+use Rattle.compact.specs.Laws.Bases.{rebuilt-renewed}
+use Rattle.compact.specs.Bases.{based}
+use Rattle.compact.specs.Laws.Holding.{front, Holding, reset-same, reset-word, sized-as}
 use Rattle.bits.specs.Fields.{Room}
 use Rattle.image.specs.Places.{records-small, entries-small}
 use Rattle.image.specs.Spread.{spread, SpreadFits, spread-in, fields-spread, spread-at, sources-spread, targets-spread, lows-spread, highs-spread}

@@ -35,7 +35,8 @@ use Rattle.shape.specs.Shape.{Words, capacities, node-live, edge-live, axis-wor
 use Rattle.shape.specs.Checked.{SlotsChecked, Checked}
 use Rattle.shape.specs.Laws.Reading.{plain-node-flags, plain-edge-flags, plain-end, node-at, edge-at}
 use Rattle.relocate.specs.Laws.Stores.{checked-end}
-use Rattle.compact.specs.Working.{both-walks, both-length, both-live, both-renumbered}
+use Rattle.compact.specs.Laws.Working.{both-length, both-live, both-renumbered}
+use Rattle.compact.specs.Working.{both-walks}
 use Rattle.bits.specs.Wrote.{Wrote, wrote-then, wrote-pack}
 use Rattle.image.specs.Strung.{WroteTo, wrote-on, PiecesFit}
 use Rattle.image.specs.Writing.{NodesFit, EdgesFit, EntriesFit, live-payloads, record-at, live-records}

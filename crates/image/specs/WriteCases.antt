@@ -17,7 +17,8 @@ use Rattle.shape.specs.Checked.{Checked}
 use Rattle.shape.specs.Laws.Reading.{plain-edge-flags}
 use Rattle.validate.specs.Judging.{Judged, refusal}
 use Rattle.view.specs.Laws.Calls.{replies, reply-refuses, list-short, list-done}
-use Rattle.compact.specs.Working.{both-walks, both-length}
+use Rattle.compact.specs.Working.{both-walks}
+use Rattle.compact.specs.Laws.Working.{both-length}
 use Rattle.image.specs.Calls.{written-image, WorkFree, WriteOf}
 use Rattle.image.specs.Surviving.{ImageFits, image-bytes-of}
 

@@ -14,17 +14,18 @@ use Rattle.plain.specs.Reads.{live-count, live-nodes, live-edges}
 use Rattle.plain.specs.Compaction.{survivors, renumbering-from}
 use Rattle.plain.specs.Calls.{judged}
 use Rattle.plain.specs.Joining.{Sizes, sizes, MapRooms, Maps, join-maps, no-maps, join-answer, join, joined-survivors, joined-plain, joined-state}
-use Rattle.shape.specs.Shape.{Words, store, lengths-of, shape-of, lists}
+use Rattle.shape.specs.Shape.{Words, lengths-of, shape-of, lists}
 use Rattle.shape.specs.Checked.{Checked}
 use Rattle.shape.specs.Kept.{nothing-spared, renewed-none, renewed-spared, same-nodes, same-edges}
-use Rattle.shape.specs.Rules.{broken}
 use Rattle.shape.specs.Laws.Reading.{plain-node-bound, plain-edge-bound, plain-node-flags, plain-edge-flags}
 use Rattle.validate.specs.Judging.{Judged}
 use Rattle.shape.specs.Steps.{state-of}
-use Rattle.compact.specs.Holding.{Holding, holding-shape, holding-state, holding-checked, holding-canonical, canonical-leaves}
-use Rattle.join.specs.Answers.{sizes-of, first-sound, second-sound, join-done, accepted}
+use Rattle.compact.specs.Laws.Holding.{Holding, holding-shape, holding-state, holding-checked, holding-canonical, canonical-leaves}
+use Rattle.join.specs.Answers.{sizes-of}
+use Rattle.join.specs.Laws.Answers.{first-sound, second-sound, join-done, accepted}
 use Rattle.join.specs.Calls.{LentMaps, joining-of, JoinOf}
-use Rattle.join.specs.Settling.{Settleable, Settled, settled-holding, settled-renewed}
+use Rattle.join.proofs.Settling.{settled-holding, settled-renewed}
+use Rattle.join.specs.Settling.{Settleable, Settled}
 
 -- the sizes of a checked book are those of its plain lists
 nodes-left : {w : Words} → Checked w → live-nodes (lists w) ≡ w .counts .nodes .live

@@ -15,7 +15,7 @@ use Rattle.shape.specs.Fields.{RenewalLeaves}
 use Rattle.shape.specs.Rules.{broken}
 use Rattle.shape.specs.Steps.{state-of}
 use Rattle.compact.specs.Survivors.{shape-of-survivors}
-use Rattle.compact.specs.Holding.{based}
+use Rattle.compact.specs.Bases.{based}
 use Rattle.compact.specs.Calls.{Canonical}
 
 -- the counts of memory that is no store yet, and those beside a refusal

@@ -1,10 +1,9 @@
-pub mod Written
 pub mod Slots
 pub mod Sides
-pub mod Books
 pub mod Answers
 pub mod Calls
 pub mod Settling
+pub mod Laws
 pub mod Results
 pub mod Agreeing
 pub mod Refuted

@@ -25,8 +25,8 @@ use Rattle.shape.specs.Checked.{Checked}
 use Rattle.shape.specs.Rules.{broken}
 use Rattle.compact.specs.Survivors.{shape-of-survivors}
 use Rattle.compact.specs.Calls.{CompactOf}
-use Rattle.join.specs.Answers.{Accepted, accepted, join-done}
-use Rattle.compact.specs.Left.{left-sound}
+use Rattle.join.specs.Laws.Answers.{Accepted, accepted, join-done}
+use Rattle.compact.specs.Laws.Left.{left-sound}
 use Rattle.join.specs.Calls.{LentMaps, joining-of, JoinOf}
 
 -- the survivors of a store

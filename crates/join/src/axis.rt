@@ -1,5 +1,5 @@
 // One direction of two books in a new base: the ends of the first book's live edges and then the second's, the lists of the first's live nodes and then the second's, all by
-// new numbers. `edges` and `nodes` are the capacities of the axis that they stand before. All functions are internal.
+// new numbers. All functions are internal.
 
 use crate::slots::copy_live;
 use adjacency::index;
@@ -25,19 +25,27 @@ fn copy_ends(axis: &[u32], counts: Counts, live_edges: &[u64], node_map: &[u32],
 // Writes the lists of the live nodes, one behind the other and put through the edge map, to the start of `out`.
 fn write_entries(
     axis: &[u32],
-    edges: usize,
-    nodes: usize,
+    edge_capacity: usize,
+    node_capacity: usize,
     counts: Counts,
     live_nodes: &[u64],
     live_edges: &[u64],
     edge_map: &[u32],
     out: &mut [u32],
 )
-    requires { ⌜ EntriesFit (now axis) edges nodes counts (now «live_nodes») (now «live_edges») (now «edge_map») (now out) ⌝ }
-    ensures { λ _. ⌜ now (out .exit) ≡ written (new-entries (now (axis .entry)) edges nodes counts (now («live_nodes» .entry)) (now («live_edges» .entry)) (now («edge_map» .entry)))
+    requires { ⌜ EntriesFit (now axis) «edge_capacity» «node_capacity» counts (now «live_nodes») (now «live_edges») (now «edge_map») (now out) ⌝ }
+    ensures { λ _. ⌜ now (out .exit) ≡ written (new-entries (now (axis .entry)) «edge_capacity» «node_capacity» counts (now («live_nodes» .entry)) (now («live_edges» .entry)) (now («edge_map» .entry)))
         (now (out .entry)) ⌝ }
 {
-    lists::write_lists(axis, edges, nodes, counts, live_nodes, live_edges, out);
+    lists::write_lists(
+        axis,
+        edge_capacity,
+        node_capacity,
+        counts,
+        live_nodes,
+        live_edges,
+        out,
+    );
     slots::translate(out, counts.edges.live as usize, edge_map);
 }
 
@@ -72,33 +80,33 @@ fn join_ends(
 fn join_entries(
     out: &mut [u32],
     first: Counts,
-    first_edges: usize,
-    first_nodes: usize,
+    first_edge_capacity: usize,
+    first_node_capacity: usize,
     first_axis: &[u32],
     first_live_nodes: &[u64],
     first_live_edges: &[u64],
     first_edge_map: &[u32],
     second: Counts,
-    second_edges: usize,
-    second_nodes: usize,
+    second_edge_capacity: usize,
+    second_node_capacity: usize,
     second_axis: &[u32],
     second_live_nodes: &[u64],
     second_live_edges: &[u64],
     second_edge_map: &[u32],
 )
     requires { ⌜ BothEntriesFit (now out)
-        (now «first_axis») «first_edges» «first_nodes» first (now «first_live_nodes») (now «first_live_edges») (now «first_edge_map»)
-        (now «second_axis») «second_edges» «second_nodes» second (now «second_live_nodes») (now «second_live_edges») (now «second_edge_map») ⌝ }
+        (now «first_axis») «first_edge_capacity» «first_node_capacity» first (now «first_live_nodes») (now «first_live_edges») (now «first_edge_map»)
+        (now «second_axis») «second_edge_capacity» «second_node_capacity» second (now «second_live_nodes») (now «second_live_edges») (now «second_edge_map») ⌝ }
     ensures { λ _. ⌜ now (out .exit) ≡ written
-        (new-entries (now («first_axis» .entry)) «first_edges» «first_nodes» first (now («first_live_nodes» .entry)) (now («first_live_edges» .entry)) (now («first_edge_map» .entry))
-        ++ new-entries (now («second_axis» .entry)) «second_edges» «second_nodes» second (now («second_live_nodes» .entry)) (now («second_live_edges» .entry)) (now («second_edge_map» .entry)))
+        (new-entries (now («first_axis» .entry)) «first_edge_capacity» «first_node_capacity» first (now («first_live_nodes» .entry)) (now («first_live_edges» .entry)) (now («first_edge_map» .entry))
+        ++ new-entries (now («second_axis» .entry)) «second_edge_capacity» «second_node_capacity» second (now («second_live_nodes» .entry)) (now («second_live_edges» .entry)) (now («second_edge_map» .entry)))
         (now (out .entry)) ⌝ }
 {
     let count = first.edges.live as usize;
     write_entries(
         first_axis,
-        first_edges,
-        first_nodes,
+        first_edge_capacity,
+        first_node_capacity,
         first,
         first_live_nodes,
         first_live_edges,
@@ -107,8 +115,8 @@ fn join_entries(
     );
     write_entries(
         second_axis,
-        second_edges,
-        second_nodes,
+        second_edge_capacity,
+        second_node_capacity,
         second,
         second_live_nodes,
         second_live_edges,
@@ -120,32 +128,32 @@ fn join_entries(
 // One direction of both books in a new base: the ends, the offsets counted from them, the lists straight into the adjacency column, every ring empty, and no run.
 pub fn join_axis(
     axis: &mut [u32],
-    edges: usize,
-    nodes: usize,
+    edge_capacity: usize,
+    node_capacity: usize,
     first: Counts,
-    first_edges: usize,
-    first_nodes: usize,
+    first_edge_capacity: usize,
+    first_node_capacity: usize,
     first_axis: &[u32],
     first_live_nodes: &[u64],
     first_live_edges: &[u64],
     first_node_map: &[u32],
     first_edge_map: &[u32],
     second: Counts,
-    second_edges: usize,
-    second_nodes: usize,
+    second_edge_capacity: usize,
+    second_node_capacity: usize,
     second_axis: &[u32],
     second_live_nodes: &[u64],
     second_live_edges: &[u64],
     second_node_map: &[u32],
     second_edge_map: &[u32],
 )
-    requires { ⌜ AxisJoinable (now axis) edges nodes
-        (side first «first_edges» «first_nodes» (now «first_axis») (now «first_live_nodes») (now «first_live_edges») (now «first_node_map») (now «first_edge_map»))
-        (side second «second_edges» «second_nodes» (now «second_axis») (now «second_live_nodes») (now «second_live_edges») (now «second_node_map») (now «second_edge_map»)) ⌝ }
-    ensures { λ _. ⌜ AxisJoined (now (axis .entry)) edges nodes
-        (side first «first_edges» «first_nodes» (now («first_axis» .entry)) (now («first_live_nodes» .entry)) (now («first_live_edges» .entry))
+    requires { ⌜ AxisJoinable (now axis) «edge_capacity» «node_capacity»
+        (side first «first_edge_capacity» «first_node_capacity» (now «first_axis») (now «first_live_nodes») (now «first_live_edges») (now «first_node_map») (now «first_edge_map»))
+        (side second «second_edge_capacity» «second_node_capacity» (now «second_axis») (now «second_live_nodes») (now «second_live_edges») (now «second_node_map») (now «second_edge_map»)) ⌝ }
+    ensures { λ _. ⌜ AxisJoined (now (axis .entry)) «edge_capacity» «node_capacity»
+        (side first «first_edge_capacity» «first_node_capacity» (now («first_axis» .entry)) (now («first_live_nodes» .entry)) (now («first_live_edges» .entry))
         (now («first_node_map» .entry)) (now («first_edge_map» .entry)))
-        (side second «second_edges» «second_nodes» (now («second_axis» .entry)) (now («second_live_nodes» .entry)) (now («second_live_edges» .entry))
+        (side second «second_edge_capacity» «second_node_capacity» (now («second_axis» .entry)) (now («second_live_nodes» .entry)) (now («second_live_edges» .entry))
         (now («second_node_map» .entry)) (now («second_edge_map» .entry)))
         (now (axis .exit)) ⌝ }
 {
@@ -162,24 +170,24 @@ pub fn join_axis(
         second_live_edges,
         second_node_map,
     );
-    index::count_offsets(axis, edges, nodes, n, m);
+    index::count_offsets(axis, edge_capacity, node_capacity, n, m);
     join_entries(
-        &mut axis[edges..],
+        &mut axis[edge_capacity..],
         first,
-        first_edges,
-        first_nodes,
+        first_edge_capacity,
+        first_node_capacity,
         first_axis,
         first_live_nodes,
         first_live_edges,
         first_edge_map,
         second,
-        second_edges,
-        second_nodes,
+        second_edge_capacity,
+        second_node_capacity,
         second_axis,
         second_live_nodes,
         second_live_edges,
         second_edge_map,
     );
-    index::fill_words(axis, 4 * edges, n, NONE);
-    index::fill_words(axis, 4 * edges + 4 * nodes, n, 0);
+    index::fill_words(axis, 4 * edge_capacity, n, NONE);
+    index::fill_words(axis, 4 * edge_capacity + 4 * node_capacity, n, 0);
 }

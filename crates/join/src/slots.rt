@@ -8,7 +8,7 @@ ghost use mathlib.Core.Path.{_≡_};
 ghost use mathlib.Core.List.{_++_};
 ghost use Rattle.plain.specs.Lists.{written};
 ghost use Rattle.liveness.specs.Flags.{live-flags};
-ghost use Rattle.compact.specs.Left.{live-words-of};
+ghost use Rattle.compact.specs.Slots.{live-words-of};
 ghost use Rattle.join.specs.Slots.{Copyable, BothCopyable, MapsFit, MapsWritten};
 
 // Copies the words of the live slots, in slot order, to the start of `out`.

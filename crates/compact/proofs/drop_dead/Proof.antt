@@ -1,11 +1,12 @@
 -- `drop_dead` meets its contract: call by call.
 use mathlib.Core.Path.{ap₂}
+use native.Mathlib.Omega.{arith}
 use borrow.Author.Needs.{needs}
 use Rattle.plain.specs.declared.TraversalDirection.the-variants.{Outgoing, Incoming}
 use Rattle.plain.specs.declared.Slots.{Slots}
 use Rattle.plain.specs.declared.Counts.{Counts}
 use Rattle.shape.specs.Kept.{each-length}
-use Rattle.compact.specs.Dropping.{axis-compactable, from-rest, first-half, second-half, nodes-keepable, weights-keepable, nodes-resettable, edges-resettable}
+use Rattle.compact.proofs.Dropping.{axis-compactable, from-rest, first-half, second-half, keepable, resettable, weights-keepable}
 use Rattle.compact.proofs.drop_dead.Statement.{statement}
 use Rattle.compact.proofs.drop_dead.Tie as tie
 
@@ -37,16 +38,16 @@ compact-axis-requires-2 : tie.Need-compact-axis-requires-2
 compact-axis-requires-2 c κs = let s = entry (c .before .before .before .before .before) in axis-compactable (s .pre) Incoming _ (second-half (s .pre))
 
 keep-live-requires : tie.Need-keep-live-requires
-keep-live-requires c κs = nodes-keepable (entry (sources (c .before .before .before .before .before)) .pre)
+keep-live-requires c κs = keepable (entry (sources (c .before .before .before .before .before)) .pre .checked .nodes) _ (omega arith)
 
 keep-weights-requires : tie.Need-keep-weights-requires
-keep-weights-requires c κs = weights-keepable (entry (sources (targets (c .before .before .before .before .before))) .pre)
+keep-weights-requires c κs = weights-keepable (entry (sources (targets (c .before .before .before .before .before))) .pre .checked)
 
 reset-all-live-requires : tie.Need-reset-all-live-requires
-reset-all-live-requires c κs = nodes-resettable (entry (sources (targets (kept-nodes (c .before .before .before .before .before)))) .pre)
+reset-all-live-requires c κs = resettable (entry (sources (targets (kept-nodes (c .before .before .before .before .before)))) .pre .checked .nodes)
 
 reset-all-live-requires-2 : tie.Need-reset-all-live-requires-2
-reset-all-live-requires-2 c κs = edges-resettable (entry (sources (targets (kept-nodes (kept-weights (c .before .before .before))))) .pre)
+reset-all-live-requires-2 c κs = resettable (entry (sources (targets (kept-nodes (kept-weights (c .before .before .before))))) .pre .checked .edges)
 
 same-length-6 : tie.Need-same-length-6
 same-length-6 c = sources (targets (kept-nodes (kept-weights (reset-nodes (c .before .before .before .before))))) .compact-axis .kept .0

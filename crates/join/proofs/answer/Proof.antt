@@ -4,7 +4,8 @@ use mathlib.Core.Path.{_≡_, sym, _∙_}
 use borrow.Author.Needs.{needs}
 use Rattle.plain.specs.Calls.{judged}
 use Rattle.plain.specs.declared.Answer.{Answer}
-use Rattle.join.specs.Answers.{judged-refused, judged-none, memory-refused, nodes-exceed, edges-exceed, maps-answered}
+use Rattle.join.proofs.Answers.{judged-refused}
+use Rattle.join.specs.Laws.Answers.{judged-none, memory-refused, nodes-exceed, edges-exceed, maps-answered}
 use Rattle.join.proofs.answer.Statement.{statement}
 use Rattle.join.proofs.answer.Tie as tie
 

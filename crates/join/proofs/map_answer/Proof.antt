@@ -1,6 +1,7 @@
 -- `map_answer` meets its contract: map by map, the last one first.
 use borrow.Author.Needs.{needs}
-use Rattle.join.specs.Answers.{sizes-of, rooms-of, maps-lacking}
+use Rattle.join.proofs.Answers.{maps-lacking}
+use Rattle.join.specs.Answers.{sizes-of, rooms-of}
 use Rattle.join.proofs.map_answer.Statement.{statement}
 use Rattle.join.proofs.map_answer.Tie as tie
 

@@ -6,7 +6,7 @@ use Rattle.plain.specs.declared.TraversalDirection.the-variants.{Outgoing, Inco
 use Rattle.plain.specs.declared.Slots.{Slots}
 use Rattle.plain.specs.declared.Counts.{Counts}
 use Rattle.shape.specs.Kept.{each-length}
-use Rattle.join.specs.Settling.{few-nodes, few-edges, first-maps-fit, second-maps-fit, nodes-copyable, lows-copyable, highs-copyable, nodes-resettable, edges-resettable, axis-joinable}
+use Rattle.join.proofs.Settling.{few-nodes, few-edges, first-maps-fit, second-maps-fit, nodes-copyable, lows-copyable, highs-copyable, nodes-resettable, edges-resettable, axis-joinable}
 use Rattle.join.proofs.settle.Statement.{statement}
 use Rattle.join.proofs.settle.Tie as tie
 

@@ -7,7 +7,7 @@ use lib.ListN.{length, getD}
 use Rattle.shape.specs.Index.{Rewritten}
 use Rattle.shape.specs.Laws.Indexing.{rewritten-none, rewritten-all}
 use Rattle.compact.specs.Slots.{translated-word}
-use Rattle.compact.specs.Turns.{rewritten-next}
+use Rattle.compact.specs.Laws.Turns.{rewritten-next}
 use Rattle.compact.proofs.slots.translate.Statement.{statement}
 use Rattle.compact.proofs.slots.translate.Tie as tie
 

@@ -9,7 +9,8 @@ use Rattle.plain.specs.Renumbering.{lookup}
 use Rattle.liveness.specs.Flags.{live-flags}
 use Rattle.shape.specs.Index.{Rewritten}
 use Rattle.shape.specs.Laws.Indexing.{rewritten-none}
-use Rattle.compact.specs.Turns.{rewritten-next, Passed, passed-none, passed-live, passed-dead, mapped-live, mapped-dead, mapped-all}
+use Rattle.compact.proofs.Turns.{mapped-live, mapped-dead, mapped-all}
+use Rattle.compact.specs.Laws.Turns.{rewritten-next, Passed, passed-none, passed-live, passed-dead}
 use Rattle.compact.proofs.slots.write_map.Statement.{statement}
 use Rattle.compact.proofs.slots.write_map.Tie as tie
 

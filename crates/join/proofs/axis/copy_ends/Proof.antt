@@ -1,6 +1,6 @@
 -- `axis::copy_ends` meets its contract: the ends, then put through the node map.
 use borrow.Author.Needs.{needs}
-use Rattle.join.specs.Sides.{ends-copyable, ends-translatable, ends-written}
+use Rattle.join.proofs.Sides.{ends-copyable, ends-translatable, ends-written}
 use Rattle.join.proofs.axis.copy_ends.Statement.{statement}
 use Rattle.join.proofs.axis.copy_ends.Tie as tie
 

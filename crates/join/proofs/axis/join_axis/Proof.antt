@@ -1,7 +1,7 @@
 -- `axis::join_axis` meets its contract: call by call.
 use native.Mathlib.Omega.{arith}
 use borrow.Author.Needs.{needs}
-use Rattle.join.specs.Sides.{ends-fit, compressible, entries-fit, room-there, rings-fit, marks-fit, joined-long, axis-joined}
+use Rattle.join.proofs.Sides.{ends-fit, compressible, entries-fit, room-there, rings-fit, marks-fit, joined-long, axis-joined}
 use Rattle.join.proofs.axis.join_axis.Statement.{statement}
 use Rattle.join.proofs.axis.join_axis.Tie as tie
 

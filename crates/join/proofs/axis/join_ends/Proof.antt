@@ -1,6 +1,6 @@
 -- `axis::join_ends` meets its contract: the ends of the first book, then those of the second behind them.
 use borrow.Author.Needs.{needs}
-use Rattle.join.specs.Sides.{first-ends-fit, second-ends-fit, both-ends}
+use Rattle.join.proofs.Sides.{first-ends-fit, second-ends-fit, both-ends}
 use Rattle.join.proofs.axis.join_ends.Statement.{statement}
 use Rattle.join.proofs.axis.join_ends.Tie as tie
 

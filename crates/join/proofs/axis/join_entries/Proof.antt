@@ -1,6 +1,6 @@
 -- `axis::join_entries` meets its contract: the lists of the first book, then those of the second behind them.
 use borrow.Author.Needs.{needs}
-use Rattle.join.specs.Sides.{first-entries-fit, second-entries-fit, both-entries}
+use Rattle.join.proofs.Sides.{first-entries-fit, second-entries-fit, both-entries}
 use Rattle.join.proofs.axis.join_entries.Statement.{statement}
 use Rattle.join.proofs.axis.join_entries.Tie as tie
 

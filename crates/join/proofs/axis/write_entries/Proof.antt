@@ -1,6 +1,6 @@
 -- `axis::write_entries` meets its contract: the lists, then put through the edge map.
 use borrow.Author.Needs.{needs}
-use Rattle.join.specs.Sides.{lists-fit, entries-translatable, entries-written}
+use Rattle.join.proofs.Sides.{lists-fit, entries-translatable, entries-written}
 use Rattle.join.proofs.axis.write_entries.Statement.{statement}
 use Rattle.join.proofs.axis.write_entries.Tie as tie
 

@@ -10,8 +10,8 @@ use Rattle.liveness.specs.Flags.{live-flags}
 use Rattle.shape.specs.Index.{Rewritten}
 use Rattle.shape.specs.Laws.Indexing.{rewritten-none, rewritten-all}
 use Rattle.compact.specs.Slots.{kept-word}
-use Rattle.compact.specs.Turns.{rewritten-next, Passed, passed-none, passed-live, passed-dead, slot-counted, all-counted}
-use Rattle.join.specs.Slots.{copied-all}
+use Rattle.compact.specs.Laws.Turns.{rewritten-next, Passed, passed-none, passed-live, passed-dead, slot-counted, all-counted}
+use Rattle.join.proofs.Copying.{copied-all}
 use Rattle.join.proofs.slots.copy_live.Statement.{statement}
 use Rattle.join.proofs.slots.copy_live.Tie as tie
 

@@ -1,6 +1,6 @@
 -- `slots::join_slots` meets its contract: the words of the first book, then those of the second behind them.
 use borrow.Author.Needs.{needs}
-use Rattle.join.specs.Slots.{first-copyable, second-copyable, both-copied}
+use Rattle.join.proofs.Copying.{first-copyable, second-copyable, both-copied}
 use Rattle.join.proofs.slots.join_slots.Statement.{statement}
 use Rattle.join.proofs.slots.join_slots.Tie as tie
 

@@ -1,35 +1,35 @@
 -- The lists that compaction takes over, of a whole store: they are the plain lists of its live nodes; and where the store is checked they can be written to a
 -- slice with room for its live edges.
-use Prim.Native.Nat.{ℕ, _≤_, _<_}
+use Prim.Native.Nat.{_<_, _≤_, ℕ}
+use mathlib.Core.Bool.{Bool, false, true}
+use mathlib.Core.List.{List, [], _++_, _∷_, map, map-append}
+use mathlib.Core.Path.{_∙_, _≡_, ap, refl, sym}
 use native.Mathlib.Omega.{arith}
-use mathlib.Core.Path.{_≡_, refl, sym, ap, _∙_}
-use mathlib.Core.Bool.{Bool, true, false}
-use mathlib.Core.List.{List, [], _∷_, _++_, map, map-append}
-use lib.ListN.{length, getD, length-map}
 use lib.Dec.{eqb}
-use Rattle.plain.specs.declared.TraversalDirection.{TraversalDirection}
-use Rattle.plain.specs.declared.TraversalDirection.the-variants.{Outgoing, Incoming}
-use Rattle.plain.specs.Lists.{member, joined}
-use Rattle.plain.specs.Numbers.{LIMIT}
-use Rattle.plain.specs.Plain.{Plain, list-of, end-of, node-flags, edge-flags}
-use Rattle.plain.specs.Step.{Capacities}
-use Rattle.plain.specs.Reads.{live-slots, live-count}
-use Rattle.plain.specs.Compaction.{rank, survivors, surviving-list, source-of, target-of}
-use Rattle.plain.specs.WellFormed.{Incident, WellFormed}
+use lib.ListN.{getD, length, length-map}
+use Rattle.plain.specs.Compaction.{rank, source-of, surviving-list, survivors, target-of}
 use Rattle.plain.specs.Laws.Booleans.{and-left}
-use Rattle.plain.specs.Laws.ListLaws.{map-same, joined-member, member-getD-map}
-use Rattle.plain.specs.Laws.Operating.{incident}
-use Rattle.plain.specs.Laws.Compacting.{survivors-sound, length-surviving-edges}
+use Rattle.plain.specs.Laws.Compacting.{length-surviving-edges, survivors-sound}
 use Rattle.plain.specs.Laws.ImageLaws.{fitted-joined}
+use Rattle.plain.specs.Laws.ListLaws.{joined-member, map-same, member-getD-map}
+use Rattle.plain.specs.Laws.Operating.{incident}
 use Rattle.plain.specs.Laws.Rank.{live-below, member-live-slots}
+use Rattle.plain.specs.Lists.{joined, member}
+use Rattle.plain.specs.Numbers.{LIMIT}
+use Rattle.plain.specs.Plain.{Plain, edge-flags, end-of, list-of, node-flags}
+use Rattle.plain.specs.Reads.{live-count, live-slots}
+use Rattle.plain.specs.Step.{Capacities}
+use Rattle.plain.specs.WellFormed.{WellFormed}
+use Rattle.plain.specs.declared.TraversalDirection.{TraversalDirection}
+use Rattle.plain.specs.declared.TraversalDirection.the-variants.{Incoming, Outgoing}
 use Rattle.liveness.specs.Laws.Flags.{length-flags}
 use Rattle.shape.specs.Chains.{In}
-use Rattle.shape.specs.Shape.{Words, node-live, edge-live, axis-words, lists, node-capacity, edge-capacity}
 use Rattle.shape.specs.Checked.{Checked}
-use Rattle.shape.specs.Laws.Reading.{plain-node-flags, plain-edge-flags}
-use Rattle.adjacency.specs.Walk.{walk-in}
+use Rattle.shape.specs.Laws.Reading.{plain-edge-flags, plain-node-flags}
+use Rattle.shape.specs.Shape.{Words, axis-words, edge-capacity, edge-live, lists, node-capacity, node-live}
 use Rattle.adjacency.specs.Laws.StoreWalks.{checked-walkable, list-is-walk}
-use Rattle.compact.specs.Lists.{live-walks, ListsFit}
+use Rattle.adjacency.specs.Walk.{walk-in}
+use Rattle.compact.specs.Lists.{ListsFit, live-walks}
 
 -- ---- the lists of the live nodes of well-formed plain lists
 
@@ -118,5 +118,6 @@ module _ {w : Words} (k : Checked w) (d : TraversalDirection) where
   checked-writable room = record {
     walkable = λ x node. checked-walkable k d x node;
     live-long = let long = k .nodes .live-long in let bounded = k .nodes .bounded in omega arith;
-    fits = omega (arith, lists-total);
+    counted = lists-total ∙ sym (k .edges .live .live-right);
+    fits = let right = k .edges .live .live-right in omega arith;
   }

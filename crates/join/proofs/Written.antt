@@ -1,16 +1,18 @@
 -- Slices that lists were written to: one list behind another in a part of the slice, entries put through a map, and a part as a range of the whole.
-use Prim.Native.Nat.{ℕ, _+_, _-_, _≤_, _<_}
-use mathlib.Core.Path.{_≡_, sym, ap, ap₂, _∙_}
-use mathlib.Core.List.{List, [], _++_, map, map-map, append-nil, append-assoc}
+use Prim.Native.Nat.{_+_, _-_, _<_, _≤_, ℕ}
+use mathlib.Core.List.{List, [], _++_, append-assoc, append-nil, map, map-map}
+use mathlib.Core.Path.{_∙_, _≡_, ap, ap₂, sym}
 use native.Mathlib.Omega.{arith}
-use lib.ListN.{length, getD, take, drop, length-append, length-drop, length-map, drop-of-length-le, List·getD-append}
-use lib.Seq.{take-at, drop-at, take-all, drop-drop, length-take-le, getD-append-add, getD-drop, getD-take}
-use Rattle.plain.specs.Lists.{written, from}
-use Rattle.plain.specs.Laws.ListLaws.{member-at, map-getD}
+use lib.ListN.{List·getD-append, drop, drop-of-length-le, getD, length, length-append, length-drop, length-map, take}
+use lib.Seq.{drop-at, drop-drop, getD-append-add, getD-drop, getD-take, length-take-le, take-all, take-at}
+use Rattle.plain.specs.Laws.ListLaws.{map-getD, member-at}
+use Rattle.plain.specs.Lists.{from, written}
 use Rattle.shape.specs.Chains.{In}
 use Rattle.shape.specs.Index.{Rewritten}
 use Rattle.shape.specs.Laws.Indexing.{map-from-same}
-use Rattle.compact.specs.Slots.{Translatable, translated-word, rewritten-list}
+use Rattle.compact.specs.Laws.Slots.{rewritten-list}
+use Rattle.compact.specs.Slots.{Translatable, translated-word}
+use Rattle.join.specs.Sides.{through}
 
 -- a slice is as long as before
 pub written-length : (xs entry : List ℕ) → length xs ≤ length entry → length (written xs entry) ≡ length entry
@@ -58,10 +60,6 @@ module _ (xs out : List ℕ) {first : List ℕ} (k : ℕ) (long : length xs ≡ 
       ∙ sym (append-assoc xs ys (drop (length (xs ++ ys)) out))
 
 -- ---- entries put through a map
-
--- what a map holds at each entry
-abbrev pub through : List ℕ → List ℕ → List ℕ
-through entries xs = map (λ e. getD entries e 0) xs
 
 module _ (xs entry : List ℕ) {out : List ℕ} (n : ℕ) (long : length xs ≡ n) (room : n ≤ length entry) (is : out ≡ written xs entry) where
   entry-at : (i : ℕ) → i < n → getD out i 0 ≡ getD xs i 0

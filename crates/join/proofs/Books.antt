@@ -1,35 +1,31 @@
 -- What a checked book hands over: its live slots can be read, and in each direction the ends and lists by its maps are those of its survivors, raised.
-use Prim.Native.Nat.{ℕ, _+_, _*_, _≤_, _<_}
-use mathlib.Core.Path.{_≡_, refl, sym, ap, _∙_}
-use mathlib.Core.Bool.{Bool, true, false}
+use Prim.Native.Nat.{_+_, _<_, _≤_, ℕ}
+use mathlib.Core.Bool.{Bool, false, true}
 use mathlib.Core.List.{List, map, map-map}
+use mathlib.Core.Path.{_∙_, _≡_, ap, refl, sym}
 use native.Mathlib.Omega.{arith}
-use lib.ListN.{length, getD}
-use Rattle.plain.specs.declared.TraversalDirection.{TraversalDirection}
-use Rattle.plain.specs.declared.TraversalDirection.the-variants.{Outgoing, Incoming}
-use Rattle.plain.specs.Numbers.{LIMIT}
-use Rattle.plain.specs.Lists.{joined}
-use Rattle.plain.specs.Plain.{node-flags}
-use Rattle.plain.specs.Reads.{live-count, live-slots}
-use Rattle.plain.specs.Compaction.{Survivors, rank, survivors, surviving-list}
+use lib.ListN.{getD, length}
+use Rattle.plain.specs.Compaction.{Survivors, rank, surviving-list, survivors}
 use Rattle.plain.specs.Joining.{raised}
-use Rattle.plain.specs.Laws.ListLaws.{map-same, count-length}
-use Rattle.liveness.specs.Flags.{live-flags}
-use Rattle.liveness.specs.Laws.Flags.{length-flags}
+use Rattle.plain.specs.Laws.ListLaws.{map-same}
+use Rattle.plain.specs.Lists.{joined}
+use Rattle.plain.specs.Numbers.{LIMIT}
+use Rattle.plain.specs.Plain.{node-flags}
+use Rattle.plain.specs.Reads.{live-slots}
+use Rattle.plain.specs.declared.TraversalDirection.{TraversalDirection}
+use Rattle.plain.specs.declared.TraversalDirection.the-variants.{Incoming, Outgoing}
+use Rattle.shape.specs.Checked.{Checked, SlotsChecked}
 use Rattle.shape.specs.Columns.{end-at}
-use Rattle.shape.specs.Shape.{Words, node-live, edge-live, axis-words, lists, node-capacity, edge-capacity}
-use Rattle.shape.specs.Checked.{Checked}
 use Rattle.shape.specs.Laws.Reading.{plain-node-flags}
+use Rattle.shape.specs.Shape.{Words, axis-words, edge-capacity, edge-live, lists, node-capacity, node-live}
 use Rattle.adjacency.specs.Laws.StoreWalks.{checked-walkable}
-use Rattle.compact.specs.ListsStore.{lists-renumbered, lists-live, lists-total}
+use Rattle.compact.specs.Laws.Left.{end-in, ends-left, slot-low}
+use Rattle.compact.specs.Laws.Lists.{lists-live, lists-renumbered, lists-total}
 use Rattle.compact.specs.Lists.{live-walks}
-use Rattle.compact.specs.Left.{slot-low, end-in, ends-left}
+use Rattle.join.specs.Sides.{EndsReadable, EntriesReadable, side-ends, side-entries, side-of}
 use Rattle.join.specs.Slots.{LiveReadable}
-use Rattle.join.specs.Sides.{Side, side, side-ends, side-entries, EndsReadable, EntriesReadable}
-
--- no more slots are live than there are
-few-live : (live : List ℕ) (bound : ℕ) → live-count (live-flags live bound) ≤ bound
-few-live live bound = omega (arith, count-length (λ f. f) (live-flags live bound), length-flags live bound)
+use Rattle.plain.specs.declared.Slots.{Slots}
+use Rattle.compact.specs.Laws.Slots.{slots-there}
 
 -- the lists of survivors in a direction
 abbrev pub lists-in : TraversalDirection → Survivors → List (List ℕ)
@@ -44,28 +40,9 @@ module _ {w : Words} (k : Checked w) where
   pub edges-few : w .counts .edges .bound ≤ LIMIT
   edges-few = omega (arith, k .edges .bounded .bound-within, k .axis Outgoing .sized .edges-within)
 
-  pub live-nodes-few : w .counts .nodes .live ≤ w .counts .nodes .bound
-  live-nodes-few = omega (arith, k .nodes .live .live-right, few-live (w .live-nodes) (w .counts .nodes .bound))
-
-  pub live-edges-few : w .counts .edges .live ≤ w .counts .edges .bound
-  live-edges-few = omega (arith, k .edges .live .live-right, few-live (w .live-edges) (w .counts .edges .bound))
-
-  pub nodes-there : w .counts .nodes .bound ≤ 64 * length (w .live-nodes)
-  nodes-there = let long = k .nodes .live-long in omega (arith, k .nodes .bounded .bound-within)
-
-  pub edges-there : w .counts .edges .bound ≤ 64 * length (w .live-edges)
-  edges-there = let long = k .edges .live-long in omega (arith, k .edges .bounded .bound-within)
-
-  -- ---- payloads
-
-  pub nodes-readable : LiveReadable (w .nodes) (w .live-nodes) (w .counts .nodes .bound)
-  nodes-readable = record { there = nodes-there; room = k .nodes .bounded .bound-within }
-
-  pub lows-readable : LiveReadable (w .lows) (w .live-edges) (w .counts .edges .bound)
-  lows-readable = record { there = edges-there; room = k .edges .bounded .bound-within }
-
-  pub highs-readable : LiveReadable (w .highs) (w .live-edges) (w .counts .edges .bound)
-  highs-readable = record { there = edges-there; room = omega (arith, k .highs-long, k .edges .bounded .bound-within) }
+-- a column that is long enough for a kind of slot can be read
+pub slots-readable : {c : ℕ} {live : List ℕ} {s : Slots} → SlotsChecked c live s → (words : List ℕ) → c ≤ length words → LiveReadable words live (s .bound)
+slots-readable k words long = record { there = slots-there k; room = omega (arith, k .bounded .bound-within) }
 
 -- ---- one direction
 
@@ -75,10 +52,6 @@ pub record Mapped (w : Words) (nodes-from edges-from : ℕ) (node-map edge-map :
   pub edges : (e : ℕ) → getD (edge-live w) e false ≡ true → getD edge-map e 0 ≡ edges-from + rank (edge-live w) e
   pub nodes-long : w .counts .nodes .bound ≤ length node-map
   pub edges-long : w .counts .edges .bound ≤ length edge-map
-
--- a book in one direction, with its maps
-abbrev pub side-of : TraversalDirection → Words → List ℕ → List ℕ → Side
-side-of d w node-map edge-map = side (w .counts) (edge-capacity w) (node-capacity w) (axis-words d w) (w .live-nodes) (w .live-edges) node-map edge-map
 
 lists-survive : (w : Words) (d : TraversalDirection) → joined (map (surviving-list d (lists w)) (live-slots (node-flags (lists w)))) ≡ joined (lists-in d (survivors (lists w)))
 unfolding survivors
@@ -91,7 +64,7 @@ module _ {w : Words} (k : Checked w) {a b : ℕ} {node-map edge-map : List ℕ} 
 
   pub ends-readable : EndsReadable (axis-words d w) (w .counts) (w .live-edges) node-map
   ends-readable = record {
-    readable = record { there = edges-there k; room = omega (arith, k .edges .bounded .bound-within, k .axis d .sized .room) };
+    readable = slots-readable (k .edges) (axis-words d w) (omega (arith, k .axis d .sized .room));
     counted = k .edges .live .live-right;
     mapped = λ e l. let low = end-low e l in omega (arith, m .nodes-long);
   }
@@ -99,7 +72,7 @@ module _ {w : Words} (k : Checked w) {a b : ℕ} {node-map edge-map : List ℕ} 
   pub entries-readable : EntriesReadable (axis-words d w) (edge-capacity w) (node-capacity w) (w .counts) (w .live-nodes) (w .live-edges) edge-map
   entries-readable = record {
     walkable = λ x node. checked-walkable k d x node;
-    live-long = nodes-there k;
+    live-long = slots-there (k .nodes);
     counted = lists-total k d ∙ sym (k .edges .live .live-right);
     mapped = λ e i. let low = slot-low (w .live-edges) (w .counts .edges .bound) e (lists-live k d e i) in omega (arith, m .edges-long);
   }

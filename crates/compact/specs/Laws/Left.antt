@@ -1,33 +1,31 @@
 -- What is left of a checked store, read from its words: the payloads of its survivors, and their ends by a node map. For compaction, which moves them down in place, and for
 -- joining, which copies them to another memory.
-use Prim.Native.Nat.{ℕ, _+_, _<_}
-use mathlib.Core.Path.{_≡_, sym, ap, ap₂, _∙_}
-use mathlib.Core.Bool.{Bool, true, false}
+use Prim.Native.Nat.{_+_, _<_, ℕ}
+use mathlib.Core.Bool.{Bool, false, true}
 use mathlib.Core.List.{List, map, map-map}
+use mathlib.Core.Path.{_∙_, _≡_, ap, ap₂, sym, refl}
 use native.Mathlib.Omega.{arith}
-use lib.ListN.{length, getD}
-use Rattle.plain.specs.declared.TraversalDirection.{TraversalDirection}
-use Rattle.plain.specs.declared.TraversalDirection.the-variants.{Outgoing, Incoming}
-use Rattle.plain.specs.Plain.{low-of, high-of, no-node, no-edge, node-flags, edge-flags, end-of}
-use Rattle.plain.specs.Reads.{live-count, live-slots}
-use Rattle.plain.specs.Compaction.{EdgeRecord, Survivors, rank, survivors, surviving-edge, source-of, target-of}
+use lib.ListN.{getD, length}
+use Rattle.plain.specs.Compaction.{EdgeRecord, Survivors, rank, source-of, surviving-edge, survivors, target-of}
 use Rattle.plain.specs.Joining.{raised}
-use Rattle.plain.specs.WellFormed.{Sound}
+use Rattle.plain.specs.Laws.Compacting.{length-surviving-edges, length-surviving-nodes, survivors-sound}
+use Rattle.plain.specs.Laws.ImageBits.{record-high, record-low}
 use Rattle.plain.specs.Laws.ListLaws.{map-same}
 use Rattle.plain.specs.Laws.Rank.{live-below, member-live-slots}
-use Rattle.plain.specs.Laws.Compacting.{survivors-sound, length-surviving-nodes, length-surviving-edges}
-use Rattle.plain.specs.Laws.ImageBits.{record-low, record-high}
-use Rattle.liveness.specs.Flags.{live-flags}
+use Rattle.plain.specs.Plain.{edge-flags, end-of, high-of, low-of, no-edge, no-node, node-flags}
+use Rattle.plain.specs.Reads.{live-count, live-slots}
+use Rattle.plain.specs.WellFormed.{Sound}
+use Rattle.plain.specs.declared.TraversalDirection.{TraversalDirection}
+use Rattle.plain.specs.declared.TraversalDirection.the-variants.{Incoming, Outgoing}
 use Rattle.liveness.specs.Laws.Flags.{length-flags}
-use Rattle.shape.specs.Columns.{end-at}
-use Rattle.shape.specs.Shape.{Words, capacities, node-live, edge-live, axis-words, shape-of, plain-of, lists}
+use Rattle.liveness.specs.Flags.{live-flags}
 use Rattle.shape.specs.Checked.{Checked}
-use Rattle.shape.specs.Laws.Reading.{plain-node-flags, plain-edge-flags, plain-end, node-at, edge-at}
+use Rattle.shape.specs.Columns.{end-at}
+use Rattle.shape.specs.Laws.Reading.{edge-at, node-at, plain-edge-flags, plain-end, plain-node-flags}
+use Rattle.shape.specs.Shape.{Words, axis-words, capacities, edge-live, lists, node-live, plain-of, shape-of, edge-payload-at}
 use Rattle.relocate.specs.Laws.Stores.{checked-end}
-
--- the words of the live slots, in slot order
-abbrev pub live-words-of : List ℕ → List Bool → List ℕ
-live-words-of words flags = map (λ x. getD words x 0) (live-slots flags)
+use Rattle.compact.specs.Slots.{live-words-of}
+use Rattle.plain.specs.declared.EdgePayload.{EdgePayload}
 
 -- the end of a record in a direction
 abbrev pub end-in : TraversalDirection → EdgeRecord → ℕ
@@ -71,21 +69,21 @@ module _ {w : Words} (k : Checked w) where
       (λ x l. sym (node-at w x (slot-low (w .live-nodes) (w .counts .nodes .bound) x l)))
       ∙ ap (λ (f : List Bool). map (λ x. getD (shape-of w .nodes) x no-node .payload) (live-slots f)) (sym (plain-node-flags w))
 
-  pub lows-left : live-words-of (w .lows) (edge-live w) ≡ map record-low (left .edges)
+  -- a column that has a weight of each edge
+  weights-left : (words : List ℕ) (weight : EdgePayload → ℕ) → ((e : ℕ) → getD words e 0 ≡ weight (edge-payload-at w e))
+      → live-words-of words (edge-live w) ≡ map (λ (r : EdgeRecord). weight (r .payload)) (left .edges)
   unfolding plain-of survivors
-  lows-left =
-      live-same (λ e. getD (w .lows) e 0) (λ e. getD (shape-of w .edges) e no-edge .payload .low) (edge-live w)
-      (λ e l. ap low-of (sym (edge-at w e (slot-low (w .live-edges) (w .counts .edges .bound) e l))))
-      ∙ ap (λ (f : List Bool). map (λ e. getD (shape-of w .edges) e no-edge .payload .low) (live-slots f)) (sym (plain-edge-flags w))
-      ∙ sym (map-map record-low (surviving-edge (lists w)) (live-slots (edge-flags (lists w))))
+  weights-left words weight is =
+      live-same (λ e. getD words e 0) (λ e. weight (getD (shape-of w .edges) e no-edge .payload)) (edge-live w)
+      (λ e l. is e ∙ ap weight (sym (edge-at w e (slot-low (w .live-edges) (w .counts .edges .bound) e l))))
+      ∙ ap (λ (f : List Bool). map (λ e. weight (getD (shape-of w .edges) e no-edge .payload)) (live-slots f)) (sym (plain-edge-flags w))
+      ∙ sym (map-map (λ (r : EdgeRecord). weight (r .payload)) (surviving-edge (lists w)) (live-slots (edge-flags (lists w))))
+
+  pub lows-left : live-words-of (w .lows) (edge-live w) ≡ map record-low (left .edges)
+  lows-left = weights-left (w .lows) low-of (λ e. refl)
 
   pub highs-left : live-words-of (w .highs) (edge-live w) ≡ map record-high (left .edges)
-  unfolding plain-of survivors
-  highs-left =
-      live-same (λ e. getD (w .highs) e 0) (λ e. getD (shape-of w .edges) e no-edge .payload .high) (edge-live w)
-      (λ e l. ap high-of (sym (edge-at w e (slot-low (w .live-edges) (w .counts .edges .bound) e l))))
-      ∙ ap (λ (f : List Bool). map (λ e. getD (shape-of w .edges) e no-edge .payload .high) (live-slots f)) (sym (plain-edge-flags w))
-      ∙ sym (map-map record-high (surviving-edge (lists w)) (live-slots (edge-flags (lists w))))
+  highs-left = weights-left (w .highs) high-of (λ e. refl)
 
   -- ---- ends, by a node map that counts the live nodes from a number on
 

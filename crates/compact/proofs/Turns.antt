@@ -1,0 +1,119 @@
+-- The loops over slots: what a turn does to the map and to the words moved down, and that no word moves where every slot is live.
+use Prim.Native.Nat.{_+_, _-_, _<_, _≤_, ℕ}
+use mathlib.Core.Bool.{Bool, cond, false, true}
+use mathlib.Core.List.{List, [], _∷_}
+use mathlib.Core.Logic.{_⊎_, inl, inr}
+use mathlib.Core.Path.{_∙_, _≡_, ap, ap₂, refl, sym}
+use native.Mathlib.Nat.{zero-add}
+use native.Mathlib.Omega.{arith}
+use lib.ListN.{getD, length, replicate}
+use lib.Seq.{ext-getD}
+use Rattle.plain.specs.Compaction.{renumbering-from}
+use Rattle.plain.specs.Laws.Booleans.{below-or-not}
+use Rattle.plain.specs.Laws.ListLaws.{count-length, getD-from}
+use Rattle.plain.specs.Laws.Rank.{live-count-all-live, live-from-all-live}
+use Rattle.plain.specs.Laws.Renumberings.{length-renumbering, lookup-from}
+use Rattle.plain.specs.Lists.{count, written}
+use Rattle.plain.specs.Numbers.{NONE}
+use Rattle.plain.specs.Reads.{live-count, live-slots}
+use Rattle.plain.specs.Renumbering.{lookup}
+use Rattle.liveness.specs.Laws.Flags.{length-flags}
+use Rattle.liveness.specs.Flags.{live-flags}
+use Rattle.shape.specs.Columns.{cell}
+use Rattle.shape.specs.Index.{Rewritten}
+use Rattle.shape.specs.Laws.Indexing.{rewritten-again, rewritten-all, rewritten-as, rewritten-here}
+use Rattle.compact.specs.Laws.Slots.{rewritten-written}
+use Rattle.compact.specs.Laws.Turns.{Passed, all-counted, slot-counted}
+use Rattle.compact.specs.Slots.{kept-word, translated-word}
+
+-- ---- words rewritten
+
+-- every word rewritten to itself
+pub rewritten-same : {entry exit : List ℕ} {at n : ℕ} {f : ℕ → ℕ} → Rewritten entry exit at n f → ((x : ℕ) → x < n → f x ≡ cell entry at x) → exit ≡ entry
+rewritten-same {entry = entry} {exit = exit} {at = at} {n = n} r same =
+    ext-getD 0 exit entry (r .long) (λ i h. each i (below-or-not i at) (below-or-not i (at + n)))
+  where
+    each : (i : ℕ) → (i < at) ⊎ (at ≤ i) → (i < at + n) ⊎ (at + n ≤ i) → getD exit i 0 ≡ getD entry i 0
+    each i (inl low) inside = r .below i low
+    each i (inr h) (inr past) = r .above i past
+    each i (inr h) (inl inside) =
+        let place : at + (i - at) ≡ i = omega arith in
+        ap (λ (z : ℕ). getD exit z 0) (sym place)
+        ∙ r .within (i - at) (omega arith)
+        ∙ same (i - at) (omega arith)
+        ∙ ap (λ (z : ℕ). getD entry z 0) place
+
+-- words moved and then put through a map are what the map holds at the words that were moved
+pub rewritten-through : {a b c : List ℕ} {n : ℕ} {f : ℕ → ℕ} (entries : List ℕ) → Rewritten a b 0 n f → Rewritten b c 0 n (translated-word b entries)
+    → Rewritten a c 0 n (λ i. getD entries (f i) 0)
+rewritten-through {b = b} {f = f} entries r s =
+    rewritten-as (λ i. getD entries (f i) 0) (rewritten-again r s)
+    (λ i h. ap (λ (w : ℕ). getD entries w 0) (ap (λ (z : ℕ). getD b z 0) (sym (zero-add i)) ∙ r .within i h))
+
+-- ---- the map
+
+module _ {live : List ℕ} {bound first slot number : ℕ} (p : Passed live bound first slot number) where
+  -- the flags of all slots
+  abbrev flags : List Bool
+  flags = live-flags live bound
+
+  -- what the map holds at the slot
+  mapped : (flag : Bool) → getD flags slot false ≡ flag → cond flag number NONE ≡ lookup (renumbering-from first flags) slot
+  mapped flag h = sym (lookup-from first flags slot ∙ ap₂ (λ (b : Bool) (n : ℕ). cond b n NONE) h (sym (p .ranked)))
+
+  -- a live slot gets its number
+  pub mapped-live : getD flags slot false ≡ true → number ≡ lookup (renumbering-from first flags) slot
+  mapped-live alive = mapped true alive
+
+  -- a dead slot gets none
+  pub mapped-dead : getD flags slot false ≡ false → NONE ≡ lookup (renumbering-from first flags) slot
+  mapped-dead dead = mapped false dead
+
+  -- the map is whole
+  pub mapped-all : {entry now : List ℕ} → Rewritten entry now 0 slot (lookup (renumbering-from first flags)) → bound ≤ slot → bound ≤ length entry
+      → now ≡ written (renumbering-from first flags) entry
+  unfolding lookup
+  mapped-all r h room =
+      let long = length-renumbering first flags ∙ length-flags live bound in
+      let low = p .within in
+      rewritten-written (renumbering-from first flags) NONE (rewritten-all (length (renumbering-from first flags)) r (omega arith) (omega arith)) (omega arith)
+
+-- ---- words moved down
+
+module _ {live : List ℕ} {bound slot number : ℕ} (p : Passed live bound 0 slot number) where
+  module _ {entry now : List ℕ} (r : Rewritten entry now 0 number (kept-word entry (live-flags live bound))) where
+    -- the word of a live slot is still where it was, and goes to the slot's rank
+    pub kept-live : getD (live-flags live bound) slot false ≡ true → getD now slot 0 ≡ kept-word entry (live-flags live bound) number
+    kept-live alive = let low = p .few in r .above slot (omega arith) ∙ ap (λ (x : ℕ). getD entry x 0) (sym (slot-counted p alive))
+
+    -- all are moved
+    pub kept-all : bound ≤ slot → Rewritten entry now 0 (live-count (live-flags live bound)) (kept-word entry (live-flags live bound))
+    kept-all h = let count = all-counted p h in rewritten-all (live-count (live-flags live bound)) r (omega arith) (omega arith)
+
+-- ---- where every slot is live
+
+-- as many as there are slots
+all-flags : (flags : List Bool) → live-count flags ≡ length flags → flags ≡ replicate (length flags) true
+unfolding count
+all-flags [] full = refl
+all-flags (true ∷ flags) full = ap (λ (l : List Bool). true ∷ l) (all-flags flags (omega arith))
+all-flags (false ∷ flags) full = absurd (omega (arith, count-length (λ f. f) flags))
+
+module _ (flags : List Bool) (bound : ℕ) (all : flags ≡ replicate bound true) where
+  -- live slot number i is slot i
+  slot-all-live : (i : ℕ) → i < live-count flags → getD (live-slots flags) i 0 ≡ i
+  slot-all-live i h =
+      let few = ap live-count all ∙ live-count-all-live bound in
+      ap (λ (l : List ℕ). getD l i 0) (ap live-slots all ∙ live-from-all-live 0 bound) ∙ getD-from 0 bound i 0 (omega arith) ∙ zero-add i
+
+  -- no word moves
+  pub kept-all-live : {entry exit : List ℕ} → Rewritten entry exit 0 (live-count flags) (kept-word entry flags) → exit ≡ entry
+  kept-all-live {entry = entry} r = rewritten-same r (λ i h. ap (λ (x : ℕ). getD entry x 0) (slot-all-live i h ∙ sym (zero-add i)))
+
+-- so the words are as kept
+pub kept-already : (words live : List ℕ) (bound : ℕ) → live-count (live-flags live bound) ≡ bound
+    → Rewritten words words 0 (live-count (live-flags live bound)) (kept-word words (live-flags live bound))
+kept-already words live bound full =
+    let flags = live-flags live bound in
+    let all : flags ≡ replicate (length flags) true = all-flags flags (full ∙ sym (length-flags live bound)) in
+    rewritten-here (λ i h. ap (λ (x : ℕ). getD words x 0) (zero-add i ∙ sym (slot-all-live flags (length flags) all i h)))

@@ -1,0 +1,2 @@
+-- The laws of joining, for the crates above to cite.
+pub mod Answers
