@@ -1,1 +1,2 @@
 mod Widths
+pub mod Putting

@@ -1,18 +1,18 @@
 -- What a writer of bits promises: `Wrote s p f t`, that bytes t have bits f from bit p on, and every other bit as bytes s have it. Writes that follow
--- each other are one write, and a write of whole bytes that repeats what stood around a field is a write of the field.
+-- each other are one write.
 use Prim.Native.Nat.{ℕ, suc, _+_, _-_, _*_, _/_, _%_, _^_, _≤_, _<_}
 use mathlib.Core.Path.{_≡_, refl, sym, ap, ap₂, _∙_}
 use mathlib.Core.List.{List, [], _∷_, _++_, append-assoc}
 use native.Mathlib.Omega.{arith}
-use native.Mathlib.Nat.{sub-self, sub-zero, div-one, mod-lt, mod-eq-of-lt}
+use native.Mathlib.Nat.{sub-self, sub-zero, div-one}
 use lib.ListN.{length, take, drop, set, length-append, length-take, length-set, take-append-drop}
-use lib.Seq.{take-at, drop-at, take-add, drop-drop, set-split}
-use lib.Pow.{shr-shr, pow-pos}
+use lib.Seq.{take-at, drop-at, set-split}
+use lib.Pow.{shr-shr}
 use Rattle.plain.specs.Lists.{written}
 use Rattle.plain.specs.Bits.{bits-of, bits, bytes-for, padding, pack}
 use Rattle.plain.specs.Laws.Below.{Below, below-append, below-drop}
 use Rattle.plain.specs.Laws.Bits.{length-bits-of, bits-of-split, bits-of-ext, length-bits, bits-append, bits-injective}
-use Rattle.plain.specs.Laws.Packing.{Stands, length-pack, below-pack, bits-pack}
+use Rattle.plain.specs.Laws.Packing.{length-pack, below-pack, bits-pack}
 use Rattle.bits.specs.Put.{Put, put-none, put-then, put-split, split-put}
 
 pub record Wrote (s : List ℕ) (p : ℕ) (f t : List ℕ) : Type 0 where
@@ -51,14 +51,13 @@ parts-none s p w v h = rw sub-self (wrote-none s p h)
 
 -- l of the field's w bits were left, and k of them were written
 pub parts-more : {s t u : List ℕ} {p at : ℕ} (w l k v : ℕ) → l ≤ w → k ≤ l → at + l ≡ p + w → Wrote s p (bits-of (w - l) (v / 2 ^ l)) t
-    → Wrote t at (bits-of k (v / 2 ^ (l - k) % 2 ^ k)) u → Wrote s p (bits-of (w - (l - k)) (v / 2 ^ (l - k))) u
+    → Wrote t at (bits-of k (v / 2 ^ (l - k))) u → Wrote s p (bits-of (w - (l - k)) (v / 2 ^ (l - k))) u
 parts-more {s} {t} {u} {p} {at} w l k v hl hk e a b =
     let x : ℕ = v / 2 ^ (l - k) in
     let n : w - (l - k) ≡ w - l + k = omega arith in
     let m : l - k + k ≡ l = omega arith in
     let high : Wrote s p (bits-of (w - l) (x / 2 ^ k)) t = rw (shr-shr v (l - k) k, m) a in
-    let low : Wrote t at (bits-of k x) u = rw (bits-of-ext k (x % 2 ^ k) x (mod-eq-of-lt (mod-lt x (pow-pos k)))) at b in
-    rw n (wrote-pair (w - l) k x high low (omega arith))
+    rw n (wrote-pair (w - l) k x high b (omega arith))
 
 -- none of them is left
 pub parts-all : {s t : List ℕ} {p : ℕ} (w l v : ℕ) → l ≡ 0 → Wrote s p (bits-of (w - l) (v / 2 ^ l)) t → Wrote s p (bits-of w v) t
@@ -91,23 +90,6 @@ wrote-byte s i x h =
       whole = ap bits (set-split s i c h) ∙ bits-append (take i s) (c ∷ drop (suc i) s)
           ∙ ap₂ (λ (y z : List ℕ). y ++ z) (sym (take-bits i s (omega arith)))
           (ap₂ (λ (y z : List ℕ). y ++ z) e (sym (drop-bits (suc i) s (omega arith)) ∙ ap (λ (k : ℕ). drop k (bits s)) n));
-    }
-
--- bits a before f and b after it stood there before
-pub wrote-narrow : {s t : List ℕ} {p o w : ℕ} (a f b : List ℕ) → length a ≡ o → length f ≡ w → Stands s p a → Stands s (p + o + w) b
-    → Wrote s p (a ++ (f ++ b)) t → Wrote s (p + o) f t
-wrote-narrow {s} {t} {p} {o} {w} a f b la lf sa sb c =
-    let n : p + length (a ++ (f ++ b)) ≡ p + o + w + length b = simp length-append (omega arith) in
-    let x : take (p + o) (bits s) ≡ take p (bits s) ++ a =
-    ap (λ (k : ℕ). take (p + k) (bits s)) (sym la) ∙ take-add p (length a) (bits s) ∙ ap (λ (z : List ℕ). take p (bits s) ++ z) (sa .there) in
-    let y : b ++ drop (p + length (a ++ (f ++ b))) (bits s) ≡ drop (p + o + w) (bits s) =
-    ap₂ (λ (u v : List ℕ). u ++ v) (sym (sb .there)) (ap (λ (k : ℕ). drop k (bits s)) n ∙ sym (drop-drop (length b) (p + o + w) (bits s)))
-    ∙ take-append-drop (length b) (drop (p + o + w) (bits s)) in
-    record {
-      long = c .long;
-      within = omega (arith, c .within);
-      whole = c .whole ∙ simp append-assoc
-          (sym (ap₂ (λ (u v : List ℕ). u ++ (f ++ v)) x (ap (λ (k : ℕ). drop (p + o + k) (bits s)) lf ∙ sym y) ∙ simp append-assoc));
     }
 
 -- ---- packed bits at the start
