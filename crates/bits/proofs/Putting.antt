@@ -6,19 +6,14 @@ use native.Mathlib.Omega.{arith}
 use native.Mathlib.Nat.{mod-lt, mod-eq-of-lt, lt-of-lt-of-le}
 use lib.ListN.{length, take, drop, length-append, length-take}
 use lib.Seq.{take-at, drop-at}
-use lib.Pow.{pow-add, pow-mono, pow-pos, shl-lt, high, low}
+use lib.Pow.{pow-add, pow-mono, pow-pos, shl-lt}
 use lib.Arith.{digits-lt}
 use Rattle.plain.specs.Bits.{bits-of, bits, padding}
 use Rattle.plain.specs.Laws.Bits.{length-bits-of, bits-of-split, bits-of-ext, length-bits}
 use Rattle.bits.specs.declared.pen.Pen.{Pen}
 use Rattle.bits.specs.Wrote.{Wrote}
-use Rattle.bits.specs.Penned.{Ready, Puts, Penned, reach, waiting, stream}
-
--- bits, and a value's bits behind them, as one number
-pub bits-behind : (c w x v : ℕ) → v < 2 ^ w → bits-of (c + w) (x * 2 ^ w + v) ≡ bits-of c x ++ bits-of w v
-bits-behind c w x v h =
-    bits-of-split c w (x * 2 ^ w + v)
-    ∙ ap₂ (λ (a b : List ℕ). a ++ b) (ap (bits-of c) (high x w h)) (bits-of-ext w (x * 2 ^ w + v) v (low x w h ∙ sym (mod-eq-of-lt h)))
+use Rattle.bits.specs.Penned.{Ready, Puts, Penned, reach, waiting}
+use Rattle.bits.specs.Laws.Penned.{bits-behind}
 
 -- a write by its two sides: the front with it, and what is past it
 front : {s t f : List ℕ} {p n : ℕ} → Wrote s p f t → n ≡ p + length f → take n (bits t) ≡ take p (bits s) ++ f

@@ -7,6 +7,10 @@ use lib.ListN.{length, take, drop}
 use Rattle.plain.specs.Bits.{bits-of, bits}
 use Rattle.bits.specs.declared.pen.Pen.{Pen}
 
+-- the pen before the first bit
+abbrev pub fresh : Pen
+fresh = record { at = 0; pending = 0; count = 0 }
+
 -- the bit after all that was put
 abbrev pub reach : Pen → ℕ
 reach p = 8 * p .at + p .count

@@ -1,4 +1,8 @@
 pub mod Ordering
 pub mod Checking
+pub mod Strung
+pub mod Writing
+pub mod Surviving
+mod WriteCases
 mod Answering
 mod ReadCases

@@ -1,15 +1,23 @@
 -- Laws of the pen: puts that follow each other are one, and finishing writes the stream from the first bit on.
-use Prim.Native.Nat.{ℕ, _+_, _-_, _*_, _≤_, _<_}
+use Prim.Native.Nat.{ℕ, _+_, _-_, _*_, _^_, _≤_, _<_}
 use mathlib.Core.Path.{_≡_, refl, sym, ap, ap₂, _∙_}
 use mathlib.Core.List.{List, [], _++_, append-assoc, append-nil}
 use native.Mathlib.Omega.{arith}
+use native.Mathlib.Nat.{mod-eq-of-lt}
 use lib.ListN.{length, take, drop, length-append}
 use lib.Seq.{drop-drop}
+use lib.Pow.{high, low}
 use Rattle.plain.specs.Bits.{bits-of, bits}
-use Rattle.plain.specs.Laws.Bits.{length-bits-of}
+use Rattle.plain.specs.Laws.Bits.{length-bits-of, bits-of-split, bits-of-ext}
 use Rattle.bits.specs.declared.pen.Pen.{Pen}
 use Rattle.bits.specs.Wrote.{Wrote}
-use Rattle.bits.specs.Penned.{Ready, Penned, reach, waiting, stream}
+use Rattle.bits.specs.Penned.{Ready, Penned, fresh, waiting, stream}
+
+-- bits, and a value's bits behind them, as one number
+pub bits-behind : (c w x v : ℕ) → v < 2 ^ w → bits-of (c + w) (x * 2 ^ w + v) ≡ bits-of c x ++ bits-of w v
+bits-behind c w x v h =
+    bits-of-split c w (x * 2 ^ w + v)
+    ∙ ap₂ (λ (a b : List ℕ). a ++ b) (ap (bits-of c) (high x w h)) (bits-of-ext w (x * 2 ^ w + v) v (low x w h ∙ sym (mod-eq-of-lt h)))
 
 -- what is past a later place is past an earlier one
 past : (m n : ℕ) (k l : List ℕ) → m ≤ n → drop m k ≡ drop m l → drop n k ≡ drop n l
@@ -34,13 +42,11 @@ penned-then {s} {t} {u} {f} {g} {p} {q} {r} a b = record {
   ready = b .ready;
 }
 
--- a pen before the first bit: what was put is all that is there, and with what waits in the pen it was written from bit 0 on
-pub penned-wrote : {s t u f : List ℕ} {p q : Pen} (g : List ℕ) → p .at ≡ 0 → p .count ≡ 0 → Penned s p f t q → Wrote t (8 * q .at) (waiting q ++ g) u
-    → Wrote s 0 (f ++ g) u
+-- Put from the first bit on, it is all that is there, and with what waits in the pen it was written from bit 0 on.
+pub penned-wrote : {s t u f : List ℕ} {q : Pen} (g : List ℕ) → Penned s fresh f t q → Wrote t (8 * q .at) (waiting q ++ g) u → Wrote s 0 (f ++ g) u
 unfolding bits-of
-penned-wrote {s} {t} {u} {f} {p} {q} g at count a b =
-    let none : stream s p ≡ [] = ap₂ (λ (i c : ℕ). take (8 * i) (bits s) ++ bits-of c (p .pending)) at count in
-    let all : stream t q ≡ f = a .whole ∙ ap (λ (l : List ℕ). l ++ f) none in
+penned-wrote {s} {t} {u} {f} {q} g a b =
+    let all : stream t q ≡ f = a .whole in
     let far : 8 * q .at + length (waiting q ++ g) ≡ 0 + length (f ++ g) =
     simp (length-append, length-bits-of) (omega (arith, a .next)) in
     record {

@@ -1,6 +1,6 @@
 -- `image::write::write_edge` meets its contract: two ranks, and the record.
 use borrow.Author.Needs.{needs}
-use Rattle.image.specs.Writing.{rank-there, ranks-fit}
+use Rattle.image.proofs.Writing.{rank-there, ranks-fit}
 use Rattle.image.proofs.write.write_edge.Statement.{statement}
 use Rattle.image.proofs.write.write_edge.Tie as tie
 

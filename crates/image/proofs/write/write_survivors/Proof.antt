@@ -1,10 +1,10 @@
--- `image::write::write_survivors` meets its contract: slots, lists and padding follow each other, at the least widths.
+-- `image::write::write_survivors` meets its contract: slots and lists follow each other, at the least widths, and what waits in the pen is written.
 use mathlib.Core.Path.{sym}
 use native.Mathlib.Omega.{arith}
 use lib.Seq.{length-take-le}
 use borrow.Author.Needs.{needs}
 use Rattle.plain.specs.Laws.Below.{below-of}
-use Rattle.image.specs.Surviving.{counts-few, lists-fit, padding-fits, wrote-image}
+use Rattle.image.proofs.Surviving.{counts-few, lists-fit, end-fits, wrote-image}
 use Rattle.image.proofs.write.write_survivors.Statement.{statement}
 use Rattle.image.proofs.write.write_survivors.Tie as tie
 
@@ -33,12 +33,12 @@ write-lists-requires c κs =
     let both = widths call in
     lists-fit (entry (both .before) .pre) (both .before .least-width .ensures) (both .least-width2 .ensures) (call .write-slots .ensures)
 
-write-padding-requires : tie.Need-write-padding-requires
-write-padding-requires c κs =
+finish-requires : tie.Need-finish-requires
+finish-requires c κs =
     let lists = c .before .before .before in
     let call = slots lists in
     let both = widths call in
-    padding-fits (entry (both .before) .pre) (both .before .least-width .ensures) (both .least-width2 .ensures) (call .write-slots .ensures) (lists .write-lists .ensures)
+    end-fits (entry (both .before) .pre) (both .before .least-width .ensures) (both .least-width2 .ensures) (call .write-slots .ensures) (lists .write-lists .ensures)
 
 returns : tie.Need-returns
 returns c =
@@ -47,7 +47,7 @@ returns c =
     let call = slots lists in
     let both = widths call in
     wrote-image (entry (both .before) .pre) (both .before .least-width .ensures) (both .least-width2 .ensures) (call .write-slots .ensures) (lists .write-lists .ensures)
-    (padded .write-padding .ensures .1) (below-of _ (λ i l. omega (arith, both .before .before .before .before .slice-known .given i))) (below-of _ (λ i l. omega (arith, c .slice-known4 .given i)))
+    (padded .finish .ensures) (below-of _ (λ i l. omega (arith, both .before .before .before .before .slice-known .given i))) (below-of _ (λ i l. omega (arith, c .slice-known4 .given i)))
 
 pub write-survivors-spec : {M : Type 1} → statement M
 write-survivors-spec =
@@ -61,6 +61,6 @@ write-survivors-spec =
     (λ c. search needs)
     slice-aggregate-write-lists
     write-lists-requires
-    write-padding-requires
+    finish-requires
     (λ c. search needs)
     returns)
