@@ -59,23 +59,23 @@ pub fn raise(x: u64, zeros: u32) -> u64
 }
 
 // The byte at i, as a field.
-fn byte(bytes: &[u8], i: usize) -> u64
+fn byte(bytes: &[u8], i: usize) -> u32
     requires { ⌜ i < length (now bytes) ⌝ }
     ensures { λ r. ⌜ r ≡ field-at (now (bytes .entry)) (8 * i) 8 ⌝ }
 {
-    bytes[i] as u64
+    bytes[i] as u32
 }
 
 // The two bytes from i on.
-fn two_bytes(bytes: &[u8], i: usize) -> u64
+fn two_bytes(bytes: &[u8], i: usize) -> u32
     requires { ⌜ i + 2 ≤ length (now bytes) ⌝ }
     ensures { λ r. ⌜ r ≡ field-at (now (bytes .entry)) (8 * i) 16 ⌝ }
 {
     byte(bytes, i) * 256 + byte(bytes, i + 1)
 }
 
-// The four bytes from i on.
-fn four_bytes(bytes: &[u8], i: usize) -> u64
+// The four bytes from i on: in 32 bits, so that they are loaded as one.
+fn four_bytes(bytes: &[u8], i: usize) -> u32
     requires { ⌜ i + 4 ≤ length (now bytes) ⌝ }
     ensures { λ r. ⌜ r ≡ field-at (now (bytes .entry)) (8 * i) 32 ⌝ }
 {
@@ -87,7 +87,7 @@ fn five_bytes(bytes: &[u8], i: usize) -> u64
     requires { ⌜ i + 5 ≤ length (now bytes) ⌝ }
     ensures { λ r. ⌜ r ≡ field-at (now (bytes .entry)) (8 * i) 40 ⌝ }
 {
-    four_bytes(bytes, i) * 256 + byte(bytes, i + 4)
+    four_bytes(bytes, i) as u64 * 256 + byte(bytes, i + 4) as u64
 }
 
 // A field that lies in one byte.
@@ -96,7 +96,7 @@ fn read_part(bytes: &[u8], position: usize, width: u32) -> u64
     ensures { λ r. ⌜ r ≡ field-at (now (bytes .entry)) position width ⌝ }
 {
     let offset = (position % 8) as u32;
-    cut(byte(bytes, position / 8), 8 - offset - width, width)
+    cut(byte(bytes, position / 8) as u64, 8 - offset - width, width)
 }
 
 // A field, byte by byte: for the last bytes, where a window of five does not fit.

@@ -40,7 +40,7 @@ use Rattle.bits.specs.declared.pen.Pen.{Pen}
 use Rattle.bits.specs.Wrote.{Wrote, wrote-pack}
 use Rattle.bits.specs.Penned.{Ready, Penned, fresh, reach, waiting}
 use Rattle.bits.specs.Laws.Penned.{penned-then, penned-wrote}
-use Rattle.image.specs.Writing.{PiecesFit, NodesFit, EdgesFit, EntriesFit, SlotsFit, ListsFit, ImageFits, live-payloads, record-at, live-records, count-bits, slot-bits}
+use Rattle.image.specs.Writing.{PiecesFit, NodesFit, EdgesFit, SlotsFit, ListsFit, ImageFits, live-payloads, record-at, live-records, count-bits, slot-bits}
 
 -- ---- the survivors, in words
 
@@ -143,11 +143,11 @@ module _ {w : Words} {width : ℕ} {s : List ℕ} (h : SlotsFit w width s) where
       }
 
   -- after the nodes the edges have room
-  pub edges-fit : {t u ranks : List ℕ} {q r : Pen} → Penned s fresh (count-bits (w .counts .nodes .live) (w .counts .edges .live)) t q
+  pub edges-fit : {t u ranks : List ℕ} {all : Bool} {q r : Pen} → Penned s fresh (count-bits (w .counts .nodes .live) (w .counts .edges .live)) t q
       → Penned t q (row node-payload-width (live-payloads (w .nodes) (w .live-nodes) (w .counts .nodes .bound))) u r
-      → Ranked (w .live-nodes) (w .counts .nodes .bound) ranks
-      → EdgesFit u r width (w .live-nodes) (w .counts .nodes .bound) ranks (w .live-edges) (w .counts .edges .bound) (w .outgoing) (w .incoming) (w .lows) (w .highs)
-  edges-fit {u = u} {q = q} {r} counted a ranked =
+      → Ranked (w .live-nodes) (w .counts .nodes .bound) ranks → (all ≡ true → w .counts .nodes .live ≡ w .counts .nodes .bound)
+      → EdgesFit u r width (w .live-nodes) (w .counts .nodes .bound) ranks all (w .live-edges) (w .counts .edges .bound) (w .outgoing) (w .incoming) (w .lows) (w .highs)
+  edges-fit {u = u} {q = q} {r} counted a ranked none-removed =
       let k = h .checked in
       let n = w .counts .nodes .live in
       let m = w .counts .edges .live in
@@ -160,7 +160,7 @@ module _ {w : Words} {width : ℕ} {s : List ℕ} (h : SlotsFit w width s) where
       record {
         ranks-there = record {
           narrow = rw (h .holds) (width-few n (nodes-limit k));
-          ranked = ranked;
+          numbered = record { ranked = ranked; whole = λ set. sym (k .nodes .live .live-right) ∙ none-removed set };
           wide = rw (h .holds) (let few = nodes-limit k in omega (arith, width-holds n (omega arith), k .nodes .live .live-right));
         };
         long = omega (arith, k .edges .live-long, k .edges .bounded .bound-within);
@@ -181,17 +181,6 @@ module _ {w : Words} {width : ℕ} {s : List ℕ} (h : SlotsFit w width s) where
       → Penned s fresh (slot-bits width (survivors (lists w))) v z
   penned-slots a b c = let k = h .checked in rw (many-nodes k, many-edges k, left-nodes k, left-edges k) (penned-then a (penned-then b c))
 
--- ---- the lists
-
--- once the ranks are there
-pub entries-fit : {s : List ℕ} {p : Pen} {width : ℕ} {live : List ℕ} {slots : ℕ} {entries ranks : List ℕ} → ListsFit s p width live slots entries → Ranked live slots ranks
-    → EntriesFit s p width live slots ranks entries
-entries-fit h ranked = record {
-  ranks-there = record { narrow = h .narrow; ranked = ranked; wide = h .wide };
-  entries-live = h .entries-live;
-  room = h .room;
-}
-
 -- ---- the whole
 
 module _ {w : Words} {work s : List ℕ} (h : ImageFits w work s) where
@@ -211,9 +200,9 @@ module _ {w : Words} {work s : List ℕ} (h : ImageFits w work s) where
         (rw (many-nodes (h .checked), many-edges (h .checked), node-holds) (omega arith))
 
     -- after the slots the lists have room, and the width holds every entry
-    pub lists-fit : {t : List ℕ} {q : Pen} → Penned s fresh (slot-bits width here) t q
-        → ListsFit t q entry-width (w .live-edges) (w .counts .edges .bound) (take (2 * w .counts .edges .live) work)
-    lists-fit {t} {q} a =
+    pub lists-fit : {t : List ℕ} {all : Bool} {q : Pen} → Penned s fresh (slot-bits width here) t q → (all ≡ true → w .counts .edges .live ≡ w .counts .edges .bound)
+        → ListsFit t q entry-width (w .live-edges) (w .counts .edges .bound) all (take (2 * w .counts .edges .live) work)
+    lists-fit {t} {q = q} a none-removed =
         let k = h .checked in
         let n = w .counts .nodes .live in
         let m = w .counts .edges .live in
@@ -225,6 +214,7 @@ module _ {w : Words} {work s : List ℕ} (h : ImageFits w work s) where
           narrow = rw edge-holds (width-few m few-edges);
           long = omega (arith, k .edges .live-long, k .edges .bounded .bound-within);
           few = omega (arith, k .edges .bounded .bound-within, k .axis Outgoing .sized .edges-within);
+          whole = λ set. sym (k .edges .live .live-right) ∙ none-removed set;
           wide = rw edge-holds (omega (arith, width-holds m (omega arith), k .edges .live .live-right));
           entries-live = λ i l. subst (λ (entries : List ℕ). getD (edge-live w) (getD entries i 0) false ≡ true) (sym (h .listed))
               (both-live k (getD (both-walks w) i 0) (member-at (both-walks w) i 0 (omega (arith, size, both-length k))));

@@ -1,7 +1,7 @@
 -- A turn of each writer's loop has what it needs: the piece that comes next has room, and its value fits its width.
-use Prim.Native.Nat.{ℕ, _+_, _*_, _^_, _≤_, _<_}
-use mathlib.Core.Path.{_≡_, refl, ap, ap₂, _∙_}
-use mathlib.Core.Bool.{true, false}
+use Prim.Native.Nat.{ℕ, zero, suc, _+_, _*_, _^_, _≤_, _<_}
+use mathlib.Core.Path.{_≡_, refl, sym, ap, _∙_}
+use mathlib.Core.Bool.{Bool, true, false}
 use mathlib.Core.List.{List, [], _∷_, _++_, append-nil, append-assoc}
 use native.Mathlib.Omega.{arith}
 use native.Mathlib.Nat.{mul-one, lt-of-lt-of-le}
@@ -11,10 +11,13 @@ use lib.Arith.{digits-lt}
 use Rattle.plain.specs.declared.EdgePayload.{EdgePayload}
 use Rattle.plain.specs.Compaction.{EdgeRecord, rank}
 use Rattle.plain.specs.Numbers.{LIMIT}
+use Rattle.plain.specs.Lists.{count}
+use Rattle.plain.specs.Reads.{live-count}
 use Rattle.plain.specs.Bits.{bits-of}
 use Rattle.plain.specs.Image.{edge-bits, record-width, node-payload-width, weight-width, count-width}
 use Rattle.plain.specs.Laws.Bits.{length-bits-of}
 use Rattle.plain.specs.Laws.ImageBits.{length-edge-bits}
+use Rattle.plain.specs.Laws.ListLaws.{count-length}
 use Rattle.plain.specs.Laws.Rank.{rank-live, live-below}
 use Rattle.liveness.specs.Flags.{live-flags}
 use Rattle.liveness.specs.FlagLaws.{length-flags}
@@ -22,7 +25,7 @@ use Rattle.liveness.specs.Passed.{passed-live}
 use Rattle.bits.specs.declared.pen.Pen.{Pen}
 use Rattle.bits.specs.Penned.{Puts, Penned, reach, fresh}
 use Rattle.bits.specs.Laws.Penned.{penned-then, bits-behind}
-use Rattle.image.specs.Writing.{PiecesFit, NodesFit, RecordFits, RanksThere, EdgeFits, EdgesFit, EntriesFit, record-bits, record-at, count-bits}
+use Rattle.image.specs.Writing.{PiecesFit, NodesFit, RecordFits, RanksThere, EdgeFits, EdgesFit, EntriesFit, Numbered, record-bits, record-at, count-bits}
 use Rattle.image.proofs.Strung.{StrungTo, StrungLive, entry-room, live-room}
 
 -- a piece of at most 32 bits that has room
@@ -105,8 +108,21 @@ module _ {s : List ℕ} {p : Pen} {w source target : ℕ} (h : RecordFits s p w 
 pub length-record-bits : (w : ℕ) (e : EdgeRecord) → length (record-bits w e) ≡ record-width w
 length-record-bits w e = length-edge-bits w (e ∷ []) ∙ mul-one (record-width w)
 
+-- a slot is its own rank where none is removed
+own-rank : (flags : List Bool) (x : ℕ) → length flags ≤ live-count flags → x ≤ length flags → rank flags x ≡ x
+unfolding count rank
+own-rank flags zero full l = refl
+own-rank [] (suc x) full l = absurd (omega arith)
+own-rank (true ∷ flags) (suc x) full l = omega (arith, own-rank flags x (omega arith) (omega arith))
+own-rank (false ∷ flags) (suc x) full l = absurd (omega (arith, count-length (λ (f : Bool). f) flags))
+
+pub whole-number : {live : List ℕ} {slots : ℕ} {ranks : List ℕ} {all : Bool} (x : ℕ) → Numbered live slots ranks all → all ≡ true → x < slots
+    → x ≡ rank (live-flags live slots) x
+whole-number {live} {slots} x h set l =
+    sym (own-rank (live-flags live slots) x (omega (arith, length-flags live slots, h .whole set)) (omega (arith, length-flags live slots)))
+
 -- a live slot is below the bound, and its rank is below 2 ^ w
-pub rank-there : {live : List ℕ} {slots : ℕ} {ranks : List ℕ} {w : ℕ} → RanksThere live slots ranks w → (x : ℕ) → getD (live-flags live slots) x false ≡ true
+pub rank-there : {live : List ℕ} {slots : ℕ} {ranks : List ℕ} {all : Bool} {w : ℕ} → RanksThere live slots ranks all w → (x : ℕ) → getD (live-flags live slots) x false ≡ true
     → (x < slots) × (rank (live-flags live slots) x < 2 ^ w)
 rank-there {live} {slots} h x l = (
   omega (arith, live-below (live-flags live slots) x l, length-flags live slots),
@@ -114,7 +130,7 @@ rank-there {live} {slots} h x l = (
 )
 
 -- ranks that were computed fit a record
-pub ranks-fit : {s : List ℕ} {p : Pen} {w : ℕ} {live : List ℕ} {slots : ℕ} {ranks : List ℕ} {source target a b : ℕ} → EdgeFits s p w live slots ranks source target
+pub ranks-fit : {s : List ℕ} {p : Pen} {w : ℕ} {live : List ℕ} {slots : ℕ} {ranks : List ℕ} {all : Bool} {source target a b : ℕ} → EdgeFits s p w live slots ranks all source target
     → a ≡ rank (live-flags live slots) source → b ≡ rank (live-flags live slots) target → RecordFits s p w a b
 ranks-fit {source = source} {target} h p q = record {
   narrow = h .ranks-there .narrow;
@@ -124,10 +140,10 @@ ranks-fit {source = source} {target} h p q = record {
 }
 
 -- the record that comes next has room
-pub edge-room : {s : List ℕ} {p : Pen} {w : ℕ} {live : List ℕ} {slots : ℕ} {ranks live-edges : List ℕ} {bound : ℕ} {outgoing incoming lows highs : List ℕ} {e : ℕ} {q : Pen} {t : List ℕ}
-    → EdgesFit s p w live slots ranks live-edges bound outgoing incoming lows highs
+pub edge-room : {s : List ℕ} {p : Pen} {w : ℕ} {live : List ℕ} {slots : ℕ} {ranks : List ℕ} {all : Bool} {live-edges : List ℕ} {bound : ℕ} {outgoing incoming lows highs : List ℕ} {e : ℕ} {q : Pen} {t : List ℕ}
+    → EdgesFit s p w live slots ranks all live-edges bound outgoing incoming lows highs
     → StrungLive (live-flags live-edges bound) s p (record-width w) (λ i. record-bits w (record-at live slots outgoing incoming lows highs i)) e t q → e < bound
-    → EdgeFits t q w live slots ranks (getD outgoing e 0) (getD incoming e 0)
+    → EdgeFits t q w live slots ranks all (getD outgoing e 0) (getD incoming e 0)
 edge-room {live-edges = live-edges} {bound} {e = e} h a l =
     let low : e < length (live-flags live-edges bound) = rw (length-flags live-edges bound) l in
     let alive = passed-live (a .passed) low in
@@ -145,7 +161,7 @@ abbrev pub entry-bits : ℕ → List ℕ → ℕ → ℕ → List ℕ
 entry-bits w live slots e = bits-of w (rank (live-flags live slots) e)
 
 -- the entry that comes next has room, and its rank fits
-pub next-entry : {s : List ℕ} {p : Pen} {w : ℕ} {live : List ℕ} {slots : ℕ} {ranks entries : List ℕ} {i r : ℕ} {q : Pen} {t : List ℕ} → EntriesFit s p w live slots ranks entries
+pub next-entry : {s : List ℕ} {p : Pen} {w : ℕ} {live : List ℕ} {slots : ℕ} {ranks : List ℕ} {all : Bool} {entries : List ℕ} {i r : ℕ} {q : Pen} {t : List ℕ} → EntriesFit s p w live slots ranks all entries
     → StrungTo s p w (entry-bits w live slots) entries i t q → i < length entries → r ≡ rank (live-flags live slots) (getD entries i 0) → Puts t q w r
 next-entry {entries = entries} {i} h a l is =
     piece-room (omega (arith, h .ranks-there .narrow)) (rw is (rank-there (h .ranks-there) (getD entries i 0) (h .entries-live i l) .1)) (entry-room a (h .room) l)

@@ -1,7 +1,7 @@
 -- What the writers of an image's parts take, and the bits that they put.
 use Prim.Native.Nat.{ℕ, _+_, _*_, _^_, _≤_, _<_}
 use mathlib.Core.Path.{_≡_}
-use mathlib.Core.Bool.{true, false}
+use mathlib.Core.Bool.{Bool, true, false}
 use mathlib.Core.List.{List, [], _∷_, _++_, map}
 use lib.ListN.{length, take, getD}
 use Rattle.plain.specs.declared.EdgePayload.{EdgePayload}
@@ -56,22 +56,27 @@ abbrev pub ranked-record : List ℕ → ℕ → ℕ → ℕ → EdgePayload → 
 ranked-record live slots source target payload =
     record { source = rank (live-flags live slots) source; target = rank (live-flags live slots) target; payload = payload }
 
--- live slots, the counts before their words, and a width that holds their ranks
-pub record RanksThere (live : List ℕ) (slots : ℕ) (ranks : List ℕ) (w : ℕ) : Type 0 where
-  pub narrow : w ≤ 16
+-- live slots and the counts before their words, and a flag that is set only where no slot is removed
+pub record Numbered (live : List ℕ) (slots : ℕ) (ranks : List ℕ) (all : Bool) : Type 0 where
   pub ranked : Ranked live slots ranks
+  pub whole : all ≡ true → live-count (live-flags live slots) ≡ slots
+
+-- these, and a width that holds their ranks
+pub record RanksThere (live : List ℕ) (slots : ℕ) (ranks : List ℕ) (all : Bool) (w : ℕ) : Type 0 where
+  pub narrow : w ≤ 16
+  pub numbered : Numbered live slots ranks all
   pub wide : live-count (live-flags live slots) ≤ 2 ^ w
 
 -- one live edge
-pub record EdgeFits (s : List ℕ) (p : Pen) (w : ℕ) (live : List ℕ) (slots : ℕ) (ranks : List ℕ) (source target : ℕ) : Type 0 where
-  pub ranks-there : RanksThere live slots ranks w
+pub record EdgeFits (s : List ℕ) (p : Pen) (w : ℕ) (live : List ℕ) (slots : ℕ) (ranks : List ℕ) (all : Bool) (source target : ℕ) : Type 0 where
+  pub ranks-there : RanksThere live slots ranks all w
   pub source-live : getD (live-flags live slots) source false ≡ true
   pub target-live : getD (live-flags live slots) target false ≡ true
   pub room : PiecesFit s p (record-width w) 1
 
 -- all live edges
-pub record EdgesFit (s : List ℕ) (p : Pen) (w : ℕ) (live : List ℕ) (slots : ℕ) (ranks live-edges : List ℕ) (bound : ℕ) (outgoing incoming lows highs : List ℕ) : Type 0 where
-  pub ranks-there : RanksThere live slots ranks w
+pub record EdgesFit (s : List ℕ) (p : Pen) (w : ℕ) (live : List ℕ) (slots : ℕ) (ranks : List ℕ) (all : Bool) (live-edges : List ℕ) (bound : ℕ) (outgoing incoming lows highs : List ℕ) : Type 0 where
+  pub ranks-there : RanksThere live slots ranks all w
   pub long : bound ≤ 64 * length live-edges
   pub sources-there : bound ≤ length outgoing
   pub targets-there : bound ≤ length incoming
@@ -104,16 +109,17 @@ pub record SlotsFit (w : Words) (width : ℕ) (s : List ℕ) : Type 0 where
 -- ---- the lists' entries
 
 -- entries that are live edges, written by their ranks
-pub record EntriesFit (s : List ℕ) (p : Pen) (w : ℕ) (live : List ℕ) (slots : ℕ) (ranks entries : List ℕ) : Type 0 where
-  pub ranks-there : RanksThere live slots ranks w
+pub record EntriesFit (s : List ℕ) (p : Pen) (w : ℕ) (live : List ℕ) (slots : ℕ) (ranks : List ℕ) (all : Bool) (entries : List ℕ) : Type 0 where
+  pub ranks-there : RanksThere live slots ranks all w
   pub entries-live : (i : ℕ) → i < length entries → getD (live-flags live slots) (getD entries i 0) false ≡ true
   pub room : PiecesFit s p w (length entries)
 
 -- the same before the ranks are there
-pub record ListsFit (s : List ℕ) (p : Pen) (width : ℕ) (live : List ℕ) (slots : ℕ) (entries : List ℕ) : Type 0 where
+pub record ListsFit (s : List ℕ) (p : Pen) (width : ℕ) (live : List ℕ) (slots : ℕ) (all : Bool) (entries : List ℕ) : Type 0 where
   pub narrow : width ≤ 16
   pub long : slots ≤ 64 * length live
   pub few : slots ≤ LIMIT
+  pub whole : all ≡ true → live-count (live-flags live slots) ≡ slots
   pub wide : live-count (live-flags live slots) ≤ 2 ^ width
   pub entries-live : (i : ℕ) → i < length entries → getD (live-flags live slots) (getD entries i 0) false ≡ true
   pub room : PiecesFit s p width (length entries)

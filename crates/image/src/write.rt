@@ -24,7 +24,7 @@ use validate::judging::judge;
 use validate::judging::no_store;
 ghost use mathlib.Core.Path.{_≡_};
 ghost use mathlib.Core.List.{map};
-ghost use Prim.Native.Nat.{_≤_};
+ghost use Prim.Native.Nat.{_<_, _≤_};
 ghost use lib.ListN.{length};
 ghost use Rattle.plain.specs.Numbers.{LIMIT};
 ghost use Rattle.plain.specs.Lists.{written};
@@ -42,6 +42,7 @@ ghost use Rattle.image.specs.Writing.{
   EdgeFits,
   EdgesFit,
   EntriesFit,
+  Numbered,
   SlotsFit,
   ListsFit,
   ImageFits,
@@ -102,6 +103,17 @@ fn write_record(
     put(bytes, third, WEIGHT_WIDTH, payload.high as u64)
 }
 
+// The new number of a slot: how many live slots stand before it, or the slot itself where none is removed, as `all` says. Internal.
+fn new_number(live: &[u64], slots: usize, ranks: &[u32], all: bool, slot: u32) -> u32
+    requires { ⌜ Numbered (now live) slots (now ranks) all × (slot < slots) ⌝ }
+    ensures { λ r. ⌜ r ≡ rank (live-flags (now (live .entry)) slots) slot ⌝ }
+{
+    if all {
+        return slot;
+    }
+    rank_by(live, slots, ranks, slot as usize)
+}
+
 // Writes the record of a live edge, its ends by their new numbers. Internal.
 fn write_edge(
     bytes: &mut [u8],
@@ -110,19 +122,20 @@ fn write_edge(
     live: &[u64],
     slots: usize,
     ranks: &[u32],
+    all: bool,
     source: u32,
     target: u32,
     payload: EdgePayload,
 ) -> Pen
-    requires { ⌜ EdgeFits (now bytes) pen width (now live) slots (now ranks) source target ⌝ }
+    requires { ⌜ EdgeFits (now bytes) pen width (now live) slots (now ranks) all source target ⌝ }
     ensures { λ r. ⌜ Penned (now (bytes .entry)) pen (record-bits width (ranked-record (now (live .entry)) slots source target payload)) (now (bytes .exit)) r ⌝ }
 {
-    let first = rank_by(live, slots, ranks, source as usize);
-    let second = rank_by(live, slots, ranks, target as usize);
+    let first = new_number(live, slots, ranks, all, source);
+    let second = new_number(live, slots, ranks, all, target);
     write_record(bytes, pen, width, first, second, payload)
 }
 
-// Writes the records of the live edges in slot order, and answers the pen after them. `live`, `slots` and `ranks` are the nodes', `live_edges` and `bound` the edges'.
+// Writes the records of the live edges in slot order, and answers the pen after them. `live`, `slots`, `ranks` and `all` are the nodes', `live_edges` and `bound` the edges'.
 // Internal.
 fn write_edges(
     bytes: &mut [u8],
@@ -131,6 +144,7 @@ fn write_edges(
     live: &[u64],
     slots: usize,
     ranks: &[u32],
+    all: bool,
     live_edges: &[u64],
     bound: usize,
     outgoing: &[u32],
@@ -138,7 +152,7 @@ fn write_edges(
     lows: &[u32],
     highs: &[u32],
 ) -> Pen
-    requires { ⌜ EdgesFit (now bytes) pen width (now live) slots (now ranks) (now «live_edges») bound (now outgoing) (now incoming) (now lows) (now highs) ⌝ }
+    requires { ⌜ EdgesFit (now bytes) pen width (now live) slots (now ranks) all (now «live_edges») bound (now outgoing) (now incoming) (now lows) (now highs) ⌝ }
     ensures { λ r. ⌜ Penned (now (bytes .entry)) pen (edge-bits width
         (live-records (now (live .entry)) slots (now («live_edges» .entry)) bound (now (outgoing .entry)) (now (incoming .entry)) (now (lows .entry)) (now (highs .entry))))
         (now (bytes .exit)) r ⌝ }
@@ -157,6 +171,7 @@ fn write_edges(
             live,
             slots,
             ranks,
+            all,
             outgoing[e],
             incoming[e],
             payload,
@@ -174,15 +189,16 @@ fn write_entries(
     live: &[u64],
     slots: usize,
     ranks: &[u32],
+    all: bool,
     entries: &[u32],
 ) -> Pen
-    requires { ⌜ EntriesFit (now bytes) pen width (now live) slots (now ranks) (now entries) ⌝ }
+    requires { ⌜ EntriesFit (now bytes) pen width (now live) slots (now ranks) all (now entries) ⌝ }
     ensures { λ r. ⌜ Penned (now (bytes .entry)) pen (row width (map (rank (live-flags (now (live .entry)) slots)) (now (entries .entry)))) (now (bytes .exit)) r ⌝ }
 {
     let mut at = pen;
     let mut i: usize = 0;
     while i < entries.len() {
-        let entry = rank_by(live, slots, ranks, entries[i] as usize);
+        let entry = new_number(live, slots, ranks, all, entries[i]);
         at = put(bytes, at, width, entry as u64);
         i += 1;
     }
@@ -220,6 +236,7 @@ fn write_slots(
         live_nodes,
         slots,
         &ranks,
+        node_slots.live == node_slots.bound,
         live_edges,
         edge_slots.bound as usize,
         outgoing,
@@ -236,14 +253,15 @@ fn write_lists(
     width: u32,
     live: &[u64],
     slots: usize,
+    all: bool,
     entries: &[u32],
 ) -> Pen
-    requires { ⌜ ListsFit (now bytes) pen width (now live) slots (now entries) ⌝ }
+    requires { ⌜ ListsFit (now bytes) pen width (now live) slots all (now entries) ⌝ }
     ensures { λ r. ⌜ Penned (now (bytes .entry)) pen (row width (map (rank (live-flags (now (live .entry)) slots)) (now (entries .entry)))) (now (bytes .exit)) r ⌝ }
 {
     let mut ranks: [u32; LIVE_WORDS] = [0; LIVE_WORDS];
     write_ranks(live, slots, &mut ranks);
-    write_entries(bytes, pen, width, live, slots, &ranks, entries)
+    write_entries(bytes, pen, width, live, slots, &ranks, all, entries)
 }
 
 // Writes the image of what is live in a store to the start of `bytes`; the work slice holds the lists of both directions by old numbers. Internal: there is room.
@@ -286,6 +304,7 @@ fn write_survivors(
         entry_width,
         live_edges,
         edge_slots.bound as usize,
+        edge_slots.live == edge_slots.bound,
         &work[..count],
     );
     finish(bytes, end);

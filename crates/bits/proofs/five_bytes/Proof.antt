@@ -18,4 +18,13 @@ returns : tie.Need-returns
 returns c = let w = joined c in omega arith
 
 pub five-bytes-spec : {M : Type 1} → statement M
-five-bytes-spec = tie.close (tie.spec (λ c κs. search needs) mul-result (λ c. search needs) (λ c κs. search needs) add-result returns)
+five-bytes-spec = tie.close
+    (tie.spec
+    (λ c κs. search needs)
+    (λ c. search needs)
+    mul-result
+    (λ c. search needs)
+    (λ c κs. search needs)
+    (λ c. search needs)
+    add-result
+    returns)

@@ -20,11 +20,11 @@ abbrev piece : ℕ → List ℕ → ℕ → List ℕ → List ℕ → List ℕ �
 piece width live slots outgoing incoming lows highs e = record-bits width (record-at live slots outgoing incoming lows highs e)
 
 abbrev Inv-loop : tie.InvT-loop
-Inv-loop bytes₀ width live slots ranks live-edges bound outgoing incoming lows highs at₀ e₀ bytes at e =
+Inv-loop bytes₀ width live slots ranks all live-edges bound outgoing incoming lows highs at₀ e₀ bytes at e =
     StrungLive (live-flags live-edges bound) bytes₀ at₀ (record-width width) (piece width live slots outgoing incoming lows highs) e bytes at
 
 abbrev μ-loop : tie.MeasureT-loop
-μ-loop bytes₀ width live slots ranks live-edges bound outgoing incoming lows highs at₀ e₀ bytes at e = bound - e
+μ-loop bytes₀ width live slots ranks all live-edges bound outgoing incoming lows highs at₀ e₀ bytes at e = bound - e
 
 -- the places on the way
 abbrev start : tie.At-loop Inv-loop μ-loop → tie.Start Inv-loop μ-loop

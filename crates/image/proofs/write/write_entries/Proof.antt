@@ -12,11 +12,11 @@ use Rattle.image.proofs.write.write_entries.Statement.{statement}
 use Rattle.image.proofs.write.write_entries.Tie as tie
 
 abbrev Inv-loop : tie.InvT-loop
-Inv-loop bytes₀ width live slots ranks entries at₀ i₀ bytes at i =
+Inv-loop bytes₀ width live slots ranks all entries at₀ i₀ bytes at i =
     (i ≤ length entries) × StrungTo bytes₀ at₀ width (entry-bits width live slots) entries i bytes at
 
 abbrev μ-loop : tie.MeasureT-loop
-μ-loop bytes₀ width live slots ranks entries at₀ i₀ bytes at i = length entries - i
+μ-loop bytes₀ width live slots ranks all entries at₀ i₀ bytes at i = length entries - i
 
 -- the places on the way
 abbrev start : tie.At-loop Inv-loop μ-loop → tie.Start Inv-loop μ-loop
@@ -31,18 +31,18 @@ loop-holds c =
     let a = s .args in
     (omega arith, entry-none (a .bytes .now) (a .pen) (a .width) (entry-bits (a .width) (a .live .now) (a .slots)) (a .entries .now) (s .pre .room))
 
-rank-by-requires : tie.Need-rank-by-requires Inv-loop μ-loop
-rank-by-requires c κs =
+new-number-requires : tie.Need-new-number-requires Inv-loop μ-loop
+new-number-requires c κs =
     let turn = c .before in
     let s = start (turn .before) in (
-      s .pre .ranks-there .ranked,
+      s .pre .ranks-there .numbered,
       rank-there (s .pre .ranks-there) (getD (s .args .entries .now) (turn .before .loop .i) 0) (s .pre .entries-live (turn .before .loop .i) (turn .loop-test .taken)) .0,
     )
 
 put-requires : tie.Need-put-requires Inv-loop μ-loop
 put-requires c κs =
     let turn = c .before .before .before in
-    next-entry (start (turn .before) .pre) (turn .before .loop .inv .1) (turn .loop-test .taken) (c .before .rank-by .ensures)
+    next-entry (start (turn .before) .pre) (turn .before .loop .inv .1) (turn .loop-test .taken) (c .before .new-number .ensures)
 
 loop-again : tie.Need-loop-again Inv-loop μ-loop
 loop-again c =
@@ -51,7 +51,7 @@ loop-again c =
     let a = start (turn .before) .args in (
       omega (arith, turn .loop-test .taken),
       entry-more (turn .before .loop .inv .1) (λ e. length-bits-of (a .width) (rank (live-flags (a .live .now) (a .slots)) e)) (turn .loop-test .taken)
-          (rw (c .before .before .before .before .rank-by .ensures) at (written .put .ensures)),
+          (rw (c .before .before .before .before .new-number .ensures) at (written .put .ensures)),
     )
 
 returns : tie.Need-returns Inv-loop μ-loop
@@ -69,8 +69,7 @@ write-entries-spec =
     loop-holds
     (λ c. search needs)
     (λ c. search needs)
-    (λ c. omega (arith, c .shared-slice-known4 .given (c .before .before .loop .i)))
-    rank-by-requires
+    new-number-requires
     (λ c. search needs)
     put-requires
     (λ c. search needs)

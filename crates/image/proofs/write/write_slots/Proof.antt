@@ -1,5 +1,6 @@
 -- `image::write::write_slots` meets its contract: counts, nodes and edges follow each other.
 use borrow.Author.Needs.{needs}
+use borrow.Author.Tests.{eqb-true}
 use Rattle.image.proofs.Surviving.{node-words, node-slots, ranks-room, counts-fit, nodes-fit, edges-fit, penned-slots}
 use Rattle.image.proofs.write.write_slots.Statement.{statement}
 use Rattle.image.proofs.write.write_slots.Tie as tie
@@ -27,15 +28,15 @@ write-nodes-requires c κs =
 
 write-edges-requires : tie.Need-write-edges-requires
 write-edges-requires c κs =
-    let nodes = c .before .before .before .before .before in
+    let nodes = c .before .before .before .before .before .before in
     let counts = counted nodes in
     let ranks = ranked counts in
-    edges-fit (entry ranks .pre) (counts .write-counts .ensures) (nodes .write-nodes .ensures) (ranks .write-ranks .ensures)
+    edges-fit (entry ranks .pre) (counts .write-counts .ensures) (nodes .write-nodes .ensures) (ranks .write-ranks .ensures) (eqb-true _ _)
 
 returns : tie.Need-returns
 returns c =
     let edges = c .before .before in
-    let nodes = edges .before .before .before .before .before .before in
+    let nodes = edges .before .before .before .before .before .before .before in
     let counts = counted nodes in
     penned-slots (entry (ranked counts) .pre) (counts .write-counts .ensures) (nodes .write-nodes .ensures) (edges .write-edges .ensures)
 

@@ -3,6 +3,7 @@ use mathlib.Core.Path.{sym}
 use native.Mathlib.Omega.{arith}
 use lib.Seq.{length-take-le}
 use borrow.Author.Needs.{needs}
+use borrow.Author.Tests.{eqb-true}
 use Rattle.plain.specs.Laws.Below.{below-of}
 use Rattle.image.proofs.Surviving.{counts-few, lists-fit, end-fits, wrote-image}
 use Rattle.image.proofs.write.write_survivors.Statement.{statement}
@@ -16,7 +17,7 @@ abbrev widths : tie.After-write-slots → tie.After-least-width2
 widths c = c .before .before .before
 
 abbrev slots : tie.After-write-lists → tie.After-write-slots
-slots c = c .before .before .before .before .before .before
+slots c = c .before .before .before .before .before .before .before
 
 least-width-requires : tie.Need-least-width-requires
 least-width-requires c κs = counts-few (c .before .before .before .before .before .before .before .before .before .before .before .pre .checked) .0
@@ -25,13 +26,13 @@ least-width-requires-2 : tie.Need-least-width-requires-2
 least-width-requires-2 c κs = counts-few (entry c .pre .checked) .1
 
 slice-aggregate-write-lists : tie.Need-slice-aggregate-write-lists
-slice-aggregate-write-lists c = let s = entry (widths (c .before .before .before .before .before) .before) in sym (length-take-le _ (s .args .work .now) (s .pre .work-there))
+slice-aggregate-write-lists c = let s = entry (widths (c .before .before .before .before .before .before) .before) in sym (length-take-le _ (s .args .work .now) (s .pre .work-there))
 
 write-lists-requires : tie.Need-write-lists-requires
 write-lists-requires c κs =
-    let call = c .before .before .before .before .before in
+    let call = c .before .before .before .before .before .before in
     let both = widths call in
-    lists-fit (entry (both .before) .pre) (both .before .least-width .ensures) (both .least-width2 .ensures) (call .write-slots .ensures)
+    lists-fit (entry (both .before) .pre) (both .before .least-width .ensures) (both .least-width2 .ensures) (call .write-slots .ensures) (eqb-true _ _)
 
 finish-requires : tie.Need-finish-requires
 finish-requires c κs =
