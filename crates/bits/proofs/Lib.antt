@@ -1,2 +1,4 @@
 mod Widths
-pub mod Putting
+mod Fields
+mod Wrote
+mod Putting

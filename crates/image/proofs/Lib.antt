@@ -1,8 +1,12 @@
+mod Sizes
 pub mod Ordering
+mod Spread
 pub mod Checking
-pub mod Strung
-pub mod Writing
-pub mod Surviving
+mod Strung
+mod Writing
+mod Surviving
 mod WriteCases
+mod Directions
+mod Reading
 mod Answering
 mod ReadCases

@@ -37,8 +37,9 @@ use Rattle.shape.specs.Laws.Reading.{plain-node-flags, plain-edge-flags, plain-
 use Rattle.relocate.specs.Stores.{checked-end}
 use Rattle.compact.specs.Working.{both-walks, both-length, both-live, both-renumbered}
 use Rattle.bits.specs.declared.pen.Pen.{Pen}
-use Rattle.bits.specs.Wrote.{Wrote, wrote-pack}
+use Rattle.bits.specs.Wrote.{Wrote}
 use Rattle.bits.specs.Penned.{Ready, Penned, fresh, reach, waiting}
+use Rattle.bits.specs.Laws.Wrote.{wrote-pack}
 use Rattle.bits.specs.Laws.Penned.{penned-then, penned-wrote}
 use Rattle.image.specs.Writing.{PiecesFit, NodesFit, EdgesFit, SlotsFit, ListsFit, ImageFits, live-payloads, record-at, live-records, count-bits, slot-bits}
 

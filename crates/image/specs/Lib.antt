@@ -1,4 +1,3 @@
-pub mod Places
 pub mod Checks
 pub mod Writing
 pub mod Spread

@@ -4,7 +4,8 @@ use mathlib.Core.Path.{_≡_, refl, sym, ap, _∙_}
 use mathlib.Core.List.{List, [], _∷_, _++_, append-assoc, append-nil}
 use native.Mathlib.Omega.{arith}
 use lib.ListN.{length, set, length-append}
-use Rattle.bits.specs.Put.{Put, put-length, put-none, put-one, put-then}
+use Rattle.bits.specs.Put.{Put}
+use Rattle.bits.specs.Laws.Put.{put-length, put-none, put-one, put-then}
 
 -- ---- a write and its end
 

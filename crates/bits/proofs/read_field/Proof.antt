@@ -3,7 +3,7 @@ use mathlib.Core.Path.{_≡_}
 use native.Mathlib.Omega.{arith}
 use borrow.Author.Needs.{needs}
 use Rattle.plain.specs.Bits.{field-at}
-use Rattle.bits.specs.Fields.{window-at, field-at-fits}
+use Rattle.bits.proofs.Fields.{window-at, field-at-fits}
 use Rattle.bits.proofs.read_field.Statement.{statement}
 use Rattle.bits.proofs.read_field.Tie as tie
 

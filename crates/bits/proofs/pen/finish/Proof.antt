@@ -5,7 +5,8 @@ use native.Mathlib.Omega.{arith}
 use lib.ListN.{length}
 use borrow.Author.Needs.{needs}
 use Rattle.plain.specs.Bits.{bits-of}
-use Rattle.bits.specs.Wrote.{Wrote, parts-none, parts-more, parts-all}
+use Rattle.bits.specs.Wrote.{Wrote}
+use Rattle.bits.proofs.Wrote.{parts-none, parts-more, parts-all}
 use Rattle.bits.proofs.Putting.{waiting-fits, finishing}
 use Rattle.bits.proofs.pen.finish.Statement.{statement}
 use Rattle.bits.proofs.pen.finish.Tie as tie

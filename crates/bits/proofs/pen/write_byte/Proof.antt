@@ -2,7 +2,7 @@
 use native.Mathlib.Omega.{arith}
 use lib.Bits.{and-mask}
 use borrow.Author.Needs.{needs}
-use Rattle.bits.specs.Wrote.{wrote-byte}
+use Rattle.bits.proofs.Wrote.{wrote-byte}
 use Rattle.bits.proofs.pen.write_byte.Statement.{statement}
 use Rattle.bits.proofs.pen.write_byte.Tie as tie
 

@@ -2,7 +2,7 @@
 use native.Mathlib.Omega.{arith}
 use borrow.Author.Needs.{needs}
 use Rattle.plain.specs.Lotstrip.{space}
-use Rattle.bits.specs.Put.{put-length}
+use Rattle.bits.specs.Laws.Put.{put-length}
 use Rattle.lotstrip_text.specs.Appending.{append-then}
 use Rattle.lotstrip_text.specs.Lines.{line, length-line, length-numbered}
 use Rattle.lotstrip_text.proofs.text.write_line.Statement.{statement}
