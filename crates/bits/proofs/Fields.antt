@@ -1,12 +1,13 @@
 -- How a field is read in parts, and out of a window of whole bytes.
 use Prim.Native.Nat.{ℕ, zero, suc, _+_, _-_, _*_, _/_, _%_, _^_, _≤_, _<_, min}
-use mathlib.Core.Path.{_≡_, sym, ap, _∙_}
+use mathlib.Core.Path.{_≡_, sym, ap, ap₂, _∙_}
 use mathlib.Core.List.{List, _∷_, _++_}
 use native.Mathlib.Omega.{arith}
 use native.Mathlib.Nat.{mod-eq-of-lt, lt-of-lt-of-le, one-mul}
 use lib.ListN.{length, take, drop, getD, length-take, length-drop}
 use lib.Seq.{take-at, drop-at, take-add, drop-drop, split-at}
-use lib.Pow.{pow-mono, shl-exact, high, low}
+use lib.Pow.{pow-mono, shl-exact, shr-shr, high, low}
+use lib.Bits.{bitOr, or-shifted}
 use lib.Dec.{lit<}
 use Rattle.plain.specs.Bits.{bits-of, value-of, bits, field-at}
 use Rattle.plain.specs.Laws.Bits.{length-bits-of, value-of-append, value-of-bits-of, length-bits, bits-append, field-at-lt}
@@ -41,14 +42,45 @@ window-byte s i h l =
     ∙ ap value-of (take-at (bits-of 8 b) (bits (drop (suc i) s)) 8 (length-bits-of 8 b)) ∙ value-of-bits-of 8 b ∙ mod-eq-of-lt l)
 
 -- two windows, one after the other
-pub record Joined (s : List ℕ) (i j v : ℕ) : Type 0 where
-  pub sum : field-at s (8 * i) (8 * j) * 2 ^ v + field-at s (8 * (i + j)) v ≡ field-at s (8 * i) (8 * j + v)
-  pub small : field-at s (8 * i) (8 * j + v) < 2 ^ (8 * j + v)
+window-join : (s : List ℕ) (i j v : ℕ) → 8 * i + (8 * j + v) ≤ 8 * length s
+    → field-at s (8 * i) (8 * j) * 2 ^ v + field-at s (8 * (i + j)) v ≡ field-at s (8 * i) (8 * j + v)
+window-join s i j v h = let e : 8 * (i + j) ≡ 8 * i + 8 * j = omega arith in rw e (sym (field-at-add s (8 * i) (8 * j) v h))
 
-pub window-join : (s : List ℕ) (i j v : ℕ) → 8 * i + (8 * j + v) ≤ 8 * length s → Joined s i j v
-window-join s i j v h =
-    let e : 8 * (i + j) ≡ 8 * i + 8 * j = omega arith in
-    record { sum = rw e (sym (field-at-add s (8 * i) (8 * j) v h)); small = field-at-lt s (8 * i) (8 * j + v) }
+-- four bytes, each shifted to its place
+pub window-four : (s : List ℕ) (i : ℕ) {a b c d : ℕ} → i + 4 ≤ length s → a ≡ field-at s (8 * i) 8 → b ≡ field-at s (8 * (i + 1)) 8
+    → c ≡ field-at s (8 * (i + 2)) 8 → d ≡ field-at s (8 * (i + 3)) 8
+    → bitOr (bitOr (bitOr (a * 2 ^ 24 % 2 ^ 64) (b * 2 ^ 16 % 2 ^ 64)) (c * 2 ^ 8 % 2 ^ 64)) d ≡ field-at s (8 * i) 32
+window-four s i {a} {b} {c} {d} h ea eb ec ed =
+    let la : a < 2 ^ 8 = rw ea (field-at-lt s (8 * i) 8) in
+    let lb : b < 2 ^ 8 = rw eb (field-at-lt s (8 * (i + 1)) 8) in
+    let lc : c < 2 ^ 8 = rw ec (field-at-lt s (8 * (i + 2)) 8) in
+    let ld : d < 2 ^ 8 = rw ed (field-at-lt s (8 * (i + 3)) 8) in
+    let first : bitOr (a * 2 ^ 24 % 2 ^ 64) (b * 2 ^ 16 % 2 ^ 64) ≡ (a * 2 ^ 8 + b) * 2 ^ 16 =
+    let x : a * 2 ^ 24 % 2 ^ 64 ≡ a * 2 ^ 24 = omega arith in
+    let y : b * 2 ^ 16 % 2 ^ 64 ≡ b * 2 ^ 16 = omega arith in
+    let l : b * 2 ^ 16 < 2 ^ 24 = omega arith in
+    let e : a * 2 ^ 24 + b * 2 ^ 16 ≡ (a * 2 ^ 8 + b) * 2 ^ 16 = omega arith in
+    ap₂ bitOr x y ∙ or-shifted a 24 (b * 2 ^ 16) l ∙ e in
+    let second : bitOr ((a * 2 ^ 8 + b) * 2 ^ 16) (c * 2 ^ 8 % 2 ^ 64) ≡ ((a * 2 ^ 8 + b) * 2 ^ 8 + c) * 2 ^ 8 =
+    let y : c * 2 ^ 8 % 2 ^ 64 ≡ c * 2 ^ 8 = omega arith in
+    let l : c * 2 ^ 8 < 2 ^ 16 = omega arith in
+    let e : (a * 2 ^ 8 + b) * 2 ^ 16 + c * 2 ^ 8 ≡ ((a * 2 ^ 8 + b) * 2 ^ 8 + c) * 2 ^ 8 = omega arith in
+    ap (bitOr ((a * 2 ^ 8 + b) * 2 ^ 16)) y ∙ or-shifted (a * 2 ^ 8 + b) 16 (c * 2 ^ 8) l ∙ e in
+    let two = window-join s i 1 8 (omega arith) in
+    let three = window-join s i 2 8 (omega arith) in
+    let four = window-join s i 3 8 (omega arith) in
+    ap (λ (z : ℕ). bitOr (bitOr z (c * 2 ^ 8 % 2 ^ 64)) d) first ∙ ap (λ (z : ℕ). bitOr z d) second ∙ or-shifted ((a * 2 ^ 8 + b) * 2 ^ 8 + c) 8 d ld
+    ∙ omega (arith, ea, eb, ec, ed, two, three, four)
+
+-- eight bytes: four and four
+pub window-eight : (s : List ℕ) (i : ℕ) {a b : ℕ} → i + 8 ≤ length s → a ≡ field-at s (8 * i) 32 → b ≡ field-at s (8 * (i + 4)) 32
+    → bitOr (a * 2 ^ 32 % 2 ^ 64) b ≡ field-at s (8 * i) 64
+window-eight s i {a} {b} h ea eb =
+    let la : a < 2 ^ 32 = rw ea (field-at-lt s (8 * i) 32) in
+    let lb : b < 2 ^ 32 = rw eb (field-at-lt s (8 * (i + 4)) 32) in
+    let x : a * 2 ^ 32 % 2 ^ 64 ≡ a * 2 ^ 32 = omega arith in
+    let joined = window-join s i 4 32 (omega arith) in
+    ap (λ (z : ℕ). bitOr z b) x ∙ or-shifted a 32 b lb ∙ omega (arith, ea, eb, joined)
 
 -- a field in a window of n bits
 pub window-field : (s : List ℕ) (p o w r n : ℕ) → o + w + r ≡ n → p + n ≤ 8 * length s → field-at s p n / 2 ^ r % 2 ^ w ≡ field-at s (p + o) w
@@ -62,6 +94,14 @@ pub window-at : (s : List ℕ) (p w n : ℕ) → p % 8 + w ≤ n → 8 * (p / 8)
     → field-at s (8 * (p / 8)) n / 2 ^ (n - p % 8 - w) % 2 ^ w ≡ field-at s p w
 window-at s p w n h l =
     window-field s (8 * (p / 8)) (p % 8) w (n - p % 8 - w) n (omega arith) l ∙ ap (λ (q : ℕ). field-at s q w) (omega arith)
+
+-- the same, of a window of 64 bits that is first shifted by one
+pub window-past : (s : List ℕ) (p w : ℕ) → p % 8 + w ≤ 63 → 8 * (p / 8) + 64 ≤ 8 * length s
+    → field-at s (8 * (p / 8)) 64 / 2 / 2 ^ (63 - p % 8 - w) % 2 ^ w ≡ field-at s p w
+window-past s p w h l =
+    let e : 1 + (63 - p % 8 - w) ≡ 64 - p % 8 - w = omega arith in
+    ap (λ (z : ℕ). z % 2 ^ w) (shr-shr (field-at s (8 * (p / 8)) 64) 1 (63 - p % 8 - w) ∙ ap (λ (k : ℕ). field-at s (8 * (p / 8)) 64 / 2 ^ k) e)
+    ∙ window-at s p w 64 (omega arith) l
 
 -- ---- a field in parts
 

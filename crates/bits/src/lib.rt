@@ -59,35 +59,30 @@ pub fn raise(x: u64, zeros: u32) -> u64
 }
 
 // The byte at i, as a field.
-fn byte(bytes: &[u8], i: usize) -> u32
+fn byte(bytes: &[u8], i: usize) -> u64
     requires { ⌜ i < length (now bytes) ⌝ }
     ensures { λ r. ⌜ r ≡ field-at (now (bytes .entry)) (8 * i) 8 ⌝ }
 {
-    bytes[i] as u32
+    bytes[i] as u64
 }
 
-// The two bytes from i on.
-fn two_bytes(bytes: &[u8], i: usize) -> u32
-    requires { ⌜ i + 2 ≤ length (now bytes) ⌝ }
-    ensures { λ r. ⌜ r ≡ field-at (now (bytes .entry)) (8 * i) 16 ⌝ }
-{
-    byte(bytes, i) * 256 + byte(bytes, i + 1)
-}
-
-// The four bytes from i on: in 32 bits, so that they are loaded as one.
-fn four_bytes(bytes: &[u8], i: usize) -> u32
+// The four bytes from i on: one expression of shifts and ors, which the compiler makes one load.
+fn four_bytes(bytes: &[u8], i: usize) -> u64
     requires { ⌜ i + 4 ≤ length (now bytes) ⌝ }
     ensures { λ r. ⌜ r ≡ field-at (now (bytes .entry)) (8 * i) 32 ⌝ }
 {
-    two_bytes(bytes, i) * 65536 + two_bytes(bytes, i + 2)
+    (byte(bytes, i) << 24)
+        | (byte(bytes, i + 1) << 16)
+        | (byte(bytes, i + 2) << 8)
+        | byte(bytes, i + 3)
 }
 
-// The five bytes from i on: a window that holds a field of up to 32 bits, wherever in its first byte the field starts.
-fn five_bytes(bytes: &[u8], i: usize) -> u64
-    requires { ⌜ i + 5 ≤ length (now bytes) ⌝ }
-    ensures { λ r. ⌜ r ≡ field-at (now (bytes .entry)) (8 * i) 40 ⌝ }
+// The eight bytes from i on: a window that holds a field of up to 32 bits, wherever in its first byte the field starts.
+fn eight_bytes(bytes: &[u8], i: usize) -> u64
+    requires { ⌜ i + 8 ≤ length (now bytes) ⌝ }
+    ensures { λ r. ⌜ r ≡ field-at (now (bytes .entry)) (8 * i) 64 ⌝ }
 {
-    four_bytes(bytes, i) as u64 * 256 + byte(bytes, i + 4) as u64
+    (four_bytes(bytes, i) << 32) | four_bytes(bytes, i + 4)
 }
 
 // A field that lies in one byte.
@@ -96,10 +91,10 @@ fn read_part(bytes: &[u8], position: usize, width: u32) -> u64
     ensures { λ r. ⌜ r ≡ field-at (now (bytes .entry)) position width ⌝ }
 {
     let offset = (position % 8) as u32;
-    cut(byte(bytes, position / 8) as u64, 8 - offset - width, width)
+    cut(byte(bytes, position / 8), 8 - offset - width, width)
 }
 
-// A field, byte by byte: for the last bytes, where a window of five does not fit.
+// A field, byte by byte: for the last bytes, where a window of eight does not fit.
 fn read_bytewise(bytes: &[u8], position: usize, width: u32) -> u32
     requires { ⌜ Room (now bytes) position width ⌝ }
     ensures { λ r. ⌜ r ≡ field-at (now (bytes .entry)) position width ⌝ }
@@ -122,9 +117,11 @@ pub fn read_field(bytes: &[u8], position: usize, width: u32) -> u32
     ensures { λ r. ⌜ r ≡ field-at (now (bytes .entry)) position width ⌝ }
 {
     let i = position / 8;
-    if i + 5 <= bytes.len() {
+    if i + 8 <= bytes.len() {
         let offset = (position % 8) as u32;
-        return cut(five_bytes(bytes, i), 40 - offset - width, width) as u32;
+        // a shift of one first: a field of no bits at a byte's first bit would need one of 64
+        let window = eight_bytes(bytes, i) >> 1;
+        return cut(window, 63 - offset - width, width) as u32;
     }
     read_bytewise(bytes, position, width)
 }

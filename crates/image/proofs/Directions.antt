@@ -1,5 +1,5 @@
 -- Reading one direction of an image: the axis then holds a new base of the ends and lists that were read.
-use Prim.Native.Nat.{ℕ, _+_, _*_, _≤_, _<_}
+use Prim.Native.Nat.{ℕ, _+_, _*_, _<_}
 use mathlib.Core.Path.{_≡_, sym, ap, subst, subst₂, _∙_}
 use mathlib.Core.List.{List, map}
 use native.Mathlib.Omega.{arith}
@@ -13,11 +13,9 @@ use Rattle.plain.specs.Bits.{fields-at, least-width}
 use Rattle.plain.specs.Image.{record-width}
 use Rattle.plain.specs.WellFormed.{Fitted}
 use Rattle.plain.specs.Laws.Bits.{length-fields-at}
-use Rattle.shape.specs.Columns.{Sized}
 use Rattle.shape.specs.Index.{Rewritten, before, ends-of}
 use Rattle.shape.specs.Laws.Indexing.{rewritten-as}
 use Rattle.shape.specs.Laws.NewBase.{NewBase}
-use Rattle.adjacency.specs.Index.{Compressible}
 use Rattle.compact.specs.Bases.{Rebuildable, Rebuilt, rebuilt-base}
 use Rattle.compact.specs.Slots.{rewritten-range}
 use Rattle.image.specs.Spread.{spread}

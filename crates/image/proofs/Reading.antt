@@ -8,13 +8,11 @@ use lib.ListN.{length, getD}
 use Rattle.plain.specs.declared.TraversalDirection.{TraversalDirection}
 use Rattle.plain.specs.declared.TraversalDirection.the-variants.{Outgoing, Incoming}
 use Rattle.plain.specs.declared.Counts.{Counts}
-use Rattle.plain.specs.Numbers.{LIMIT}
 use Rattle.plain.specs.Lists.{from}
 use Rattle.plain.specs.Bits.{fields-at, least-width}
 use Rattle.plain.specs.Compaction.{EdgeRecord, source-of, target-of}
 use Rattle.plain.specs.Image.{count-width, node-payload-width, weight-width, edge-payload-width, record-width, nodes-in, edges-in, nodes-start, edges-start, outs-start, ins-start, image-size, cut, list-lengths, parsed, broken-image}
 use Rattle.plain.specs.Memory.{Lengths, axis-length}
-use Rattle.plain.specs.Devices.{box, Takes}
 use Rattle.plain.specs.WellFormed.{Fitted, Sound}
 use Rattle.plain.specs.Laws.Bits.{length-fields-at}
 use Rattle.plain.specs.Laws.Below.{below-of}
@@ -22,12 +20,10 @@ use Rattle.plain.specs.Laws.Cutting.{joined-cut, sum-list-lengths}
 use Rattle.plain.specs.Laws.Width.{width-most}
 use Rattle.plain.specs.Laws.Refusals.{Counted, Readable, readable, length-edges-in}
 use Rattle.plain.specs.Laws.ImageLaws.{nodes-length, edges-length, parsed-sound}
-use Rattle.memory.specs.Laws.{Roomy}
 use Rattle.liveness.specs.Calls.{Reset}
 use Rattle.shape.specs.Columns.{Sized}
 use Rattle.shape.specs.Shape.{Words, node-capacity, edge-capacity, lengths-of, axis-words as words-of}
-use Rattle.shape.specs.Kept.{SameLengths, AxisRenewed, Renewed, same-nodes, same-edges, same-highs, same-live-nodes, same-live-edges, same-axis}
-use Rattle.shape.specs.Index.{Rewritten}
+use Rattle.shape.specs.Kept.{AxisRenewed, Renewed, same-nodes, same-edges, same-highs, same-live-nodes, same-live-edges, same-axis}
 use Rattle.shape.specs.Laws.NewBase.{NewBase}
 use Rattle.compact.specs.Slots.{rewritten-range}
 use Rattle.compact.specs.Bases.{rebuilt-renewed}

@@ -1,6 +1,6 @@
 -- The image of what is live in a checked store, from the store's words: its survivors are the live nodes' payloads and the live edges' records, and its lists are the
 -- walks by ranks; each part has room, and all of them are the image's bits.
-use Prim.Native.Nat.{ℕ, _+_, _*_, _^_, _≤_, _<_}
+use Prim.Native.Nat.{ℕ, _+_, _*_, _≤_, _<_}
 use mathlib.Core.Path.{_≡_, sym, ap, ap₂, subst, _∙_}
 use mathlib.Core.Bool.{Bool, true, false}
 use mathlib.Core.List.{List, _++_, map, append-assoc}
@@ -27,7 +27,6 @@ use Rattle.plain.specs.Laws.Compacting.{survivors-sound, length-surviving-nodes
 use Rattle.plain.specs.Laws.ImageBits.{length-edge-bits, below-image-bits, length-image-bits}
 use Rattle.plain.specs.Laws.ImageLaws.{fitted-joined, image-length}
 use Rattle.plain.specs.Laws.Width.{width-holds, width-least}
-use Rattle.liveness.specs.Flags.{live-flags}
 use Rattle.liveness.specs.FlagLaws.{length-flags}
 use Rattle.liveness.specs.WordFlags.{count-le}
 use Rattle.liveness.specs.Ranks.{RanksFit, Ranked}

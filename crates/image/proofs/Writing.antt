@@ -1,6 +1,6 @@
 -- A turn of each writer's loop has what it needs: the piece that comes next has room, and its value fits its width.
 use Prim.Native.Nat.{ℕ, zero, suc, _+_, _*_, _^_, _≤_, _<_}
-use mathlib.Core.Path.{_≡_, refl, sym, ap, _∙_}
+use mathlib.Core.Path.{_≡_, refl, sym, _∙_}
 use mathlib.Core.Bool.{Bool, true, false}
 use mathlib.Core.List.{List, [], _∷_, _++_, append-nil, append-assoc}
 use native.Mathlib.Omega.{arith}
@@ -23,7 +23,7 @@ use Rattle.liveness.specs.Flags.{live-flags}
 use Rattle.liveness.specs.FlagLaws.{length-flags}
 use Rattle.liveness.specs.Passed.{passed-live}
 use Rattle.bits.specs.declared.pen.Pen.{Pen}
-use Rattle.bits.specs.Penned.{Puts, Penned, reach, fresh}
+use Rattle.bits.specs.Penned.{Puts, Penned, fresh}
 use Rattle.bits.specs.Laws.Penned.{penned-then, bits-behind}
 use Rattle.image.specs.Writing.{PiecesFit, NodesFit, RecordFits, RanksThere, EdgeFits, EdgesFit, EntriesFit, Numbered, record-bits, record-at, count-bits}
 use Rattle.image.proofs.Strung.{StrungTo, StrungLive, entry-room, live-room}

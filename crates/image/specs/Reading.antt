@@ -2,7 +2,6 @@
 use Prim.Native.Nat.{ℕ, _+_, _≤_}
 use mathlib.Core.Path.{_≡_}
 use mathlib.Core.List.{List}
-use Rattle.plain.specs.declared.Counts.{Counts}
 use Rattle.plain.specs.Numbers.{LIMIT}
 use Rattle.plain.specs.Bits.{least-width}
 use Rattle.plain.specs.Image.{node-payload-width, weight-width, record-width, nodes-in, edges-in, nodes-start, edges-start, outs-start, ins-start, broken-image}
