@@ -14,7 +14,7 @@ use Rattle.plain.specs.WellFormed.{Fitted}
 use Rattle.plain.specs.Laws.ListLaws.{count-length}
 use Rattle.plain.specs.Laws.Rank.{live-slot-live}
 use Rattle.liveness.specs.Flags.{live-flags}
-use Rattle.liveness.specs.FlagLaws.{length-flags}
+use Rattle.liveness.specs.Laws.Flags.{length-flags}
 use Rattle.shape.specs.Columns.{Sized, cell, end-at}
 use Rattle.shape.specs.Kept.{AxisRenewed}
 use Rattle.shape.specs.Index.{Rewritten, before, ends-of}

@@ -12,13 +12,13 @@ use Rattle.plain.specs.Compaction.{rank}
 use Rattle.plain.specs.Laws.ListLaws.{count-length}
 use Rattle.plain.specs.Laws.Rank.{rank-live, live-below}
 use Rattle.liveness.specs.Calls.{Reset}
-use Rattle.liveness.specs.FlagLaws.{length-flags}
+use Rattle.liveness.specs.Laws.Flags.{length-flags}
 use Rattle.shape.specs.Columns.{end-at}
 use Rattle.shape.specs.Shape.{Words, node-capacity, edge-capacity, node-live, edge-live, axis-words}
 use Rattle.shape.specs.Checked.{Checked}
 use Rattle.shape.specs.Kept.{SameLengths}
 use Rattle.shape.specs.Index.{Rewritten}
-use Rattle.relocate.specs.Stores.{checked-end}
+use Rattle.relocate.specs.Laws.Stores.{checked-end}
 use Rattle.compact.specs.Slots.{kept-word, Keepable, WeightsKeepable, WeightsKept}
 use Rattle.compact.specs.Holding.{based}
 use Rattle.compact.specs.Bases.{Compactable, AxisCompacted}

@@ -18,12 +18,12 @@ use Rattle.plain.specs.Laws.Rank.{live-below, member-live-slots}
 use Rattle.plain.specs.Laws.Compacting.{survivors-sound, length-surviving-nodes, length-surviving-edges}
 use Rattle.plain.specs.Laws.ImageBits.{record-low, record-high}
 use Rattle.liveness.specs.Flags.{live-flags}
-use Rattle.liveness.specs.FlagLaws.{length-flags}
+use Rattle.liveness.specs.Laws.Flags.{length-flags}
 use Rattle.shape.specs.Columns.{end-at}
 use Rattle.shape.specs.Shape.{Words, capacities, node-live, edge-live, axis-words, shape-of, plain-of, lists}
 use Rattle.shape.specs.Checked.{Checked}
 use Rattle.shape.specs.Laws.Reading.{plain-node-flags, plain-edge-flags, plain-end, node-at, edge-at}
-use Rattle.relocate.specs.Stores.{checked-end}
+use Rattle.relocate.specs.Laws.Stores.{checked-end}
 
 -- the words of the live slots, in slot order
 abbrev pub live-words-of : List ℕ → List Bool → List ℕ

@@ -22,13 +22,13 @@ use Rattle.plain.specs.Laws.Operating.{incident}
 use Rattle.plain.specs.Laws.Compacting.{survivors-sound, length-surviving-edges}
 use Rattle.plain.specs.Laws.ImageLaws.{fitted-joined}
 use Rattle.plain.specs.Laws.Rank.{live-below, member-live-slots}
-use Rattle.liveness.specs.FlagLaws.{length-flags}
+use Rattle.liveness.specs.Laws.Flags.{length-flags}
 use Rattle.shape.specs.Chains.{In}
 use Rattle.shape.specs.Shape.{Words, node-live, edge-live, axis-words, lists, node-capacity, edge-capacity}
 use Rattle.shape.specs.Checked.{Checked}
 use Rattle.shape.specs.Laws.Reading.{plain-node-flags, plain-edge-flags}
 use Rattle.adjacency.specs.Walk.{walk-in}
-use Rattle.adjacency.specs.StoreWalks.{checked-walkable, list-is-walk}
+use Rattle.adjacency.specs.Laws.StoreWalks.{checked-walkable, list-is-walk}
 use Rattle.compact.specs.Lists.{live-walks, ListsFit}
 
 -- ---- the lists of the live nodes of well-formed plain lists

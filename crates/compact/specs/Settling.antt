@@ -7,7 +7,7 @@ use lib.ListN.{length, getD}
 use Rattle.plain.specs.declared.TraversalDirection.the-variants.{Outgoing}
 use Rattle.plain.specs.Lists.{written}
 use Rattle.plain.specs.Compaction.{renumbering, survivors, adjacency}
-use Rattle.liveness.specs.FlagLaws.{length-flags}
+use Rattle.liveness.specs.Laws.Flags.{length-flags}
 use Rattle.shape.specs.Shape.{Words, node-live, edge-live, lists}
 use Rattle.shape.specs.Checked.{Checked}
 use Rattle.compact.specs.Slots.{MapFits, written-at, mapped-long}

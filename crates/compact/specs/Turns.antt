@@ -15,7 +15,7 @@ use Rattle.plain.specs.Renumbering.{lookup}
 use Rattle.plain.specs.Laws.Rank.{rank-end, live-slot-rank}
 use Rattle.plain.specs.Laws.Renumberings.{length-renumbering, lookup-from}
 use Rattle.liveness.specs.Flags.{live-flags}
-use Rattle.liveness.specs.FlagLaws.{length-flags}
+use Rattle.liveness.specs.Laws.Flags.{length-flags}
 use Rattle.shape.specs.Index.{Rewritten}
 use Rattle.shape.specs.Laws.Indexing.{rewritten-set, rewritten-all}
 use Rattle.compact.specs.Slots.{kept-word, rewritten-written}

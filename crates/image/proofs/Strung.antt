@@ -14,7 +14,7 @@ use Rattle.plain.specs.Compaction.{EdgeRecord}
 use Rattle.plain.specs.Bits.{bits-of, row}
 use Rattle.plain.specs.Image.{edge-bits}
 use Rattle.liveness.specs.Flags.{next-live}
-use Rattle.liveness.specs.Passed.{Passed, passed-none, passed-fewer, passed-on, passed-all}
+use Rattle.liveness.specs.Laws.Passed.{Passed, passed-none, passed-fewer, passed-on, passed-all}
 use Rattle.bits.specs.declared.pen.Pen.{Pen}
 use Rattle.bits.specs.Penned.{Penned, reach}
 use Rattle.bits.specs.Laws.Penned.{penned-none, penned-then}

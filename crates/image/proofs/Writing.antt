@@ -20,8 +20,8 @@ use Rattle.plain.specs.Laws.ImageBits.{length-edge-bits}
 use Rattle.plain.specs.Laws.ListLaws.{count-length}
 use Rattle.plain.specs.Laws.Rank.{rank-live, live-below}
 use Rattle.liveness.specs.Flags.{live-flags}
-use Rattle.liveness.specs.FlagLaws.{length-flags}
-use Rattle.liveness.specs.Passed.{passed-live}
+use Rattle.liveness.specs.Laws.Flags.{length-flags}
+use Rattle.liveness.specs.Laws.Passed.{passed-live}
 use Rattle.bits.specs.declared.pen.Pen.{Pen}
 use Rattle.bits.specs.Penned.{Puts, Penned, fresh}
 use Rattle.bits.specs.Laws.Penned.{penned-then, bits-behind}

@@ -15,12 +15,12 @@ use Rattle.plain.specs.Compaction.{Survivors, rank, survivors, surviving-list}
 use Rattle.plain.specs.Joining.{raised}
 use Rattle.plain.specs.Laws.ListLaws.{map-same, count-length}
 use Rattle.liveness.specs.Flags.{live-flags}
-use Rattle.liveness.specs.FlagLaws.{length-flags}
+use Rattle.liveness.specs.Laws.Flags.{length-flags}
 use Rattle.shape.specs.Columns.{end-at}
 use Rattle.shape.specs.Shape.{Words, node-live, edge-live, axis-words, lists, node-capacity, edge-capacity}
 use Rattle.shape.specs.Checked.{Checked}
 use Rattle.shape.specs.Laws.Reading.{plain-node-flags}
-use Rattle.adjacency.specs.StoreWalks.{checked-walkable}
+use Rattle.adjacency.specs.Laws.StoreWalks.{checked-walkable}
 use Rattle.compact.specs.ListsStore.{lists-renumbered, lists-live, lists-total}
 use Rattle.compact.specs.Lists.{live-walks}
 use Rattle.compact.specs.Left.{slot-low, end-in, ends-left}

@@ -25,7 +25,7 @@ use Rattle.plain.specs.Laws.ListLaws.{map-getD}
 use Rattle.plain.specs.Laws.Joining.{joined-sound, ends-of-both, columns-of-both, raised-none, joined-raised}
 use Rattle.plain.specs.Laws.ImageBits.{record-low, record-high}
 use Rattle.memory.specs.Laws.{Roomy}
-use Rattle.liveness.specs.FlagLaws.{length-flags}
+use Rattle.liveness.specs.Laws.Flags.{length-flags}
 use Rattle.liveness.specs.Calls.{Reset}
 use Rattle.shape.specs.Columns.{Sized}
 use Rattle.shape.specs.Shape.{Words, node-live, edge-live, axis-words, lists, lengths-of, node-capacity, edge-capacity}

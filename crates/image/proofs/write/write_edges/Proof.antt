@@ -8,8 +8,8 @@ use borrow.Author.Needs.{needs}
 use Rattle.plain.specs.Reads.{live-slots}
 use Rattle.plain.specs.Image.{record-width}
 use Rattle.liveness.specs.Flags.{live-flags}
-use Rattle.liveness.specs.FlagLaws.{length-flags}
-use Rattle.liveness.specs.Passed.{passed-later}
+use Rattle.liveness.specs.Laws.Flags.{length-flags}
+use Rattle.liveness.specs.Laws.Passed.{passed-later}
 use Rattle.image.proofs.Strung.{StrungLive, live-none, live-more, live-all, records-strung}
 use Rattle.image.specs.Writing.{record-bits, record-at}
 use Rattle.image.proofs.Writing.{edge-room, length-record-bits}
