@@ -1,1 +1,4 @@
 mod Widths
+mod Fields
+mod Wrote
+mod Putting

@@ -1,4 +1,5 @@
 pub mod Put
 pub mod Fields
 pub mod Wrote
-pub mod Replaced
+pub mod Penned
+pub mod Laws

@@ -22,7 +22,7 @@ use Rattle.plain.specs.Laws.Bits.{length-fields-at}
 use Rattle.plain.specs.Laws.Width.{width-most}
 use Rattle.plain.specs.Laws.Ascending.{ascending, right-by-order}
 use Rattle.plain.specs.Laws.Refusals.{Counted, Sized, Padded, Ended, sources-in, targets-in, lows-in, highs-in, size-in, padding-in, length-edges-in, refused-3, refused-4, refused-5, refused-6, accepted}
-use Rattle.image.specs.Spread.{spread-at, sources-spread, targets-spread, lows-spread, highs-spread}
+use Rattle.image.proofs.Spread.{spread-at, sources-spread, targets-spread, lows-spread, highs-spread}
 use Rattle.image.specs.Checks.{field-in, end-in, ends-within, weights-ordered, ordered, Few, Filled, Column, Ends, Weights, Entries, Whole}
 
 -- ---- sizes

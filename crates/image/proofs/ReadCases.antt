@@ -13,7 +13,8 @@ use Rattle.plain.specs.Calls.{read-image}
 use Rattle.shape.specs.Shape.{Words, store, lengths-of, axis-words, node-capacity, edge-capacity}
 use Rattle.shape.specs.Kept.{AxisRenewed, Renewed, nothing-spared, renewed-none, renewed-spared, same-nodes, same-edges}
 use Rattle.compact.specs.Laws.Holding.{holding-shape, holding-state, holding-checked, holding-canonical, canonical-leaves}
-use Rattle.image.specs.Reading.{Accepted, placed-holding, placed-renewed, ImagePlaced}
+use Rattle.image.specs.Reading.{Accepted, ImagePlaced}
+use Rattle.image.proofs.Reading.{placed-holding, placed-renewed}
 use Rattle.image.proofs.Answering.{read-accepted}
 use Rattle.image.specs.Calls.{ReadOf}
 

@@ -1,12 +1,8 @@
-pub mod Places
 pub mod Checks
-pub mod Strung
 pub mod Writing
-pub mod Surviving
 pub mod Spread
 pub mod Directions
 pub mod Reading
 pub mod Calls
 pub mod Agreeing
-pub mod WriteCases
 pub mod Refuted

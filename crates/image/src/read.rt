@@ -51,44 +51,44 @@ fn read_fields(
 // Builds the base of one direction once the ends are in place: the offsets counted from them, the joined lists read, every ring empty, and no run.
 fn read_base(
     axis: &mut [u32],
-    edges: usize,
-    nodes: usize,
+    edge_capacity: usize,
+    node_capacity: usize,
     count_nodes: usize,
     count_edges: usize,
     bytes: &[u8],
     position: usize,
     width: u32,
 )
-    requires { ⌜ BaseReadable (now axis) edges nodes «count_nodes» «count_edges» (now bytes) position width ⌝ }
-    ensures { λ _. ⌜ Rebuilt (now (axis .entry)) edges nodes «count_nodes» «count_edges» (fields-at (now (bytes .entry)) position width «count_edges») (now (axis .exit)) ⌝ }
+    requires { ⌜ BaseReadable (now axis) «edge_capacity» «node_capacity» «count_nodes» «count_edges» (now bytes) position width ⌝ }
+    ensures { λ _. ⌜ Rebuilt (now (axis .entry)) «edge_capacity» «node_capacity» «count_nodes» «count_edges» (fields-at (now (bytes .entry)) position width «count_edges») (now (axis .exit)) ⌝ }
 {
-    index::count_offsets(axis, edges, nodes, count_nodes, count_edges);
+    index::count_offsets(axis, edge_capacity, node_capacity, count_nodes, count_edges);
     read_fields(
         bytes,
         position,
         width as usize,
         width,
         axis,
-        edges,
+        edge_capacity,
         count_edges,
     );
-    index::fill_words(axis, 4 * edges, count_nodes, NONE);
-    index::fill_words(axis, 4 * edges + 4 * nodes, count_nodes, 0);
+    index::fill_words(axis, 4 * edge_capacity, count_nodes, NONE);
+    index::fill_words(axis, 4 * edge_capacity + 4 * node_capacity, count_nodes, 0);
 }
 
 // Reads one direction: the ends of the edges from bit `ends` on, a record apart, and the joined lists from bit `lists` on.
 fn read_axis(
     axis: &mut [u32],
-    edges: usize,
-    nodes: usize,
+    edge_capacity: usize,
+    node_capacity: usize,
     count_nodes: u32,
     count_edges: u32,
     bytes: &[u8],
     ends: usize,
     lists: usize,
 )
-    requires { ⌜ AxisReadable (now axis) edges nodes «count_nodes» «count_edges» (now bytes) ends lists ⌝ }
-    ensures { λ _. ⌜ AxisRead (now (axis .entry)) edges nodes «count_nodes» «count_edges» (now (bytes .entry)) ends lists (now (axis .exit)) ⌝ }
+    requires { ⌜ AxisReadable (now axis) «edge_capacity» «node_capacity» «count_nodes» «count_edges» (now bytes) ends lists ⌝ }
+    ensures { λ _. ⌜ AxisRead (now (axis .entry)) «edge_capacity» «node_capacity» «count_nodes» «count_edges» (now (bytes .entry)) ends lists (now (axis .exit)) ⌝ }
 {
     let n = count_nodes as usize;
     let m = count_edges as usize;
@@ -96,7 +96,16 @@ fn read_axis(
     let edge_width = bits::least_width(count_edges);
     let stride = places::record_width(count_nodes);
     read_fields(bytes, ends, stride, node_width, axis, 0, m);
-    read_base(axis, edges, nodes, n, m, bytes, lists, edge_width);
+    read_base(
+        axis,
+        edge_capacity,
+        node_capacity,
+        n,
+        m,
+        bytes,
+        lists,
+        edge_width,
+    );
 }
 
 // Reads the weights of the edges out of their records: the lows, and the highs, each behind its low.
@@ -158,18 +167,18 @@ fn read_payloads(
     read_weights(lows, highs, bytes, count_nodes, count_edges);
 }
 
-// Reads both directions. `edges` and `nodes` are the capacities.
+// Reads both directions.
 fn read_axes(
     outgoing: &mut [u32],
     incoming: &mut [u32],
-    edges: usize,
-    nodes: usize,
+    edge_capacity: usize,
+    node_capacity: usize,
     bytes: &[u8],
     count_nodes: u32,
     count_edges: u32,
 )
-    requires { ⌜ AxesReadable (now outgoing) (now incoming) edges nodes (now bytes) «count_nodes» «count_edges» ⌝ }
-    ensures { λ _. ⌜ AxesRead (now (outgoing .entry)) (now (incoming .entry)) edges nodes (now (bytes .entry)) «count_nodes» «count_edges» (now (outgoing .exit)) (now (incoming .exit)) ⌝ }
+    requires { ⌜ AxesReadable (now outgoing) (now incoming) «edge_capacity» «node_capacity» (now bytes) «count_nodes» «count_edges» ⌝ }
+    ensures { λ _. ⌜ AxesRead (now (outgoing .entry)) (now (incoming .entry)) «edge_capacity» «node_capacity» (now (bytes .entry)) «count_nodes» «count_edges» (now (outgoing .exit)) (now (incoming .exit)) ⌝ }
 {
     let sources = places::edges_start(count_nodes);
     let targets = sources + bits::least_width(count_nodes) as usize;
@@ -177,8 +186,8 @@ fn read_axes(
     let ins = places::ins_start(count_nodes, count_edges);
     read_axis(
         outgoing,
-        edges,
-        nodes,
+        edge_capacity,
+        node_capacity,
         count_nodes,
         count_edges,
         bytes,
@@ -187,8 +196,8 @@ fn read_axes(
     );
     read_axis(
         incoming,
-        edges,
-        nodes,
+        edge_capacity,
+        node_capacity,
         count_nodes,
         count_edges,
         bytes,

@@ -3,15 +3,14 @@
 // every word."
 
 use crate::places::COUNT_WIDTH;
-use crate::places::EDGE_COUNT_START;
-use crate::places::EDGE_PAYLOAD_WIDTH;
 use crate::places::NODE_PAYLOAD_WIDTH;
-use crate::places::NODES_START;
 use crate::places::WEIGHT_WIDTH;
 use crate::places::image_bytes;
 use bits::least_width;
-use bits::write_field;
-use bits::write_padding;
+use bits::pen::Pen;
+use bits::pen::finish;
+use bits::pen::put;
+use bits::raise;
 use compact::lists::write_both;
 use liveness::next_live;
 use liveness::rank_by;
@@ -25,177 +24,188 @@ use validate::judging::judge;
 use validate::judging::no_store;
 ghost use mathlib.Core.Path.{_≡_};
 ghost use mathlib.Core.List.{map};
-ghost use Prim.Native.Nat.{_≤_};
+ghost use Prim.Native.Nat.{_<_, _≤_};
 ghost use lib.ListN.{length};
 ghost use Rattle.plain.specs.Numbers.{LIMIT};
 ghost use Rattle.plain.specs.Lists.{written};
 ghost use Rattle.plain.specs.Compaction.{rank, survivors};
 ghost use Rattle.plain.specs.Bits.{row};
-ghost use Rattle.plain.specs.Image.{payload-bits, edge-bits, image, node-payload-width};
+ghost use Rattle.plain.specs.Image.{edge-bits, image, node-payload-width};
 ghost use Rattle.liveness.specs.Flags.{live-flags};
 ghost use Rattle.shape.specs.Shape.{lists};
 ghost use Rattle.shape.specs.Lent.{lent, at-entry};
-ghost use Rattle.bits.specs.Wrote.{Wrote};
+ghost use Rattle.bits.specs.Penned.{Penned, fresh};
 ghost use Rattle.image.specs.Calls.{WriteOf};
-ghost use Rattle.image.specs.Strung.{WroteTo, record-bits};
-ghost use Rattle.image.specs.Writing.{NodesFit, PayloadFits, RecordFits, EdgeFits, EdgesFit, EntriesFit, live-payloads, ranked-record, live-records};
-ghost use Rattle.image.specs.Surviving.{SlotsFit, ListsFit, ImageFits, count-bits, slot-bits};
+ghost use Rattle.image.specs.Writing.{
+  NodesFit,
+  RecordFits,
+  EdgeFits,
+  EdgesFit,
+  EntriesFit,
+  Numbered,
+  SlotsFit,
+  ListsFit,
+  ImageFits,
+  live-payloads,
+  record-bits,
+  ranked-record,
+  live-records,
+  count-bits,
+  slot-bits,
+};
 
 // The words of live bits that the most slots take.
 const LIVE_WORDS: usize = 512;
 
-// Writes the payloads of the live nodes in slot order, from bit `position` on, and answers the bit after them. Internal: they have room.
-fn write_nodes(
-    bytes: &mut [u8],
-    position: usize,
-    nodes: &[u32],
-    live: &[u64],
-    bound: usize,
-) -> usize
-    requires { ⌜ NodesFit (now bytes) position (now nodes) (now live) bound ⌝ }
-    ensures { λ r. ⌜ WroteTo (now (bytes .entry)) position (row node-payload-width (live-payloads (now (nodes .entry)) (now (live .entry)) bound)) (now (bytes .exit)) r ⌝ }
+// Writes the two counts, the first bits of an image, as one value. Internal.
+fn write_counts(bytes: &mut [u8], nodes: u32, edges: u32) -> Pen
+    requires { ⌜ (4 ≤ length (now bytes)) × ((nodes ≤ LIMIT) × (edges ≤ LIMIT)) ⌝ }
+    ensures { λ r. ⌜ Penned (now (bytes .entry)) fresh (count-bits nodes edges) (now (bytes .exit)) r ⌝ }
 {
-    let mut at = position;
+    let pen = Pen {
+        at: 0,
+        pending: 0,
+        count: 0,
+    };
+    let both = raise(nodes as u64, COUNT_WIDTH) + edges as u64;
+    put(bytes, pen, 2 * COUNT_WIDTH, both)
+}
+
+// Writes the payloads of the live nodes in slot order, and answers the pen after them. Internal: they have room.
+fn write_nodes(bytes: &mut [u8], pen: Pen, nodes: &[u32], live: &[u64], bound: usize) -> Pen
+    requires { ⌜ NodesFit (now bytes) pen (now nodes) (now live) bound ⌝ }
+    ensures { λ r. ⌜ Penned (now (bytes .entry)) pen (row node-payload-width (live-payloads (now (nodes .entry)) (now (live .entry)) bound)) (now (bytes .exit)) r ⌝ }
+{
+    let mut at = pen;
     let mut node = next_live(live, bound, 0);
     while node < bound {
-        write_field(bytes, at, NODE_PAYLOAD_WIDTH, nodes[node]);
-        at += NODE_PAYLOAD_WIDTH as usize;
+        at = put(bytes, at, NODE_PAYLOAD_WIDTH, nodes[node] as u64);
         node = next_live(live, bound, node + 1);
     }
     at
 }
 
-// Writes an edge's payload: its low, then its high. Internal.
-fn write_payload(bytes: &mut [u8], position: usize, payload: EdgePayload)
-    requires { ⌜ PayloadFits (now bytes) position ⌝ }
-    ensures { λ _. ⌜ Wrote (now (bytes .entry)) position (payload-bits payload) (now (bytes .exit)) ⌝ }
-{
-    write_field(bytes, position, WEIGHT_WIDTH, payload.low);
-    write_field(
-        bytes,
-        position + WEIGHT_WIDTH as usize,
-        WEIGHT_WIDTH,
-        payload.high,
-    );
-}
-
-// Writes an edge's ends, in `width` bits each, and its payload. Internal.
+// Writes an edge's ends, in `width` bits each, and its payload: its low, then its high. Internal.
 fn write_record(
     bytes: &mut [u8],
-    position: usize,
+    pen: Pen,
     width: u32,
     source: u32,
     target: u32,
     payload: EdgePayload,
-)
-    requires { ⌜ RecordFits (now bytes) position width source target ⌝ }
-    ensures { λ _. ⌜ Wrote (now (bytes .entry)) position (record-bits width (record { source = source; target = target; payload = payload })) (now (bytes .exit)) ⌝ }
+) -> Pen
+    requires { ⌜ RecordFits (now bytes) pen width source target ⌝ }
+    ensures { λ r. ⌜ Penned (now (bytes .entry)) pen (record-bits width (record { source = source; target = target; payload = payload })) (now (bytes .exit)) r ⌝ }
 {
-    let second = position + width as usize;
-    write_field(bytes, position, width, source);
-    write_field(bytes, second, width, target);
-    write_payload(bytes, second + width as usize, payload);
+    let ends = raise(source as u64, width) + target as u64;
+    let second = put(bytes, pen, 2 * width, ends);
+    let third = put(bytes, second, WEIGHT_WIDTH, payload.low as u64);
+    put(bytes, third, WEIGHT_WIDTH, payload.high as u64)
+}
+
+// The new number of a slot: how many live slots stand before it, or the slot itself where none is removed, as `all` says. Internal.
+fn new_number(live: &[u64], slots: usize, ranks: &[u32], all: bool, slot: u32) -> u32
+    requires { ⌜ Numbered (now live) slots (now ranks) all × (slot < slots) ⌝ }
+    ensures { λ r. ⌜ r ≡ rank (live-flags (now (live .entry)) slots) slot ⌝ }
+{
+    if all {
+        return slot;
+    }
+    rank_by(live, slots, ranks, slot as usize)
 }
 
 // Writes the record of a live edge, its ends by their new numbers. Internal.
 fn write_edge(
     bytes: &mut [u8],
-    position: usize,
+    pen: Pen,
     width: u32,
     live: &[u64],
     slots: usize,
     ranks: &[u32],
+    all: bool,
     source: u32,
     target: u32,
     payload: EdgePayload,
-)
-    requires { ⌜ EdgeFits (now bytes) position width (now live) slots (now ranks) source target ⌝ }
-    ensures { λ _. ⌜ Wrote (now (bytes .entry)) position (record-bits width (ranked-record (now (live .entry)) slots source target payload)) (now (bytes .exit)) ⌝ }
+) -> Pen
+    requires { ⌜ EdgeFits (now bytes) pen width (now live) slots (now ranks) all source target ⌝ }
+    ensures { λ r. ⌜ Penned (now (bytes .entry)) pen (record-bits width (ranked-record (now (live .entry)) slots source target payload)) (now (bytes .exit)) r ⌝ }
 {
-    let first = rank_by(live, slots, ranks, source as usize);
-    let second = rank_by(live, slots, ranks, target as usize);
-    write_record(bytes, position, width, first, second, payload);
+    let first = new_number(live, slots, ranks, all, source);
+    let second = new_number(live, slots, ranks, all, target);
+    write_record(bytes, pen, width, first, second, payload)
 }
 
-// Writes the records of the live edges in slot order, and answers the bit after them. `live`, `slots` and `ranks` are the nodes', `live_edges` and `bound` the edges'.
+// Writes the records of the live edges in slot order, and answers the pen after them. `live`, `slots`, `ranks` and `all` are the nodes', `live_edges` and `bound` the edges'.
 // Internal.
 fn write_edges(
     bytes: &mut [u8],
-    position: usize,
+    pen: Pen,
     width: u32,
     live: &[u64],
     slots: usize,
     ranks: &[u32],
+    all: bool,
     live_edges: &[u64],
     bound: usize,
     outgoing: &[u32],
     incoming: &[u32],
     lows: &[u32],
     highs: &[u32],
-) -> usize
-    requires { ⌜ EdgesFit (now bytes) position width (now live) slots (now ranks) (now «live_edges») bound (now outgoing) (now incoming) (now lows) (now highs) ⌝ }
-    ensures { λ r. ⌜ WroteTo (now (bytes .entry)) position (edge-bits width
+) -> Pen
+    requires { ⌜ EdgesFit (now bytes) pen width (now live) slots (now ranks) all (now «live_edges») bound (now outgoing) (now incoming) (now lows) (now highs) ⌝ }
+    ensures { λ r. ⌜ Penned (now (bytes .entry)) pen (edge-bits width
         (live-records (now (live .entry)) slots (now («live_edges» .entry)) bound (now (outgoing .entry)) (now (incoming .entry)) (now (lows .entry)) (now (highs .entry))))
         (now (bytes .exit)) r ⌝ }
 {
-    let mut at = position;
+    let mut at = pen;
     let mut e = next_live(live_edges, bound, 0);
     while e < bound {
         let payload = EdgePayload {
             low: lows[e],
             high: highs[e],
         };
-        write_edge(
+        at = write_edge(
             bytes,
             at,
             width,
             live,
             slots,
             ranks,
+            all,
             outgoing[e],
             incoming[e],
             payload,
         );
-        at += 2 * width as usize + EDGE_PAYLOAD_WIDTH as usize;
         e = next_live(live_edges, bound, e + 1);
     }
     at
 }
 
-// Writes entries of lists by their new numbers, one after the other, and answers the bit after them. Internal.
+// Writes entries of lists by their new numbers, one after the other, and answers the pen after them. Internal.
 fn write_entries(
     bytes: &mut [u8],
-    position: usize,
+    pen: Pen,
     width: u32,
     live: &[u64],
     slots: usize,
     ranks: &[u32],
+    all: bool,
     entries: &[u32],
-) -> usize
-    requires { ⌜ EntriesFit (now bytes) position width (now live) slots (now ranks) (now entries) ⌝ }
-    ensures { λ r. ⌜ WroteTo (now (bytes .entry)) position (row width (map (rank (live-flags (now (live .entry)) slots)) (now (entries .entry)))) (now (bytes .exit)) r ⌝ }
+) -> Pen
+    requires { ⌜ EntriesFit (now bytes) pen width (now live) slots (now ranks) all (now entries) ⌝ }
+    ensures { λ r. ⌜ Penned (now (bytes .entry)) pen (row width (map (rank (live-flags (now (live .entry)) slots)) (now (entries .entry)))) (now (bytes .exit)) r ⌝ }
 {
-    let mut at = position;
+    let mut at = pen;
     let mut i: usize = 0;
     while i < entries.len() {
-        let entry = rank_by(live, slots, ranks, entries[i] as usize);
-        write_field(bytes, at, width, entry);
-        at += width as usize;
+        let entry = new_number(live, slots, ranks, all, entries[i]);
+        at = put(bytes, at, width, entry as u64);
         i += 1;
     }
     at
 }
 
-// Writes the two counts. Internal.
-fn write_counts(bytes: &mut [u8], nodes: usize, edges: usize)
-    requires { ⌜ (4 ≤ length (now bytes)) × ((nodes ≤ LIMIT) × (edges ≤ LIMIT)) ⌝ }
-    ensures { λ _. ⌜ Wrote (now (bytes .entry)) 0 (count-bits nodes edges) (now (bytes .exit)) ⌝ }
-{
-    write_field(bytes, 0, COUNT_WIDTH, nodes as u32);
-    write_field(bytes, EDGE_COUNT_START, COUNT_WIDTH, edges as u32);
-}
-
-// Writes the counts, the nodes' payloads and the edges' records of what is live in a store, a node in `width` bits, and answers the bit after them. Internal.
+// Writes the counts, the nodes' payloads and the edges' records of what is live in a store, a node in `width` bits, and answers the pen after them. Internal.
 fn write_slots(
     counts: Counts,
     nodes: &[u32],
@@ -207,9 +217,9 @@ fn write_slots(
     incoming: &[u32],
     width: u32,
     bytes: &mut [u8],
-) -> usize
+) -> Pen
     requires { ⌜ SlotsFit (lent counts nodes lows highs «live_nodes» «live_edges» outgoing incoming) width (now bytes) ⌝ }
-    ensures { λ r. ⌜ WroteTo (now (bytes .entry)) 0
+    ensures { λ r. ⌜ Penned (now (bytes .entry)) fresh
         (slot-bits width (survivors (lists (at-entry counts nodes lows highs «live_nodes» «live_edges» outgoing incoming)))) (now (bytes .exit)) r ⌝ }
 {
     let node_slots = counts.nodes;
@@ -217,15 +227,16 @@ fn write_slots(
     let slots = node_slots.bound as usize;
     let mut ranks: [u32; LIVE_WORDS] = [0; LIVE_WORDS];
     write_ranks(live_nodes, slots, &mut ranks);
-    write_counts(bytes, node_slots.live as usize, edge_slots.live as usize);
-    let at = write_nodes(bytes, NODES_START, nodes, live_nodes, slots);
+    let first = write_counts(bytes, node_slots.live, edge_slots.live);
+    let second = write_nodes(bytes, first, nodes, live_nodes, slots);
     write_edges(
         bytes,
-        at,
+        second,
         width,
         live_nodes,
         slots,
         &ranks,
+        node_slots.live == node_slots.bound,
         live_edges,
         edge_slots.bound as usize,
         outgoing,
@@ -235,21 +246,22 @@ fn write_slots(
     )
 }
 
-// Writes the joined lists of both directions, an entry in `width` bits, and answers the bit after them. Internal.
+// Writes the joined lists of both directions, an entry in `width` bits, and answers the pen after them. Internal.
 fn write_lists(
     bytes: &mut [u8],
-    position: usize,
+    pen: Pen,
     width: u32,
     live: &[u64],
     slots: usize,
+    all: bool,
     entries: &[u32],
-) -> usize
-    requires { ⌜ ListsFit (now bytes) position width (now live) slots (now entries) ⌝ }
-    ensures { λ r. ⌜ WroteTo (now (bytes .entry)) position (row width (map (rank (live-flags (now (live .entry)) slots)) (now (entries .entry)))) (now (bytes .exit)) r ⌝ }
+) -> Pen
+    requires { ⌜ ListsFit (now bytes) pen width (now live) slots all (now entries) ⌝ }
+    ensures { λ r. ⌜ Penned (now (bytes .entry)) pen (row width (map (rank (live-flags (now (live .entry)) slots)) (now (entries .entry)))) (now (bytes .exit)) r ⌝ }
 {
     let mut ranks: [u32; LIVE_WORDS] = [0; LIVE_WORDS];
     write_ranks(live, slots, &mut ranks);
-    write_entries(bytes, position, width, live, slots, &ranks, entries)
+    write_entries(bytes, pen, width, live, slots, &ranks, all, entries)
 }
 
 // Writes the image of what is live in a store to the start of `bytes`; the work slice holds the lists of both directions by old numbers. Internal: there is room.
@@ -274,7 +286,7 @@ fn write_survivors(
     let width = least_width(node_slots.live);
     let entry_width = least_width(edge_slots.live);
     let count = 2 * edge_slots.live as usize;
-    let at = write_slots(
+    let pen = write_slots(
         counts,
         nodes,
         lows,
@@ -288,13 +300,14 @@ fn write_survivors(
     );
     let end = write_lists(
         bytes,
-        at,
+        pen,
         entry_width,
         live_edges,
         edge_slots.bound as usize,
+        edge_slots.live == edge_slots.bound,
         &work[..count],
     );
-    write_padding(bytes, end);
+    finish(bytes, end);
 }
 
 // The image of the store, into `bytes`: "1; 2 for the work slice, twice the live transfer count; 2 for the image's slice". The work slice takes the lists of both

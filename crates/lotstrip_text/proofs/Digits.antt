@@ -9,7 +9,8 @@ use lib.Dec.{ltb}
 use borrow.Author.Tests.{lt-ltb, le-ltb}
 use Rattle.plain.specs.Lotstrip.{digits-before, decimal}
 use Rattle.plain.specs.Laws.Booleans.{by-test}
-use Rattle.bits.specs.Put.{Put, put-none, put-before, put-length}
+use Rattle.bits.specs.Put.{Put}
+use Rattle.bits.specs.Laws.Put.{put-none, put-before, put-length}
 
 -- ---- the definition by its cases
 

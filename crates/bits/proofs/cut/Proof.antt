@@ -4,7 +4,7 @@ use native.Mathlib.Omega.{arith}
 use lib.Pow.{pow-pos}
 use lib.Bits.{and-mask}
 use borrow.Author.Needs.{needs}
-use Rattle.bits.specs.Fields.{one-shl}
+use Rattle.bits.proofs.Fields.{one-shl}
 use Rattle.bits.proofs.cut.Statement.{statement}
 use Rattle.bits.proofs.cut.Tie as tie
 

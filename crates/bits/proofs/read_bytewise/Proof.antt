@@ -6,7 +6,7 @@ use native.Mathlib.Omega.{arith}
 use borrow.Author.Needs.{needs}
 use Rattle.plain.specs.Bits.{field-at}
 use Rattle.plain.specs.Laws.Bits.{field-at-zero}
-use Rattle.bits.specs.Fields.{Turn, Turned, turned, field-at-fits}
+use Rattle.bits.proofs.Fields.{Turn, Turned, turned, field-at-fits}
 use Rattle.bits.proofs.read_bytewise.Statement.{statement}
 use Rattle.bits.proofs.read_bytewise.Tie as tie
 

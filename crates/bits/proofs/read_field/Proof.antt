@@ -1,9 +1,9 @@
--- `bits::read_field` meets its contract: a field in a window of five bytes, or byte by byte.
+-- `bits::read_field` meets its contract: a field in a window of eight bytes, or byte by byte.
 use mathlib.Core.Path.{_≡_}
 use native.Mathlib.Omega.{arith}
 use borrow.Author.Needs.{needs}
 use Rattle.plain.specs.Bits.{field-at}
-use Rattle.bits.specs.Fields.{window-at, field-at-fits}
+use Rattle.bits.proofs.Fields.{window-past, field-at-fits}
 use Rattle.bits.proofs.read_field.Statement.{statement}
 use Rattle.bits.proofs.read_field.Tie as tie
 
@@ -11,7 +11,7 @@ use Rattle.bits.proofs.read_field.Tie as tie
 found : (c : tie.After-cut) → let a = c .before .before .before .before .args in c .cut .result ≡ field-at (a .bytes .now) (a .position) (a .width)
 found c =
     let a = c .before .before .before .before .args in
-    rw (c .cut .ensures, c .before .five-bytes .ensures) (window-at (a .bytes .now) (a .position) (a .width) 40 (omega arith) (omega arith))
+    rw (c .cut .ensures, c .before .eight-bytes .ensures) (window-past (a .bytes .now) (a .position) (a .width) (omega arith) (omega arith))
 
 cast-result : tie.Need-cast-result
 cast-result c =

@@ -3,7 +3,7 @@ use Prim.Native.Nat.{_<_}
 use native.Mathlib.Omega.{arith}
 use lib.ListN.{length}
 use borrow.Author.Needs.{needs}
-use Rattle.bits.specs.Put.{put-length}
+use Rattle.bits.specs.Laws.Put.{put-length}
 use Rattle.lotstrip_text.proofs.Pieces.{append-then, append-one}
 use Rattle.lotstrip_text.proofs.Printing.{length-printed}
 use Rattle.lotstrip_text.proofs.print.Statement.{statement}

@@ -1,7 +1,7 @@
 -- `places::image_bytes` meets its contract: records and entries take few bits.
 use native.Mathlib.Omega.{arith}
 use borrow.Author.Needs.{needs}
-use Rattle.image.specs.Places.{records-small, entries-small}
+use Rattle.image.proofs.Sizes.{records-small, entries-small}
 use Rattle.image.proofs.places.image_bytes.Statement.{statement}
 use Rattle.image.proofs.places.image_bytes.Tie as tie
 

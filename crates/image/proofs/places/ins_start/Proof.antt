@@ -1,7 +1,7 @@
 -- `places::ins_start` meets its contract: records and entries take few bits.
 use native.Mathlib.Omega.{arith}
 use borrow.Author.Needs.{needs}
-use Rattle.image.specs.Places.{records-small, entries-small}
+use Rattle.image.proofs.Sizes.{records-small, entries-small}
 use Rattle.image.proofs.places.ins_start.Statement.{statement}
 use Rattle.image.proofs.places.ins_start.Tie as tie
 

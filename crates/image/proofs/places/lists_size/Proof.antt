@@ -1,7 +1,7 @@
 -- `places::lists_size` meets its contract: the entries take few bits.
 use native.Mathlib.Omega.{arith}
 use borrow.Author.Needs.{needs}
-use Rattle.image.specs.Places.{entries-small}
+use Rattle.image.proofs.Sizes.{entries-small}
 use Rattle.image.proofs.places.lists_size.Statement.{statement}
 use Rattle.image.proofs.places.lists_size.Tie as tie
 

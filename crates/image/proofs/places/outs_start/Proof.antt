@@ -3,7 +3,7 @@ use Prim.Native.Nat.{ℕ, _+_, _*_, _≤_}
 use mathlib.Core.Path.{ap₂}
 use native.Mathlib.Omega.{arith}
 use borrow.Author.Needs.{needs}
-use Rattle.image.specs.Places.{records-small}
+use Rattle.image.proofs.Sizes.{records-small}
 use Rattle.image.proofs.places.outs_start.Statement.{statement}
 use Rattle.image.proofs.places.outs_start.Tie as tie
 

@@ -3,7 +3,7 @@ use mathlib.Core.Path.{_≡_, sym, _∙_}
 use native.Mathlib.Omega.{arith}
 use borrow.Author.Needs.{needs}
 use Rattle.plain.specs.Image.{count-width, broken-image}
-use Rattle.image.specs.Reading.{count-room}
+use Rattle.image.proofs.Reading.{count-room}
 use Rattle.image.proofs.Answering.{whole-told, broken-told}
 use Rattle.image.proofs.read.answer.Statement.{statement}
 use Rattle.image.proofs.read.answer.Tie as tie

@@ -7,7 +7,7 @@ use Rattle.plain.specs.declared.Counts.{Counts}
 use Rattle.shape.specs.Kept.{each-length}
 use Rattle.plain.specs.Image.{count-width}
 use Rattle.compact.specs.Bases.{based}
-use Rattle.image.specs.Reading.{count-room, payloads-readable, axes-readable, payloads-of, axes-of, reset-of}
+use Rattle.image.proofs.Reading.{count-room, payloads-readable, axes-readable, payloads-of, axes-of, reset-of}
 use Rattle.image.proofs.read.place.Statement.{statement}
 use Rattle.image.proofs.read.place.Tie as tie
 

@@ -4,7 +4,7 @@ use mathlib.Core.Path.{_≡_, ap₂}
 use borrow.Author.Needs.{needs}
 use Rattle.plain.specs.Bits.{least-width}
 use Rattle.plain.specs.Image.{edges-start}
-use Rattle.image.specs.Directions.{readable-at, read-at}
+use Rattle.image.proofs.Directions.{readable-at, read-at}
 use Rattle.image.proofs.read.read_axes.Statement.{statement}
 use Rattle.image.proofs.read.read_axes.Tie as tie
 

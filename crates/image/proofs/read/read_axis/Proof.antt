@@ -1,6 +1,6 @@
 -- `read::read_axis` meets its contract: the ends, and the base on them.
 use borrow.Author.Needs.{needs}
-use Rattle.image.specs.Directions.{base-readable, axis-read}
+use Rattle.image.proofs.Directions.{base-readable, axis-read}
 use Rattle.image.proofs.read.read_axis.Statement.{statement}
 use Rattle.image.proofs.read.read_axis.Tie as tie
 

@@ -1,6 +1,6 @@
 -- `read::read_base` meets its contract: call by call.
 use borrow.Author.Needs.{needs}
-use Rattle.image.specs.Directions.{base-read}
+use Rattle.image.proofs.Directions.{base-read}
 use Rattle.image.proofs.read.read_base.Statement.{statement}
 use Rattle.image.proofs.read.read_base.Tie as tie
 

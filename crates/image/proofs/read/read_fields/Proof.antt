@@ -7,7 +7,8 @@ use native.Mathlib.Nat.{mul-zero}
 use Rattle.plain.specs.Bits.{field-at}
 use Rattle.shape.specs.Index.{Rewritten}
 use Rattle.shape.specs.Laws.Indexing.{rewritten-none, rewritten-more, rewritten-all}
-use Rattle.image.specs.Spread.{spread, spread-room, spread-next, further}
+use Rattle.image.specs.Spread.{spread}
+use Rattle.image.proofs.Spread.{spread-room, spread-next, further}
 use Rattle.image.proofs.read.read_fields.Statement.{statement}
 use Rattle.image.proofs.read.read_fields.Tie as tie
 

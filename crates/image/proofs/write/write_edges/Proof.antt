@@ -10,8 +10,9 @@ use Rattle.plain.specs.Image.{record-width}
 use Rattle.liveness.specs.Flags.{live-flags}
 use Rattle.liveness.specs.Laws.Flags.{length-flags}
 use Rattle.liveness.specs.Laws.Passed.{passed-later}
-use Rattle.image.specs.Strung.{StrungLive, live-none, live-more, live-all, record-bits, records-strung}
-use Rattle.image.specs.Writing.{record-at, edge-room, length-record-bits}
+use Rattle.image.proofs.Strung.{StrungLive, live-none, live-more, live-all, records-strung}
+use Rattle.image.specs.Writing.{record-bits, record-at}
+use Rattle.image.proofs.Writing.{edge-room, length-record-bits}
 use Rattle.image.proofs.write.write_edges.Statement.{statement}
 use Rattle.image.proofs.write.write_edges.Tie as tie
 
@@ -19,11 +20,11 @@ abbrev piece : ℕ → List ℕ → ℕ → List ℕ → List ℕ → List ℕ �
 piece width live slots outgoing incoming lows highs e = record-bits width (record-at live slots outgoing incoming lows highs e)
 
 abbrev Inv-loop : tie.InvT-loop
-Inv-loop bytes₀ position width live slots ranks live-edges bound outgoing incoming lows highs at₀ e₀ bytes at e =
-    StrungLive (live-flags live-edges bound) bytes₀ position (record-width width) (piece width live slots outgoing incoming lows highs) e bytes at
+Inv-loop bytes₀ width live slots ranks all live-edges bound outgoing incoming lows highs at₀ e₀ bytes at e =
+    StrungLive (live-flags live-edges bound) bytes₀ at₀ (record-width width) (piece width live slots outgoing incoming lows highs) e bytes at
 
 abbrev μ-loop : tie.MeasureT-loop
-μ-loop bytes₀ position width live slots ranks live-edges bound outgoing incoming lows highs at₀ e₀ bytes at e = bound - e
+μ-loop bytes₀ width live slots ranks all live-edges bound outgoing incoming lows highs at₀ e₀ bytes at e = bound - e
 
 -- the places on the way
 abbrev start : tie.At-loop Inv-loop μ-loop → tie.Start Inv-loop μ-loop
@@ -43,19 +44,13 @@ loop-holds : tie.Need-loop-holds Inv-loop μ-loop
 loop-holds c =
     let s = c .before .before .before .before .before .before .before .before .before in
     let a = s .args in
-    live-none (a .bytes .now) (a .position) (record-width (a .width))
+    live-none (a .bytes .now) (a .pen) (record-width (a .width))
     (piece (a .width) (a .live .now) (a .slots) (a .outgoing .now) (a .incoming .now) (a .lows .now) (a .highs .now)) (c .next-live .ensures) (s .pre .room)
 
 write-edge-requires : tie.Need-write-edge-requires Inv-loop μ-loop
 write-edge-requires c κs =
     let turn = c .before .before .before .before .before in
     edge-room (start (turn .before) .pre) (turn .before .loop .inv) (turn .loop-test .taken)
-
-add-at-2 : tie.Need-add-at-2 Inv-loop μ-loop
-add-at-2 c =
-    let turn = turned c in
-    let fits = edge-room (start (turn .before) .pre) (turn .before .loop .inv) (turn .loop-test .taken) in
-    omega (arith, fits .room .counted)
 
 loop-less : tie.Need-loop-less Inv-loop μ-loop
 loop-less c =
@@ -66,15 +61,14 @@ loop-again : tie.Need-loop-again Inv-loop μ-loop
 loop-again c =
     let written = c .before .before .before in
     let turn = turned (c .before) in
-    live-more (long (turn .before)) (turn .before .loop .inv) (rw length-flags (turn .loop-test .taken)) (written .write-edge .ensures) (omega arith)
-    (c .next-live2 .ensures)
+    live-more (turn .before .loop .inv) (long (turn .before)) (rw length-flags (turn .loop-test .taken)) (written .write-edge .ensures) (c .next-live2 .ensures)
 
 returns : tie.Need-returns Inv-loop μ-loop
 returns c =
     let a = start (c .before) .args in
     rw (records-strung (a .width) (record-at (a .live .now) (a .slots) (a .outgoing .now) (a .incoming .now) (a .lows .now) (a .highs .now))
     (live-slots (live-flags (a .live-edges .now) (a .bound)))) at
-    (live-all (long (c .before)) (c .before .loop .inv) (rw length-flags (c .loop-test .left)))
+    (live-all (c .before .loop .inv) (rw length-flags (c .loop-test .left)))
 
 pub write-edges-spec : {M : Type 1} → statement M
 write-edges-spec =
@@ -94,12 +88,8 @@ write-edges-spec =
     (λ c. search needs)
     write-edge-requires
     (λ c. search needs)
-    (λ c. search needs)
-    (λ c. search needs)
-    add-at-2
-    (λ c. search needs)
     (λ c κs. search needs)
     loop-less
     loop-again
-    (λ c. c .before .loop .inv .written .long)
+    (λ c. c .before .loop .inv .written .penned .long)
     returns)

@@ -1,7 +1,7 @@
 -- `image::write::write_image` meets its contract: a law for each way out.
 use borrow.Author.Needs.{needs}
-use Rattle.image.specs.Surviving.{counts-few}
-use Rattle.image.specs.WriteCases.{write-refuses, work-short, bytes-short, image-fits, write-done}
+use Rattle.image.proofs.Surviving.{counts-few}
+use Rattle.image.proofs.WriteCases.{write-refuses, work-short, bytes-short, image-fits, write-done}
 use Rattle.image.proofs.write.write_image.Statement.{statement}
 use Rattle.image.proofs.write.write_image.Tie as tie
 

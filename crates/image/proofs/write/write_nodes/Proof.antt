@@ -1,6 +1,5 @@
 -- `image::write::write_nodes` meets its contract: after each turn the payload of one live node more was written.
-use Prim.Native.Nat.{_-_}
-use mathlib.Core.Path.{refl}
+use Prim.Native.Nat.{_-_, _^_, _<_}
 use native.Mathlib.Omega.{arith}
 use lib.ListN.{getD}
 use borrow.Author.Needs.{needs}
@@ -10,17 +9,17 @@ use Rattle.plain.specs.Laws.Bits.{length-bits-of}
 use Rattle.liveness.specs.Flags.{live-flags}
 use Rattle.liveness.specs.Laws.Flags.{length-flags}
 use Rattle.liveness.specs.Laws.Passed.{passed-later}
-use Rattle.image.specs.Strung.{StrungLive, live-none, live-more, live-all, row-strung}
-use Rattle.image.specs.Writing.{node-bits, node-room}
+use Rattle.image.proofs.Strung.{StrungLive, live-none, live-more, live-all, row-strung}
+use Rattle.image.proofs.Writing.{node-bits, node-room}
 use Rattle.image.proofs.write.write_nodes.Statement.{statement}
 use Rattle.image.proofs.write.write_nodes.Tie as tie
 
 abbrev Inv-loop : tie.InvT-loop
-Inv-loop bytes₀ position nodes live bound at₀ node₀ bytes at node =
-    StrungLive (live-flags live bound) bytes₀ position node-payload-width (node-bits nodes) node bytes at
+Inv-loop bytes₀ nodes live bound at₀ node₀ bytes at node =
+    StrungLive (live-flags live bound) bytes₀ at₀ node-payload-width (node-bits nodes) node bytes at
 
 abbrev μ-loop : tie.MeasureT-loop
-μ-loop bytes₀ position nodes live bound at₀ node₀ bytes at node = bound - node
+μ-loop bytes₀ nodes live bound at₀ node₀ bytes at node = bound - node
 
 -- the places on the way
 abbrev start : tie.At-loop Inv-loop μ-loop → tie.Start Inv-loop μ-loop
@@ -32,18 +31,16 @@ turned c = c .before .before .before .before .before
 loop-holds : tie.Need-loop-holds Inv-loop μ-loop
 loop-holds c =
     let s = c .before .before .before .before in
-    live-none (s .args .bytes .now) (s .args .position) node-payload-width (node-bits (s .args .nodes .now)) (c .next-live .ensures) (s .pre .room)
+    live-none (s .args .bytes .now) (s .args .pen) node-payload-width (node-bits (s .args .nodes .now)) (c .next-live .ensures) (s .pre .room)
 
-write-field-requires : tie.Need-write-field-requires Inv-loop μ-loop
-write-field-requires c κs =
+-- the payload is a number of 32 bits
+payload-fits : (c : tie.After-shared-slice-known3 Inv-loop μ-loop) → getD (start (c .before .before .before) .args .nodes .now) (c .before .before .before .loop .node) 0 < 2 ^ 32
+payload-fits c = omega (arith, c .shared-slice-known3 .given (c .before .before .before .loop .node))
+
+put-requires : tie.Need-put-requires Inv-loop μ-loop
+put-requires c κs =
     let turn = c .before .before in
-    (node-room (start (turn .before) .pre) (turn .before .loop .inv) (turn .loop-test .taken), omega (arith, c .shared-slice-known3 .given (turn .before .loop .node)))
-
-add-at : tie.Need-add-at Inv-loop μ-loop
-add-at c =
-    let turn = turned c in
-    let room = node-room (start (turn .before) .pre) (turn .before .loop .inv) (turn .loop-test .taken) in
-    omega arith
+    node-room (start (turn .before) .pre) (turn .before .loop .inv) (turn .loop-test .taken) (payload-fits c)
 
 loop-less : tie.Need-loop-less Inv-loop μ-loop
 loop-less c =
@@ -55,14 +52,14 @@ loop-again c =
     let written = c .before .before .before in
     let turn = turned (c .before) in
     let a = start (turn .before) .args in
-    live-more (λ x. length-bits-of node-payload-width (getD (a .nodes .now) x 0)) (turn .before .loop .inv) (rw length-flags (turn .loop-test .taken))
-    (written .write-field .ensures) refl (c .next-live2 .ensures)
+    live-more (turn .before .loop .inv) (λ x. length-bits-of node-payload-width (getD (a .nodes .now) x 0)) (rw length-flags (turn .loop-test .taken))
+    (written .put .ensures) (c .next-live2 .ensures)
 
 returns : tie.Need-returns Inv-loop μ-loop
 returns c =
     let a = start (c .before) .args in
     rw (row-strung node-payload-width (λ x. getD (a .nodes .now) x 0) (live-slots (live-flags (a .live .now) (a .bound)))) at
-    (live-all (λ x. length-bits-of node-payload-width (getD (a .nodes .now) x 0)) (c .before .loop .inv) (rw length-flags (c .loop-test .left)))
+    (live-all (c .before .loop .inv) (rw length-flags (c .loop-test .left)))
 
 pub write-nodes-spec : {M : Type 1} → statement M
 write-nodes-spec =
@@ -74,12 +71,11 @@ write-nodes-spec =
     loop-holds
     (λ c. search needs)
     (λ c. search needs)
-    write-field-requires
-    (λ c. search needs)
-    add-at
+    (λ c. omega (arith, payload-fits c))
+    put-requires
     (λ c. search needs)
     (λ c κs. search needs)
     loop-less
     loop-again
-    (λ c. c .before .loop .inv .written .long)
+    (λ c. c .before .loop .inv .written .penned .long)
     returns)

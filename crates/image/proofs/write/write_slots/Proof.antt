@@ -1,6 +1,7 @@
 -- `image::write::write_slots` meets its contract: counts, nodes and edges follow each other.
 use borrow.Author.Needs.{needs}
-use Rattle.image.specs.Surviving.{node-words, node-slots, ranks-room, counts-fit, edges-fit, wrote-slots}
+use borrow.Author.Tests.{eqb-true}
+use Rattle.image.proofs.Surviving.{node-words, node-slots, ranks-room, counts-fit, nodes-fit, edges-fit, penned-slots}
 use Rattle.image.proofs.write.write_slots.Statement.{statement}
 use Rattle.image.proofs.write.write_slots.Tie as tie
 
@@ -9,7 +10,7 @@ abbrev entry : tie.After-write-ranks → tie.Start
 entry c = c .before .before .before .before .before .before .before .before .before .before .before .before .before
 
 abbrev ranked : tie.After-write-counts → tie.After-write-ranks
-ranked c = c .before .before .before .before .before
+ranked c = c .before .before .before
 
 abbrev counted : tie.After-write-nodes → tie.After-write-counts
 counted c = c .before .before .before .before
@@ -18,21 +19,26 @@ write-ranks-requires : tie.Need-write-ranks-requires
 write-ranks-requires c κs = let h = c .before .before .before .before .before .before .before .before .before .before .before .before .pre in ranks-room (node-words h) (node-slots h) (search needs)
 
 write-counts-requires : tie.Need-write-counts-requires
-write-counts-requires c κs = counts-fit (entry (c .before .before .before .before) .pre)
+write-counts-requires c κs = counts-fit (entry (c .before .before) .pre)
+
+write-nodes-requires : tie.Need-write-nodes-requires
+write-nodes-requires c κs =
+    let counts = c .before .before .before in
+    nodes-fit (entry (ranked counts) .pre) (counts .write-counts .ensures)
 
 write-edges-requires : tie.Need-write-edges-requires
 write-edges-requires c κs =
-    let nodes = c .before .before .before .before .before in
+    let nodes = c .before .before .before .before .before .before in
     let counts = counted nodes in
     let ranks = ranked counts in
-    edges-fit (entry ranks .pre) (counts .write-counts .ensures .long) (nodes .write-nodes .ensures) (ranks .write-ranks .ensures)
+    edges-fit (entry ranks .pre) (counts .write-counts .ensures) (nodes .write-nodes .ensures) (ranks .write-ranks .ensures) (eqb-true _ _)
 
 returns : tie.Need-returns
 returns c =
     let edges = c .before .before in
-    let nodes = edges .before .before .before .before .before .before in
+    let nodes = edges .before .before .before .before .before .before .before in
     let counts = counted nodes in
-    wrote-slots (entry (ranked counts) .pre) (counts .write-counts .ensures) (nodes .write-nodes .ensures) (edges .write-edges .ensures)
+    penned-slots (entry (ranked counts) .pre) (counts .write-counts .ensures) (nodes .write-nodes .ensures) (edges .write-edges .ensures)
 
 pub write-slots-spec : {M : Type 1} → statement M
 write-slots-spec =
@@ -41,10 +47,8 @@ write-slots-spec =
     (λ c. search needs)
     (λ c. search needs)
     write-ranks-requires
-    (λ c. search needs)
-    (λ c. search needs)
     write-counts-requires
-    (λ c κs. search needs)
+    write-nodes-requires
     (λ c. search needs)
     (λ c. search needs)
     write-edges-requires

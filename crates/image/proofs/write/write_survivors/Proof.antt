@@ -1,10 +1,11 @@
--- `image::write::write_survivors` meets its contract: slots, lists and padding follow each other, at the least widths.
+-- `image::write::write_survivors` meets its contract: slots and lists follow each other, at the least widths, and what waits in the pen is written.
 use mathlib.Core.Path.{sym}
 use native.Mathlib.Omega.{arith}
 use lib.Seq.{length-take-le}
 use borrow.Author.Needs.{needs}
+use borrow.Author.Tests.{eqb-true}
 use Rattle.plain.specs.Laws.Below.{below-of}
-use Rattle.image.specs.Surviving.{counts-few, lists-fit, padding-fits, wrote-image}
+use Rattle.image.proofs.Surviving.{counts-few, lists-fit, end-fits, wrote-image}
 use Rattle.image.proofs.write.write_survivors.Statement.{statement}
 use Rattle.image.proofs.write.write_survivors.Tie as tie
 
@@ -16,7 +17,7 @@ abbrev widths : tie.After-write-slots → tie.After-least-width2
 widths c = c .before .before .before
 
 abbrev slots : tie.After-write-lists → tie.After-write-slots
-slots c = c .before .before .before .before .before .before
+slots c = c .before .before .before .before .before .before .before
 
 least-width-requires : tie.Need-least-width-requires
 least-width-requires c κs = counts-few (c .before .before .before .before .before .before .before .before .before .before .before .pre .checked) .0
@@ -25,20 +26,20 @@ least-width-requires-2 : tie.Need-least-width-requires-2
 least-width-requires-2 c κs = counts-few (entry c .pre .checked) .1
 
 slice-aggregate-write-lists : tie.Need-slice-aggregate-write-lists
-slice-aggregate-write-lists c = let s = entry (widths (c .before .before .before .before .before) .before) in sym (length-take-le _ (s .args .work .now) (s .pre .work-there))
+slice-aggregate-write-lists c = let s = entry (widths (c .before .before .before .before .before .before) .before) in sym (length-take-le _ (s .args .work .now) (s .pre .work-there))
 
 write-lists-requires : tie.Need-write-lists-requires
 write-lists-requires c κs =
-    let call = c .before .before .before .before .before in
+    let call = c .before .before .before .before .before .before in
     let both = widths call in
-    lists-fit (entry (both .before) .pre) (both .before .least-width .ensures) (both .least-width2 .ensures) (call .write-slots .ensures)
+    lists-fit (entry (both .before) .pre) (both .before .least-width .ensures) (both .least-width2 .ensures) (call .write-slots .ensures) (eqb-true _ _)
 
-write-padding-requires : tie.Need-write-padding-requires
-write-padding-requires c κs =
+finish-requires : tie.Need-finish-requires
+finish-requires c κs =
     let lists = c .before .before .before in
     let call = slots lists in
     let both = widths call in
-    padding-fits (entry (both .before) .pre) (both .before .least-width .ensures) (both .least-width2 .ensures) (call .write-slots .ensures) (lists .write-lists .ensures)
+    end-fits (entry (both .before) .pre) (both .before .least-width .ensures) (both .least-width2 .ensures) (call .write-slots .ensures) (lists .write-lists .ensures)
 
 returns : tie.Need-returns
 returns c =
@@ -47,7 +48,7 @@ returns c =
     let call = slots lists in
     let both = widths call in
     wrote-image (entry (both .before) .pre) (both .before .least-width .ensures) (both .least-width2 .ensures) (call .write-slots .ensures) (lists .write-lists .ensures)
-    (padded .write-padding .ensures .1) (below-of _ (λ i l. omega (arith, both .before .before .before .before .slice-known .given i))) (below-of _ (λ i l. omega (arith, c .slice-known4 .given i)))
+    (padded .finish .ensures) (below-of _ (λ i l. omega (arith, both .before .before .before .before .slice-known .given i))) (below-of _ (λ i l. omega (arith, c .slice-known4 .given i)))
 
 pub write-survivors-spec : {M : Type 1} → statement M
 write-survivors-spec =
@@ -61,6 +62,6 @@ write-survivors-spec =
     (λ c. search needs)
     slice-aggregate-write-lists
     write-lists-requires
-    write-padding-requires
+    finish-requires
     (λ c. search needs)
     returns)

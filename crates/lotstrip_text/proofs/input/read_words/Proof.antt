@@ -4,7 +4,7 @@ use mathlib.Core.Path.{_≡_, refl}
 use native.Mathlib.Omega.{arith}
 use lib.ListN.{length, drop}
 use Rattle.plain.specs.Lotstrip.{words-of, word-bytes}
-use Rattle.bits.specs.Put.{put-one, put-length, put-written}
+use Rattle.bits.specs.Laws.Put.{put-one, put-length, put-written}
 use Rattle.lotstrip_text.proofs.Pieces.{Writing, writing-start, writing-room, writing-more, writing-end}
 use Rattle.lotstrip_text.specs.Appending.{Appended}
 use Rattle.lotstrip_text.proofs.Words.{length-words, words-next, words-none}

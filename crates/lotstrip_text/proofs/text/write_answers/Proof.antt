@@ -5,7 +5,7 @@ use mathlib.Core.Path.{_≡_, refl}
 use native.Mathlib.Omega.{arith}
 use lib.ListN.{length, drop}
 use Rattle.plain.specs.Lotstrip.{answer-lines}
-use Rattle.bits.specs.Put.{put-length}
+use Rattle.bits.specs.Laws.Put.{put-length}
 use Rattle.lotstrip_text.proofs.Pieces.{Writing, writing-start, writing-room, writing-more, writing-end}
 use Rattle.lotstrip_text.proofs.Lines.{lines-next, lines-none}
 use Rattle.lotstrip_text.proofs.text.write_answers.Statement.{statement}

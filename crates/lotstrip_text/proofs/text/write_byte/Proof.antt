@@ -3,7 +3,7 @@ use mathlib.Core.Path.{refl}
 use native.Mathlib.Omega.{arith}
 use lib.ListN.{length-set}
 use borrow.Author.Needs.{needs}
-use Rattle.bits.specs.Put.{put-two}
+use Rattle.bits.specs.Laws.Put.{put-two}
 use Rattle.lotstrip_text.proofs.text.write_byte.Statement.{statement}
 use Rattle.lotstrip_text.proofs.text.write_byte.Tie as tie
 

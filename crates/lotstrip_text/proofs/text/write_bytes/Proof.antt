@@ -3,7 +3,7 @@ use Prim.Native.Nat.{_-_, _<_}
 use mathlib.Core.Path.{refl}
 use native.Mathlib.Omega.{arith}
 use lib.ListN.{length, drop, drop-of-length-le}
-use Rattle.bits.specs.Put.{put-one, put-length}
+use Rattle.bits.specs.Laws.Put.{put-one, put-length}
 use Rattle.lotstrip_text.proofs.Pieces.{Writing, writing-start, writing-room, writing-more, writing-end}
 use Rattle.lotstrip_text.proofs.Lines.{bytes-next}
 use Rattle.lotstrip_text.proofs.text.write_bytes.Statement.{statement}

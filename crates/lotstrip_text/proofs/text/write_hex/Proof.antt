@@ -3,7 +3,7 @@ use Prim.Native.Nat.{_-_}
 use native.Mathlib.Omega.{arith}
 use lib.ListN.{length, drop}
 use Rattle.plain.specs.Lotstrip.{hexadecimal}
-use Rattle.bits.specs.Put.{put-length}
+use Rattle.bits.specs.Laws.Put.{put-length}
 use Rattle.lotstrip_text.proofs.Pieces.{Writing, writing-start, writing-room, writing-more, writing-end}
 use Rattle.lotstrip_text.proofs.Lines.{hex-next, hex-none}
 use Rattle.lotstrip_text.proofs.text.write_hex.Statement.{statement}

@@ -1,7 +1,7 @@
 -- `lotstrip_text::text::write_number` meets its contract.
 use native.Mathlib.Omega.{arith}
 use borrow.Author.Needs.{needs}
-use Rattle.bits.specs.Put.{put-length}
+use Rattle.bits.specs.Laws.Put.{put-length}
 use Rattle.lotstrip_text.proofs.Pieces.{append-one}
 use Rattle.lotstrip_text.proofs.text.write_number.Statement.{statement}
 use Rattle.lotstrip_text.proofs.text.write_number.Tie as tie

@@ -1,10 +1,10 @@
--- `bits::write_byte` meets its contract: one byte is stored.
+-- `bits::pen::write_byte` meets its contract: one byte is stored.
 use native.Mathlib.Omega.{arith}
 use lib.Bits.{and-mask}
 use borrow.Author.Needs.{needs}
-use Rattle.bits.specs.Wrote.{wrote-byte}
-use Rattle.bits.proofs.write_byte.Statement.{statement}
-use Rattle.bits.proofs.write_byte.Tie as tie
+use Rattle.bits.proofs.Wrote.{wrote-byte}
+use Rattle.bits.proofs.pen.write_byte.Statement.{statement}
+use Rattle.bits.proofs.pen.write_byte.Tie as tie
 
 cast-bytes : tie.Need-cast-bytes
 cast-bytes c = omega (arith, and-mask (c .args .x) 8)

@@ -1,4 +1,4 @@
--- The places of an image's parts are small numbers: what computing them asks.
+-- The sizes of an image's parts are small numbers: what computing its places asks.
 use Prim.Native.Nat.{ℕ, _+_, _*_, _≤_}
 use native.Mathlib.Omega.{arith}
 use native.Mathlib.Nat.{mul-le-mul-right}

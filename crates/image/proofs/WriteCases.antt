@@ -20,7 +20,8 @@ use Rattle.view.specs.Laws.Calls.{replies, reply-refuses, list-short, list-done
 use Rattle.compact.specs.Working.{both-walks}
 use Rattle.compact.specs.Laws.Working.{both-length}
 use Rattle.image.specs.Calls.{written-image, WorkFree, WriteOf}
-use Rattle.image.specs.Surviving.{ImageFits, image-bytes-of}
+use Rattle.image.specs.Writing.{ImageFits}
+use Rattle.image.proofs.Surviving.{image-bytes-of}
 
 -- the work slice of a call that refuses
 work-kept : (needed : ℕ) (work : List ℕ) (answer : Answer) → WorkFree needed work answer work
