@@ -16,8 +16,9 @@ use Rattle.plain.specs.Laws.Bits.{length-fields-at}
 use Rattle.shape.specs.Index.{Rewritten, before, ends-of}
 use Rattle.shape.specs.Laws.Indexing.{rewritten-as}
 use Rattle.shape.specs.Laws.NewBase.{NewBase}
-use Rattle.compact.specs.Bases.{Rebuildable, Rebuilt, rebuilt-base}
-use Rattle.compact.specs.Slots.{rewritten-range}
+use Rattle.compact.specs.Bases.{Rebuildable, Rebuilt}
+use Rattle.compact.specs.Laws.Bases.{rebuilt-base}
+use Rattle.compact.specs.Laws.Slots.{rewritten-range}
 use Rattle.image.specs.Spread.{spread}
 use Rattle.image.specs.Directions.{BaseReadable, AxisReadable, AxisRead}
 use Rattle.image.proofs.Spread.{spread-as, fields-spread, spread-at}

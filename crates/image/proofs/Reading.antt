@@ -25,9 +25,11 @@ use Rattle.shape.specs.Columns.{Sized}
 use Rattle.shape.specs.Shape.{Words, node-capacity, edge-capacity, lengths-of, axis-words as words-of}
 use Rattle.shape.specs.Kept.{AxisRenewed, Renewed, same-nodes, same-edges, same-highs, same-live-nodes, same-live-edges, same-axis}
 use Rattle.shape.specs.Laws.NewBase.{NewBase}
-use Rattle.compact.specs.Slots.{rewritten-range}
-use Rattle.compact.specs.Bases.{rebuilt-renewed}
-use Rattle.compact.specs.Holding.{based, front, Holding, reset-same, reset-word, sized-as}
+use Rattle.compact.specs.Laws.Slots.{rewritten-range}
+use Rattle.compact.specs.Laws.Bases.{rebuilt-renewed}
+use Rattle.compact.specs.Calls.{based}
+use Rattle.compact.specs.Lists.{front}
+use Rattle.compact.specs.Laws.Holding.{Holding, reset-same, reset-word, sized-as}
 use Rattle.bits.specs.Fields.{Room}
 use Rattle.image.specs.Spread.{spread, SpreadFits}
 use Rattle.image.specs.Directions.{AxisReadable, AxisRead}

@@ -4,7 +4,8 @@ use mathlib.Core.Path.{_≡_, refl, sym, ap, _∙_}
 use mathlib.Core.List.{List, [], _∷_, _++_, append-assoc, append-nil}
 use native.Mathlib.Omega.{arith}
 use lib.ListN.{length, set, length-append}
-use Rattle.bits.specs.Put.{Put, put-length, put-none, put-one, put-then}
+use Rattle.bits.specs.Put.{Put}
+use Rattle.bits.specs.Laws.Put.{put-length, put-none, put-one, put-then}
 use Rattle.lotstrip_text.specs.Appending.{Appended}
 
 pub append-then : {s t u f g : List ℕ} {p q end : ℕ} → Appended s p f t q → Appended t q g u end → Appended s p (f ++ g) u end

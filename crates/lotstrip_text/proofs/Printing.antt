@@ -11,7 +11,7 @@ use Rattle.plain.specs.Operations.{operation-words, operations}
 use Rattle.plain.specs.Calls.{fresh-state}
 use Rattle.plain.specs.Lotstrip.{lotstrip-capacities, words-of, codes, answer-lines, hexadecimal, word-bytes, operation-bytes, input-limit, lotstrip-run, lotstrip}
 use Rattle.plain.specs.Laws.Strips.{length-operations, length-answers}
-use Rattle.bits.specs.Put.{put-length, put-written}
+use Rattle.bits.specs.Laws.Put.{put-length, put-written}
 use Rattle.lotstrip_text.specs.Appending.{Appended}
 use Rattle.lotstrip_text.proofs.Lines.{lines-most, length-hex}
 use Rattle.lotstrip_text.specs.Input.{WordsRead}

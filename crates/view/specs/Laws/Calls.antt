@@ -11,7 +11,8 @@ use Rattle.plain.specs.Lists.{written}
 use Rattle.plain.specs.Reads.{Reply, no-record, no-total, listing}
 use Rattle.plain.specs.Laws.CallCases.{lent-short, lent-done}
 use Rattle.shape.specs.Shape.{Words}
-use Rattle.validate.specs.Judging.{Judged, refusal, answer-counts, answer-refused, reply-counts, reply-refused, record-counts, record-refused, total-counts, total-refused}
+use Rattle.validate.specs.Judging.{Judged, refusal}
+use Rattle.validate.specs.Laws.Judging.{answer-counts, answer-refused, reply-counts, reply-refused, record-counts, record-refused, total-counts, total-refused}
 use Rattle.view.specs.Calls.{Answered, Recorded, Totalled, Replied, Listed}
 
 -- ---- a list and the room for it
