@@ -13,9 +13,13 @@ found c =
     let a = c .before .before .before .before .args in
     rw (c .cut .ensures, c .before .eight-bytes .ensures) (window-past (a .bytes .now) (a .position) (a .width) (omega arith) (omega arith))
 
+-- places on the way to a need, each by what stands just before it
+abbrev start : tie.After-cut → tie.Start
+start c = c .before .before .before .before
+
 cast-result : tie.Need-cast-result
 cast-result c =
-    let a = c .before .before .before .before .args in omega (arith, found c, field-at-fits (a .bytes .now) (a .position) (a .width) (omega arith))
+    let a = start c .args in omega (arith, found c, field-at-fits (a .bytes .now) (a .position) (a .width) (omega arith))
 
 returns : tie.Need-returns
 returns c = found c

@@ -29,32 +29,51 @@ kept-weights c = c .before .before .before .before .before .before
 abbrev reset-nodes : tie.After-reset-all-live2 → tie.After-reset-all-live
 reset-nodes c = c .before .before .before .before
 
+-- places on the way to a need, each by what stands just before it
+abbrev start : tie.After-compact-axis-arg2 → tie.Start
+start c = c .before .before .before .before .before .before .before .before .before .before .before .before .before .before .before .before
+
+abbrev after-compact-axis : tie.After-compact-axis-arg5 → tie.After-compact-axis
+after-compact-axis c = c .before .before .before .before .before
+
+abbrev after-compact-axis-2 : tie.After-struct-known4 → tie.After-compact-axis2
+after-compact-axis-2 c = c .before .before .before .before .before
+
+abbrev after-keep-live : tie.After-keep-weights-arg3 → tie.After-keep-live
+after-keep-live c = c .before .before .before .before .before
+
+abbrev after-keep-weights : tie.After-reset-all-live-arg → tie.After-keep-weights
+after-keep-weights c = c .before .before .before .before .before
+
+abbrev after-reset-all-live-2 : tie.After-all-based2 → tie.After-reset-all-live2
+after-reset-all-live-2 c = c .before .before .before .before
+
 compact-axis-requires : tie.Need-compact-axis-requires
 compact-axis-requires c κs =
-    let s = c .before .before .before .before .before .before .before .before .before .before .before .before .before .before .before .before in
+    let s = start c in
     axis-compactable (s .pre) Outgoing (s .args .work .now) (first-half (s .pre))
 
 compact-axis-requires-2 : tie.Need-compact-axis-requires-2
-compact-axis-requires-2 c κs = let s = entry (c .before .before .before .before .before) in axis-compactable (s .pre) Incoming _ (second-half (s .pre))
+compact-axis-requires-2 c κs = let s = entry (after-compact-axis c) in axis-compactable (s .pre) Incoming _ (second-half (s .pre))
 
 keep-live-requires : tie.Need-keep-live-requires
-keep-live-requires c κs = keepable (entry (sources (c .before .before .before .before .before)) .pre .checked .nodes) _ (omega arith)
+keep-live-requires c κs = keepable (entry (sources (after-compact-axis-2 c)) .pre .checked .nodes) _ (omega arith)
 
 keep-weights-requires : tie.Need-keep-weights-requires
-keep-weights-requires c κs = weights-keepable (entry (sources (targets (c .before .before .before .before .before))) .pre .checked)
+keep-weights-requires c κs = weights-keepable (entry (sources (targets (after-keep-live c))) .pre .checked)
 
 reset-all-live-requires : tie.Need-reset-all-live-requires
-reset-all-live-requires c κs = resettable (entry (sources (targets (kept-nodes (c .before .before .before .before .before)))) .pre .checked .nodes)
+reset-all-live-requires c κs = resettable (entry (sources (targets (kept-nodes (after-keep-weights c)))) .pre .checked .nodes)
 
 reset-all-live-requires-2 : tie.Need-reset-all-live-requires-2
 reset-all-live-requires-2 c κs = resettable (entry (sources (targets (kept-nodes (kept-weights (c .before .before .before))))) .pre .checked .edges)
 
 same-length-6 : tie.Need-same-length-6
-same-length-6 c = sources (targets (kept-nodes (kept-weights (reset-nodes (c .before .before .before .before))))) .compact-axis .kept .0
+same-length-6 c = sources (targets (kept-nodes (kept-weights (reset-nodes (after-reset-all-live-2 c))))) .compact-axis .kept .0
 
 returns : tie.Need-returns
 returns c =
-    let cleared = c .before .before .before .before in
+    let cleared = after-reset-all-live-2 c in
     let nodes-cleared = reset-nodes cleared in
     let weights-moved = kept-weights nodes-cleared in
     let nodes-moved = kept-nodes weights-moved in

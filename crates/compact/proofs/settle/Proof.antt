@@ -17,21 +17,34 @@ numbered-edges c = c .before .before .before .before .before .before .before .be
 abbrev worked : tie.After-drop-dead → tie.After-write-work
 worked c = c .before .before .before .before .before .before .before .before .before .before .before .before
 
+-- places on the way to a need, each by what stands just before it
+abbrev start : tie.After-write-map-arg2 → tie.Start
+start c = c .before .before .before .before .before .before .before .before .before .before .before .before .before .before .before
+
+abbrev after-write-map : tie.After-write-map-arg4 → tie.After-write-map
+after-write-map c = c .before .before .before .before .before
+
+abbrev after-write-map-2 : tie.After-write-work-arg9 → tie.After-write-map2
+after-write-map-2 c = c .before .before .before .before .before .before .before .before .before .before .before
+
+abbrev after-write-work : tie.After-drop-dead-arg9 → tie.After-write-work
+after-write-work c = c .before .before .before .before .before .before .before .before .before .before .before
+
 write-map-requires : tie.Need-write-map-requires
 write-map-requires c κs =
-    nodes-map-fits (c .before .before .before .before .before .before .before .before .before .before .before .before .before .before .before .pre)
+    nodes-map-fits (start c .pre)
 
 write-map-requires-2 : tie.Need-write-map-requires-2
-write-map-requires-2 c κs = edges-map-fits (entry (c .before .before .before .before .before) .pre)
+write-map-requires-2 c κs = edges-map-fits (entry (after-write-map c) .pre)
 
 write-work-requires : tie.Need-write-work-requires
 write-work-requires c κs =
-    let edges = c .before .before .before .before .before .before .before .before .before .before .before in
+    let edges = after-write-map-2 c in
     workable (entry (numbered-nodes edges) .pre) (edges .write-map2 .ensures)
 
 drop-dead-requires : tie.Need-drop-dead-requires
 drop-dead-requires c κs =
-    let work = c .before .before .before .before .before .before .before .before .before .before .before in
+    let work = after-write-work c in
     let nodes = numbered-nodes (numbered-edges work) in
     droppable (entry nodes .pre) (nodes .write-map .ensures) (work .write-work .kept .1 .1 .1 .1 .1 .1 .1 .1 .1 .0)
 

@@ -59,13 +59,17 @@ whole c =
     let a = c .before .before .before .before .args in
     rw (passed (c .before .before .before) (c .before .before .loop-test .left)) (sym (count-rest (a .words .now) (a .slots)))
 
+-- places on the way to a need, each by what stands just before it
+abbrev start : tie.After-shared-slice-known2 Inv-loop μ-loop → tie.Start Inv-loop μ-loop
+start c = c .before .before .before .before
+
 -- and at most the number of slots
 bound : (c : tie.After-shared-slice-known2 Inv-loop μ-loop)
-    → let a = c .before .before .before .before .args in live-count (live-flags (a .words .now) (a .slots)) ≤ a .slots
-bound c = let a = c .before .before .before .before .args in count-le (a .words .now) (a .slots)
+    → let a = start c .args in live-count (live-flags (a .words .now) (a .slots)) ≤ a .slots
+bound c = let a = start c .args in count-le (a .words .now) (a .slots)
 
 rem-result : tie.Need-rem-result Inv-loop μ-loop
-rem-result c = let slots = c .before .before .before .before .args .slots in omega (arith, power slots, pow-pos (slots % 64))
+rem-result c = let slots = start c .args .slots in omega (arith, power slots, pow-pos (slots % 64))
 
 cast-result : tie.Need-cast-result Inv-loop μ-loop
 cast-result c = rw power (omega (arith, whole c, bound c))

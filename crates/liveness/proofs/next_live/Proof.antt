@@ -13,18 +13,22 @@ use Rattle.liveness.proofs.next_live.Tie as tie
 returns : tie.Need-returns
 returns c = sym (next-end _ _ (rw length-flags (c .if1 .taken)) ∙ length-flags _ _)
 
+-- places on the way to a need, each by what stands just before it
+abbrev start : tie.Then2 → tie.Start
+start c = c .before .before .before .before
+
 -- the lowest set bit of the rest of the word
 room : (c : tie.Then2)
-    → let a = c .before .before .before .before .args in
+    → let a = start c .args in
     a .from % 64 + trailingZeros 64 (getD (a .words .now) (a .from / 64) 0 / 2 ^ (a .from % 64)) < 64
 room c =
-    let x = c .before .before .before .before .args .from in
+    let x = start c .args .from in
     zeros-room _ _ (c .before .shared-slice-known2 .given (x / 64) .fits) (c .if2 .taken)
 
 returns-2 : tie.Need-returns-2
 returns-2 c =
     let t = c .before in
-    let x = t .before .before .before .before .args .from in
+    let x = start t .args .from in
     c .least .ensures ∙ sym (next-word _ _ x (omega arith) (t .before .shared-slice-known2 .given (x / 64) .fits) (t .if2 .taken))
 
 returns-3 : tie.Need-returns-3

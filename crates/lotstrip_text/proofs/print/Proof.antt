@@ -23,11 +23,18 @@ write-hex-requires c κs =
     let a = at-start (lines .before) .args in
     omega (arith, length-printed (a .answers .now) (a .bytes .now), lines .write-answers .ensures .ended, put-length (lines .write-answers .ensures .put))
 
+-- places on the way to a need, each by what stands just before it
+abbrev after-write-answers-of-slice-known-3 : tie.After-slice-known3 → tie.After-write-answers
+after-write-answers-of-slice-known-3 c = c .before .before .before .before .before .before
+
+abbrev after-write-answers-of-write-hex : tie.After-write-hex → tie.After-write-answers
+after-write-answers-of-write-hex c = c .before .before .before .before
+
 -- the newline has its place
-room : (c : tie.After-slice-known3) → c .before .before .write-hex .result < length (c .before .before .before .before .before .before .write-answers .last .0)
+room : (c : tie.After-slice-known3) → c .before .before .write-hex .result < length (after-write-answers-of-slice-known-3 c .write-answers .last .0)
 room c =
     let hex = c .before .before in
-    let lines = hex .before .before .before .before in
+    let lines = after-write-answers-of-write-hex hex in
     let a = at-start (lines .before) .args in
     omega (
       arith,
@@ -40,7 +47,7 @@ room c =
 returns : tie.Need-returns
 returns c =
     let hex = c .before .before in
-    append-then (hex .before .before .before .before .write-answers .ensures) (append-one _ (hex .write-hex .ensures .put) (hex .write-hex .ensures .ended) (room c))
+    append-then (after-write-answers-of-write-hex hex .write-answers .ensures) (append-one _ (hex .write-hex .ensures .put) (hex .write-hex .ensures .ended) (room c))
 
 pub print-spec : {M : Type 1} → statement M
 print-spec =

@@ -15,9 +15,13 @@ start c = c .before .before .before .before
 slice-aggregate-book : tie.Need-slice-aggregate-book
 slice-aggregate-book c = let r = c .before .before in sym (strip-length (r .read-words .ensures) (start r .pre .whole))
 
+-- places on the way to a need, each by what stands just before it
+abbrev after-read-words : tie.After-bytes → tie.After-read-words
+after-read-words c = c .before .before .before .before
+
 book-requires : tie.Need-book-requires
 book-requires c κs =
-    let r = c .before .before .before .before in
+    let r = after-read-words c in
     let long = strip-length (r .read-words .ensures) (start r .pre .whole) in
     let short = start r .pre .short in
     (strip-whole (r .read-words .ensures) (start r .pre .whole), (search needs, search needs))

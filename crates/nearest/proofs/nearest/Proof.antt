@@ -10,9 +10,13 @@ nearest-chain-requires c κs =
     let passed = c .before .before in
     passed .before .before .refusal .ensures .asked (passed .if1 .left) _ refl
 
+-- places on the way to a need, each by what stands just before it
+abbrev after-nearest-chain : tie.After-slice-known4 → tie.After-nearest-chain
+after-nearest-chain c = c .before .before .before .before
+
 returns-2 : tie.Need-returns-2
 returns-2 c =
-    let called = c .before .before .before .before in
+    let called = after-nearest-chain c in
     let passed = called .before .before .before in
     nearest-searched (passed .before .before .refusal .ensures) (passed .if1 .left) (called .nearest-chain .ensures)
 

@@ -6,9 +6,13 @@ use Rattle.strip.proofs.Running.{operation-there}
 use Rattle.strip.proofs.operation_at.Statement.{statement}
 use Rattle.strip.proofs.operation_at.Tie as tie
 
+-- places on the way to a need, each by what stands just before it
+abbrev start : tie.After-decode → tie.Start
+start c = c .before .before .before .before .before .before .before
+
 returns : tie.Need-returns
 returns c =
-    let s = c .before .before .before .before .before .before .before in
+    let s = start c in
     let words = s .args .words .now in
     c .decode .ensures ∙ sym (operation-at words (s .args .i) (operation-there words (s .args .i) (s .pre)))
 

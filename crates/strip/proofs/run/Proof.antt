@@ -45,14 +45,18 @@ stepped c = c .before .before .before .before .before .before .before .before .b
 write-answer-requires : tie.Need-write-answer-requires Inv-loop μ-loop
 write-answer-requires c κs = let turn = begun (stepped (c .before)) in running-room (turn .before .loop .inv) (turn .loop-test .taken)
 
+-- places on the way to a need, each by what stands just before it
+abbrev after-slice-known-15 : tie.After-counts Inv-loop μ-loop → tie.After-slice-known15 Inv-loop μ-loop
+after-slice-known-15 c = c .before .before .before .before .before
+
 add-i : tie.Need-add-i Inv-loop μ-loop
 add-i c =
-    let turn = begun (stepped (c .before .before .before .before .before)) in
+    let turn = begun (stepped (after-slice-known-15 c)) in
     let s = at-start (turn .before .before) in
     omega (arith, turn .loop-test .taken, s .good)
 
 loop-less : tie.Need-loop-less Inv-loop μ-loop
-loop-less c = let turn = begun (stepped (c .before .before .before .before .before)) in omega (arith, turn .loop-test .taken)
+loop-less c = let turn = begun (stepped (after-slice-known-15 c)) in omega (arith, turn .loop-test .taken)
 
 loop-again : tie.Need-loop-again Inv-loop μ-loop
 loop-again c =

@@ -47,24 +47,40 @@ index-out : (c : tie.Else4)
     index-right (edge-capacity w) (node-capacity w) (w .counts .nodes .base) (w .counts .edges .base) (w .outgoing) ≡ true
 index-out c = accepted (c .before .index-right .ensures) (c .if4 .left)
 
-four : (c : tie.Else5) → rule-4 (lent (start (with-ends (c .before .before .before .before) .before .before .before))) ≡ true
+-- places on the way to a need, each by what stands just before it
+abbrev else-3-of-else-5 : tie.Else5 → tie.Else3
+else-3-of-else-5 c = c .before .before .before .before
+
+abbrev else-3-of-else-6 : tie.Else6 → tie.Else3
+else-3-of-else-6 c = c .before .before .before .before .before .before
+
+abbrev else-3-of-else-7 : tie.Else7 → tie.Else3
+else-3-of-else-7 c = c .before .before .before .before .before .before .before .before
+
+abbrev at-start : tie.After-shared-slice-known7 → tie.Start
+at-start c = c .before .before .before .before .before .before .before
+
+abbrev after-ends-right : tie.After-struct-known → tie.After-ends-right
+after-ends-right c = c .before .before .before .before
+
+four : (c : tie.Else5) → rule-4 (lent (start (with-ends (else-3-of-else-5 c) .before .before .before))) ≡ true
 unfolding rule-4
 four c = both-true (index-out (c .before .before)) (accepted (c .before .index-right2 .ensures) (c .if5 .left))
 
 -- rule 5
 rings-out : (c : tie.Else6)
-    → let w = lent (start (with-ends (c .before .before .before .before .before .before) .before .before .before)) in
+    → let w = lent (start (with-ends (else-3-of-else-6 c) .before .before .before)) in
     all (ring-right (edge-capacity w) (w .counts .edges .base) (w .counts .edges .bound) (w .outgoing)) (from 0 (w .counts .nodes .bound)) ≡ true
 rings-out c = accepted (c .before .rings-right .ensures) (c .if6 .left)
 
-threaded : (c : tie.Else7) → Threaded (lent (start (with-ends (c .before .before .before .before .before .before .before .before) .before .before .before)))
+threaded : (c : tie.Else7) → Threaded (lent (start (with-ends (else-3-of-else-7 c) .before .before .before)))
 unfolding rule-5
 threaded c =
     let h = c .before .before in
     let k = h .before .before in
     record {
-      counted = start (with-ends (k .before .before .before .before) .before .before .before) .pre;
-      r3 = three (k .before .before .before .before);
+      counted = start (with-ends (else-3-of-else-5 k) .before .before .before) .pre;
+      r3 = three (else-3-of-else-5 k);
       r4 = four k;
       r5 = both-true (rings-out h) (accepted (c .before .rings-right2 .ensures) (c .if7 .left));
     }
@@ -112,20 +128,20 @@ pub broken-axes-spec : {M : Type 1} → statement M
 broken-axes-spec =
     tie.close
     (tie.spec
-    (λ c κs. sized (c .before .before .before .before .before .before .before) Outgoing)
+    (λ c κs. sized (at-start c) Outgoing)
     returns
     (λ c κs. sized (start (c .before)) Incoming)
     returns-2
     (λ c. search needs)
-    (λ c κs. let s = start (c .before .before .before .before) in weights-there (lent s) (s .pre .r1))
+    (λ c κs. let s = start (after-ends-right c) in weights-there (lent s) (s .pre .r1))
     returns-3
     (λ c κs. sized (start (with-ends c .before .before .before)) Outgoing)
     returns-4
     (λ c κs. sized (start (with-ends (c .before .before) .before .before .before)) Incoming)
     returns-5
-    (λ c κs. sized (start (with-ends (c .before .before .before .before) .before .before .before)) Outgoing)
+    (λ c κs. sized (start (with-ends (else-3-of-else-5 c) .before .before .before)) Outgoing)
     returns-6
-    (λ c κs. sized (start (with-ends (c .before .before .before .before .before .before) .before .before .before)) Incoming)
+    (λ c κs. sized (start (with-ends (else-3-of-else-6 c) .before .before .before)) Incoming)
     returns-7
     (λ c κs. threaded c)
     returns-8)

@@ -32,9 +32,22 @@ six c = both-true (runs-out (c .before .before)) (accepted (c .before .runs-righ
 passed-six : (c : tie.Else2) → Structured (lent (start (c .before .before .before)))
 passed-six c = structured (start (c .before .before .before) .pre) (six c)
 
+-- places on the way to a need, each by what stands just before it
+abbrev after-runs-right : tie.Else3 → tie.After-runs-right
+after-runs-right c = c .before .before .before .before .before
+
+abbrev start-of-shared-slice-known-7 : tie.After-shared-slice-known7 → tie.Start
+start-of-shared-slice-known-7 c = c .before .before .before .before .before .before .before
+
+abbrev start-of-lists-flat : tie.After-lists-flat → tie.Start
+start-of-lists-flat c = c .before .before .before .before .before .before .before .before
+
+abbrev after-lists-flat : tie.Else2 → tie.After-lists-flat
+after-lists-flat c = c .before .before .before .before .before
+
 -- the walks of one direction pass
 walks-out : (c : tie.Else3)
-    → let w = lent (start (c .before .before .before .before .before)) in walks-right (plain-of (shape-of w)) Outgoing ≡ true
+    → let w = lent (start (after-runs-right c)) in walks-right (plain-of (shape-of w)) Outgoing ≡ true
 walks-out c = sym (walks-rule _ Outgoing (passed-six (c .before .before))) ∙ accepted (c .before .walks-right .ensures) (c .if3 .left)
 
 returns : tie.Need-returns
@@ -69,14 +82,14 @@ pub broken-lists-spec : {M : Type 1} → statement M
 broken-lists-spec =
     tie.close
     (tie.spec
-    (λ c κs. let s = c .before .before .before .before .before .before .before in lists-readable (lent s) Outgoing (s .pre))
-    (λ c κs. let s = c .before .before .before .before .before .before .before .before in lists-readable (lent s) Incoming (s .pre))
-    (λ c κs. let s = c .before .before .before .before .before .before .before .before .before in (runs-readable (lent s) Outgoing (s .pre .counted .r1), λ h. c .before .lists-flat .ensures h .0))
+    (λ c κs. let s = start-of-shared-slice-known-7 c in lists-readable (lent s) Outgoing (s .pre))
+    (λ c κs. let s = start-of-lists-flat c in lists-readable (lent s) Incoming (s .pre))
+    (λ c κs. let s = start-of-lists-flat (c .before) in (runs-readable (lent s) Outgoing (s .pre .counted .r1), λ h. c .before .lists-flat .ensures h .0))
     returns
     (λ c κs. let s = start (c .before) in (runs-readable (lent s) Incoming (s .pre .counted .r1), λ h. c .before .before .lists-flat2 .ensures h .0))
     returns-2
-    (λ c κs. (walks-readable _ Outgoing (passed-six c), λ h. c .before .before .before .before .before .lists-flat .ensures h .1))
+    (λ c κs. (walks-readable _ Outgoing (passed-six c), λ h. after-lists-flat c .lists-flat .ensures h .1))
     returns-3
-    (λ c κs. (walks-readable _ Incoming (passed-six (c .before .before)), λ h. c .before .before .before .before .before .before .lists-flat2 .ensures h .1))
+    (λ c κs. (walks-readable _ Incoming (passed-six (c .before .before)), λ h. after-runs-right c .before .lists-flat2 .ensures h .1))
     returns-4
     returns-5)

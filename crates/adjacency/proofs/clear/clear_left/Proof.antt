@@ -24,15 +24,28 @@ loop-holds c = let entry = c .before .before in clearing-start (entry .args .slo
 next-listed-requires : tie.Need-next-listed-requires Inv-loop μ-loop
 next-listed-requires c κs = let at = c .before in clearing-next (at .before .before .before .pre) (at .loop .inv)
 
+-- places on the way to a need, each by what stands just before it
+abbrev at-loop-of-retire-arg : tie.After-retire-arg Inv-loop μ-loop → tie.At-loop Inv-loop μ-loop
+at-loop-of-retire-arg c = c .before .before .before .before .before .before
+
+abbrev at-loop-of-retire : tie.After-retire Inv-loop μ-loop → tie.At-loop Inv-loop μ-loop
+at-loop-of-retire c = c .before .before .before .before .before .before .before
+
+abbrev after-found : tie.After-cursor Inv-loop μ-loop → tie.After-found Inv-loop μ-loop
+after-found c = c .before .before .before .before .before .before
+
+abbrev after-next-listed : tie.After-retire Inv-loop μ-loop → tie.After-next-listed Inv-loop μ-loop
+after-next-listed c = c .before .before .before .before .before
+
 retire-requires : tie.Need-retire-requires Inv-loop μ-loop
 retire-requires c κs =
-    let at = c .before .before .before .before .before .before in
+    let at = at-loop-of-retire-arg c in
     clearing-next (at .before .before .before .pre) (at .loop .inv) .seekable .live-long
 
 add-n : tie.Need-add-n Inv-loop μ-loop
 add-n c =
     let gone = c .before .before in
-    let at = gone .before .before .before .before .before .before .before in
+    let at = at-loop-of-retire gone in
     omega (arith, retired-few (retired-then (at .loop .inv .retired) (gone .retire .ensures)), at .before .before .before .pre .few)
 
 returns : tie.Need-returns Inv-loop μ-loop
@@ -40,13 +53,13 @@ returns c = let s = c .before .before in clearing-end (s .before .before .loop .
 
 loop-less : tie.Need-loop-less Inv-loop μ-loop
 loop-less c =
-    let s = c .before .before .before .before .before .before .before .before in
-    sought-less (s .next-listed .ensures) (c .before .before .before .before .before .before .found .given .1)
+    let s = after-found c .before .before in
+    sought-less (s .next-listed .ensures) (after-found c .found .given .1)
 
 loop-again : tie.Need-loop-again Inv-loop μ-loop
 loop-again c =
     let gone = c .before .before .before in
-    let s = gone .before .before .before .before .before in
+    let s = after-next-listed gone in
     clearing-on (s .before .before .loop .inv) (s .next-listed .ensures) (gone .before .before .before .found .given .1) (gone .retire .ensures)
 
 pub clear-left-spec : {M : Type 1} → statement M

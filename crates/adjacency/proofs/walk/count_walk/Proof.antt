@@ -6,14 +6,21 @@ use Rattle.adjacency.specs.Laws.Walk.{given-seekable, given-walk}
 use Rattle.adjacency.proofs.walk.count_walk.Statement.{statement}
 use Rattle.adjacency.proofs.walk.count_walk.Tie as tie
 
+-- places on the way to a need, each by what stands just before it
+abbrev after-start-of-tombstoned : tie.After-tombstoned → tie.After-start
+after-start-of-tombstoned c = c .before .before .before .before
+
+abbrev after-start-of-count : tie.After-count → tie.After-start
+after-start-of-count c = c .before .before .before .before .before
+
 count-requires : tie.Need-count-requires
 count-requires c κs =
-    let s = c .before .before .before .before in
+    let s = after-start-of-tombstoned c in
     given-seekable (s .before .before .before .pre) (s .start .ensures) (c .before .before .entries-of .ensures) (c .before .next-of .ensures)
 
 returns : tie.Need-returns
 returns c =
-    let s = c .before .before .before .before .before in
+    let s = after-start-of-count c in
     c .count .ensures
     ∙ ap length
     (given-walk (s .before .before .before .pre) (s .start .ensures) (c .before .before .before .entries-of .ensures) (c .before .before .next-of .ensures)

@@ -16,17 +16,24 @@ count-requires c κs =
     rw (c .before .with-base .ensures, c .before .before .next-of .ensures)
     (record { ready = ring-ready (c .before .before .before .start .ensures .ready); live-long = omega arith })
 
+-- places on the way to a need, each by what stands just before it
+abbrev after-start : tie.After-count → tie.After-start
+after-start c = c .before .before .before .before
+
+abbrev at-start : tie.After-start → tie.Start
+at-start c = c .before .before .before .before .before
+
 returns-2 : tie.Need-returns-2
 returns-2 c =
-    let s = c .before .before .before .before in
+    let s = after-start c in
     let t = s .before .before in
     given-degree (t .before .before .before .pre) (s .start .ensures) (sym (t .tombstoned .ensures) ∙ s .before .if1 .left)
     (c .before .before .before .next-of .ensures) (c .before .before .with-base .ensures) (c .before .part-count .ensures) (c .count .ensures)
 
 add-result : tie.Need-add-result
 add-result c =
-    let s = c .before .before .before .before in
-    omega (arith, returns-2 c, walk-short (s .before .before .before .before .before .pre) (s .start .ensures))
+    let s = after-start c in
+    omega (arith, returns-2 c, walk-short (at-start s .pre) (s .start .ensures))
 
 pub degree-spec : {M : Type 1} → statement M
 degree-spec =

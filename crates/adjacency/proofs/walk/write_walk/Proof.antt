@@ -4,11 +4,18 @@ use Rattle.adjacency.specs.Laws.Walk.{given-writable, given-walk}
 use Rattle.adjacency.proofs.walk.write_walk.Statement.{statement}
 use Rattle.adjacency.proofs.walk.write_walk.Tie as tie
 
+-- places on the way to a need, each by what stands just before it
+abbrev after-start : tie.After-write-arg → tie.After-start
+after-start c = c .before .before .before .before .before
+
+abbrev at-start : tie.After-start → tie.Start
+at-start c = c .before .before .before .before
+
 write-requires : tie.Need-write-requires
 write-requires c κs =
-    let s = c .before .before .before .before .before in
-    given-writable (s .before .before .before .before .pre .walkable) (s .start .ensures) (c .before .before .before .entries-of .ensures)
-    (c .before .before .next-of .ensures) (c .before .tombstoned .ensures) (s .before .before .before .before .pre .fits)
+    let s = after-start c in
+    given-writable (at-start s .pre .walkable) (s .start .ensures) (c .before .before .before .entries-of .ensures)
+    (c .before .before .next-of .ensures) (c .before .tombstoned .ensures) (at-start s .pre .fits)
 
 returns : tie.Need-returns
 returns c =

@@ -24,17 +24,27 @@ abbrev μ-loop : tie.MeasureT-loop
 raise-requires : tie.Need-raise-requires Inv-loop μ-loop
 raise-requires c κs = let s = c .before .before .before in waiting-fits (s .pre .0) (omega arith)
 
+-- places on the way to a need, each by what stands just before it
+abbrev start-of-raise : tie.After-raise Inv-loop μ-loop → tie.Start Inv-loop μ-loop
+start-of-raise c = c .before .before .before .before
+
+abbrev at-loop : tie.After-slice-known2 Inv-loop μ-loop → tie.At-loop Inv-loop μ-loop
+at-loop c = c .before .before .before .before .before
+
+abbrev start-of-at-loop : tie.At-loop Inv-loop μ-loop → tie.Start Inv-loop μ-loop
+start-of-at-loop c = c .before .before .before .before .before
+
 loop-holds : tie.Need-loop-holds Inv-loop μ-loop
 loop-holds c =
-    let s = c .before .before .before .before in
+    let s = start-of-raise c in
     let left = (s .args .pen .count + 7) / 8 * 8 in
     (omega arith, (omega arith, (omega arith, (refl, parts-none (s .args .bytes .now) (8 * s .args .pen .at) left (c .raise .result) (omega arith)))))
 
 loop-again : tie.Need-loop-again Inv-loop μ-loop
 loop-again c =
     let wrote = c .before .before in
-    let l = c .before .before .before .before .before .loop in
-    let s = c .before .before .before .before .before .before .before .before .before .before in
+    let l = at-loop c .loop in
+    let s = start-of-at-loop (at-loop c) in
     let left = (s .args .pen .count + 7) / 8 * 8 in (
       omega arith,
       (

@@ -20,10 +20,14 @@ rebuild-requires c κs =
     let keep = at-keep-live (translate .before) in
     rebuildable (entry keep .pre) (keep .keep-live .ensures) (translate .translate .ensures)
 
+-- places on the way to a need, each by what stands just before it
+abbrev after-translate : tie.After-rebuild → tie.After-translate
+after-translate c = c .before .before .before .before
+
 returns : tie.Need-returns
 returns c =
     let rebuild = c .before .before in
-    let translate = rebuild .before .before .before .before in
+    let translate = after-translate rebuild in
     let keep = at-keep-live (translate .before) in
     compacted (entry keep .pre) (keep .keep-live .ensures) (translate .translate .ensures) (rebuild .rebuild .ensures)
 

@@ -85,6 +85,19 @@ returns-7 c =
     (accepted (t .ends-below2 .ensures) (k .before .if3 .left)) (accepted (k .weights-right .ensures) (o .before .if4 .left))
     (accepted (o .lists-right .ensures) (i .before .if5 .left)) (accepted (i .lists-right2 .ensures) (c .if6 .left))
 
+-- places on the way to a need, each by what stands just before it
+abbrev after-outs-start-of-else-2 : tie.Else2 → tie.After-outs-start
+after-outs-start-of-else-2 c = c .before .before .before .before
+
+abbrev after-outs-start-of-else-3 : tie.Else3 → tie.After-outs-start
+after-outs-start-of-else-3 c = c .before .before .before .before .before .before
+
+abbrev after-outs-start-of-else-4 : tie.Else4 → tie.After-outs-start
+after-outs-start-of-else-4 c = c .before .before .before .before .before .before .before .before
+
+abbrev after-outs-start-of-else-5 : tie.Else5 → tie.After-outs-start
+after-outs-start-of-else-5 c = c .before .before .before .before .before .before .before .before .before .before
+
 pub broken-content-spec : {M : Type 1} → statement M
 broken-content-spec =
     tie.close
@@ -104,12 +117,12 @@ broken-content-spec =
     returns
     (λ c κs. stands (c .before .before) .out-entries .ends)
     returns-2
-    (λ c κs. stands (c .before .before .before .before) .in-entries .ends)
+    (λ c κs. stands (after-outs-start-of-else-2 c) .in-entries .ends)
     returns-3
-    (λ c κs. stands (c .before .before .before .before .before .before) .weights)
+    (λ c κs. stands (after-outs-start-of-else-3 c) .weights)
     returns-4
-    (λ c κs. stands (c .before .before .before .before .before .before .before .before) .out-entries)
+    (λ c κs. stands (after-outs-start-of-else-4 c) .out-entries)
     returns-5
-    (λ c κs. stands (c .before .before .before .before .before .before .before .before .before .before) .in-entries)
+    (λ c κs. stands (after-outs-start-of-else-5 c) .in-entries)
     returns-6
     returns-7)

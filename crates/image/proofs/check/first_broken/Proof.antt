@@ -24,16 +24,20 @@ returns-3 c =
     let g = c .before .before in
     sym (refused-2 _ (g .before .before .if1 .left) (inr (rw (g .read-field2 .ensures) at (c .if3 .taken))))
 
+-- places on the way to a need, each by what stands just before it
+abbrev after-read-field : tie.After-image-bytes → tie.After-read-field
+after-read-field c = c .before .before .before .before
+
 returns-4 : tie.Need-returns-4
 returns-4 c =
     let z = c .before in
-    let f = z .before .before .before .before in
+    let f = after-read-field z in
     other-length _ (f .before .if1 .left) (f .read-field .ensures) (z .before .before .before .read-field2 .ensures) (few z) (z .image-bytes .ensures) (c .if4 .taken)
 
 broken-content-requires : tie.Need-broken-content-requires
 broken-content-requires c κs =
     let z = c .before in
-    let f = z .before .before .before .before in
+    let f = after-read-field z in
     right-length _ (f .before .if1 .left) (f .read-field .ensures) (z .before .before .before .read-field2 .ensures) (few z) (z .image-bytes .ensures) (c .if4 .left)
 
 pub first-broken-spec : {M : Type 1} → statement M

@@ -26,8 +26,21 @@ returns c =
     let k = c .before .before in
     order-past (k .before .loop .inv) (k .loop-test .taken) (c .before .read-field .ensures) (c .if1 .taken)
 
+-- places on the way to a need, each by what stands just before it
+abbrev start : tie.Else1 Inv-loop μ-loop → tie.Start Inv-loop μ-loop
+start c = c .before .before .before .before .before
+
+abbrev after-read-field-of-mark : tie.After-mark Inv-loop μ-loop → tie.After-read-field Inv-loop μ-loop
+after-read-field-of-mark c = c .before .before .before .before .before
+
+abbrev after-read-field-of-else-3 : tie.Else3 Inv-loop μ-loop → tie.After-read-field Inv-loop μ-loop
+after-read-field-of-else-3 c = c .before .before .before .before .before .before .before
+
+abbrev after-read-field-of-seen : tie.After-seen Inv-loop μ-loop → tie.After-read-field Inv-loop μ-loop
+after-read-field-of-seen c = c .before .before .before .before
+
 field-of-requires : tie.Need-field-of-requires Inv-loop μ-loop
-field-of-requires c κs = column-fewer _ (c .before .before .before .before .before .pre .ends) (c .if1 .left)
+field-of-requires c κs = column-fewer _ (start c .pre .ends) (c .if1 .left)
 
 returns-2 : tie.Need-returns-2 Inv-loop μ-loop
 returns-2 c =
@@ -38,13 +51,13 @@ returns-2 c =
 returns-3 : tie.Need-returns-3 Inv-loop μ-loop
 returns-3 c =
     let s = c .before .before in
-    let f = s .before .before .before .before .before in
+    let f = after-read-field-of-mark s in
     let k = f .before in
     order-marked (k .before .loop .inv) (k .loop-test .taken) (f .read-field .ensures) (s .mark .ensures) (not-true _ (c .if3 .taken))
 
 add-at : tie.Need-add-at Inv-loop μ-loop
 add-at c =
-    let k = c .before .before .before .before .before .before .before .before in
+    let k = after-read-field-of-else-3 c .before in
     let room = order-room (k .before .loop .inv) (k .loop-test .taken) in
     omega (arith, k .before .before .before .pre)
 
@@ -71,9 +84,9 @@ lists-right-spec =
     returns
     field-of-requires
     returns-2
-    (λ c. sym (c .before .before .before .before .before .before .loop .inv .long))
+    (λ c. sym (after-read-field-of-seen c .before .before .loop .inv .long))
     (λ c. omega arith)
-    (λ c κs. omega (arith, c .before .before .before .before .before .before .loop .inv .long))
+    (λ c κs. omega (arith, after-read-field-of-seen c .before .before .loop .inv .long))
     returns-3
     add-at
     (λ c. omega arith)

@@ -27,8 +27,18 @@ slots c = c .before .before .before .before .before .before .before .before
 abbrev live : tie.After-reset-all-live2 → tie.After-reset-all-live
 live c = c .before .before .before .before
 
+-- places on the way to a need, each by what stands just before it
+abbrev start : tie.After-shared-slice-known → tie.Start
+start c = c .before .before .before .before .before .before .before .before
+
+abbrev after-read-payloads : tie.After-reset-all-live-arg → tie.After-read-payloads
+after-read-payloads c = c .before .before .before .before .before .before .before
+
+abbrev after-reset-all-live-2 : tie.After-all-based2 → tie.After-reset-all-live2
+after-reset-all-live-2 c = c .before .before .before .before
+
 read-field-requires : tie.Need-read-field-requires
-read-field-requires c κs = count-room _ (c .before .before .before .before .before .before .before .before .pre .image) 0 (omega arith)
+read-field-requires c κs = count-room _ (start c .pre .image) 0 (omega arith)
 
 read-field-requires-2 : tie.Need-read-field-requires-2
 read-field-requires-2 c κs = count-room _ (entry c .pre .image) count-width (omega arith)
@@ -49,7 +59,7 @@ read-payloads-requires c κs =
 
 reset-all-live-requires : tie.Need-reset-all-live-requires
 reset-all-live-requires c κs =
-    let nodes = counted (directions (c .before .before .before .before .before .before .before)) .before in
+    let nodes = counted (directions (after-read-payloads c)) .before in
     let pre = entry nodes .pre in
     omega (arith, nodes .read-field .ensures, pre .nodes-room, pre .roomy .live-nodes-room)
 
@@ -61,7 +71,7 @@ reset-all-live-requires-2 c κs =
 
 returns : tie.Need-returns
 returns c =
-    let edges-live = c .before .before .before .before in
+    let edges-live = after-reset-all-live-2 c in
     let nodes-live = live edges-live in
     let payloads = slots nodes-live in
     let axes = directions payloads in

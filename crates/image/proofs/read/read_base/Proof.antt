@@ -4,13 +4,26 @@ use Rattle.image.proofs.Directions.{base-read}
 use Rattle.image.proofs.read.read_base.Statement.{statement}
 use Rattle.image.proofs.read.read_base.Tie as tie
 
+-- places on the way to a need, each by what stands just before it
+abbrev after-fill-words : tie.After-fill-words2 → tie.After-fill-words
+after-fill-words c = c .before .before .before .before
+
+abbrev after-read-fields : tie.After-fill-words → tie.After-read-fields
+after-read-fields c = c .before .before .before .before
+
+abbrev after-count-offsets : tie.After-read-fields → tie.After-count-offsets
+after-count-offsets c = c .before .before .before .before
+
+abbrev at-start : tie.After-count-offsets → tie.Start
+at-start c = c .before .before .before .before
+
 returns : tie.Need-returns
 returns c =
     let marks = c .before .before in
-    let rings = marks .before .before .before .before in
-    let lists = rings .before .before .before .before in
-    let offsets = lists .before .before .before .before in
-    let start = offsets .before .before .before .before in
+    let rings = after-fill-words marks in
+    let lists = after-read-fields rings in
+    let offsets = after-count-offsets lists in
+    let start = at-start offsets in
     base-read (start .pre) (offsets .count-offsets .ensures) (lists .read-fields .ensures) (rings .fill-words .ensures) (marks .fill-words2 .ensures)
 
 pub read-base-spec : {M : Type 1} → statement M

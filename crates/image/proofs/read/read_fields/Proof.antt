@@ -28,16 +28,20 @@ read-field-requires c κs =
     let s = c .before .before .before .before in
     rw (l .inv .1 .0) (spread-room (s .pre) (l .i) (omega arith))
 
+-- places on the way to a need, each by what stands just before it
+abbrev start : tie.After-read-field Inv-loop μ-loop → tie.Start Inv-loop μ-loop
+start c = c .before .before .before .before .before
+
 add-from : tie.Need-add-from Inv-loop μ-loop
 add-from c =
     let l = c .before .before .loop in
-    let s = c .before .before .before .before .before in
+    let s = start c in
     omega (arith, l .inv .1 .0, spread-next (s .pre) (l .i) (omega arith))
 
 loop-again : tie.Need-loop-again Inv-loop μ-loop
 loop-again c =
     let l = c .before .before .loop in
-    let a = c .before .before .before .before .before .args in (
+    let a = start c .args in (
       omega arith,
       (
         omega (arith, l .inv .1 .0, further (a .position) (a .stride) (l .i)),

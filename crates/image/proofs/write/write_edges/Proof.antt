@@ -40,16 +40,23 @@ long c e =
     let a = start c .args in
     length-record-bits (a .width) (record-at (a .live .now) (a .slots) (a .outgoing .now) (a .incoming .now) (a .lows .now) (a .highs .now) e)
 
+-- places on the way to a need, each by what stands just before it
+abbrev at-start : tie.After-next-live Inv-loop μ-loop → tie.Start Inv-loop μ-loop
+at-start c = c .before .before .before .before .before .before .before .before .before
+
+abbrev in-loop : tie.After-shared-slice-known11 Inv-loop μ-loop → tie.In-loop Inv-loop μ-loop
+in-loop c = c .before .before .before .before .before
+
 loop-holds : tie.Need-loop-holds Inv-loop μ-loop
 loop-holds c =
-    let s = c .before .before .before .before .before .before .before .before .before in
+    let s = at-start c in
     let a = s .args in
     live-none (a .bytes .now) (a .pen) (record-width (a .width))
     (piece (a .width) (a .live .now) (a .slots) (a .outgoing .now) (a .incoming .now) (a .lows .now) (a .highs .now)) (c .next-live .ensures) (s .pre .room)
 
 write-edge-requires : tie.Need-write-edge-requires Inv-loop μ-loop
 write-edge-requires c κs =
-    let turn = c .before .before .before .before .before in
+    let turn = in-loop c in
     edge-room (start (turn .before) .pre) (turn .before .loop .inv) (turn .loop-test .taken)
 
 loop-less : tie.Need-loop-less Inv-loop μ-loop

@@ -25,9 +25,13 @@ start c = c .before .before .before .before .before
 abbrev turned : tie.After-slice-known2 Inv-loop μ-loop → tie.In-loop Inv-loop μ-loop
 turned c = c .before .before .before .before .before .before
 
+-- places on the way to a need, each by what stands just before it
+abbrev at-start : tie.After-shared-slice-known3 Inv-loop μ-loop → tie.Start Inv-loop μ-loop
+at-start c = c .before .before .before .before
+
 loop-holds : tie.Need-loop-holds Inv-loop μ-loop
 loop-holds c =
-    let s = c .before .before .before .before in
+    let s = at-start c in
     let a = s .args in
     (omega arith, entry-none (a .bytes .now) (a .pen) (a .width) (entry-bits (a .width) (a .live .now) (a .slots)) (a .entries .now) (s .pre .room))
 

@@ -15,8 +15,15 @@ roomy c = c .before .before
 abbrev listed : tie.After-write-survivors → tie.After-write-both
 listed c = c .before .before .before .before .before
 
+-- places on the way to a need, each by what stands just before it
+abbrev else-1 : tie.Then2 → tie.Else1
+else-1 c = c .before .before .before .before
+
+abbrev after-write-both : tie.After-write-survivors-arg2 → tie.After-write-both
+after-write-both c = c .before .before .before .before
+
 returns-2 : tie.Need-returns-2
-returns-2 c = let first = c .before .before .before .before in work-short (first .before .judge .ensures) (first .if1 .left) (c .if2 .taken)
+returns-2 c = let first = else-1 c in work-short (first .before .judge .ensures) (first .if1 .left) (c .if2 .taken)
 
 image-bytes-requires : tie.Need-image-bytes-requires
 image-bytes-requires c κs = let first = sound c in counts-few (first .before .judge .ensures .checked (first .if1 .left))
@@ -35,7 +42,7 @@ write-both-requires c κs =
 
 write-survivors-requires : tie.Need-write-survivors-requires
 write-survivors-requires c κs =
-    let both = c .before .before .before .before in
+    let both = after-write-both c in
     let fits = both .before .before in
     let room = roomy fits in
     let first = sound room in

@@ -28,9 +28,13 @@ start c = c .before .before .before .before .before
 abbrev turned : tie.After-slice-known2 Inv-loop μ-loop → tie.In-loop Inv-loop μ-loop
 turned c = c .before .before .before .before .before
 
+-- places on the way to a need, each by what stands just before it
+abbrev at-start : tie.After-next-live Inv-loop μ-loop → tie.Start Inv-loop μ-loop
+at-start c = c .before .before .before .before
+
 loop-holds : tie.Need-loop-holds Inv-loop μ-loop
 loop-holds c =
-    let s = c .before .before .before .before in
+    let s = at-start c in
     live-none (s .args .bytes .now) (s .args .pen) node-payload-width (node-bits (s .args .nodes .now)) (c .next-live .ensures) (s .pre .room)
 
 -- the payload is a number of 32 bits

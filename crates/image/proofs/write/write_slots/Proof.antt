@@ -15,8 +15,18 @@ ranked c = c .before .before .before
 abbrev counted : tie.After-write-nodes → tie.After-write-counts
 counted c = c .before .before .before .before
 
+-- places on the way to a need, each by what stands just before it
+abbrev start : tie.After-ranks → tie.Start
+start c = c .before .before .before .before .before .before .before .before .before .before .before .before
+
+abbrev after-write-nodes-of-struct-known-3 : tie.After-struct-known3 → tie.After-write-nodes
+after-write-nodes-of-struct-known-3 c = c .before .before .before .before .before .before
+
+abbrev after-write-nodes-of-write-edges : tie.After-write-edges → tie.After-write-nodes
+after-write-nodes-of-write-edges c = c .before .before .before .before .before .before .before
+
 write-ranks-requires : tie.Need-write-ranks-requires
-write-ranks-requires c κs = let h = c .before .before .before .before .before .before .before .before .before .before .before .before .pre in ranks-room (node-words h) (node-slots h) (search needs)
+write-ranks-requires c κs = let h = start c .pre in ranks-room (node-words h) (node-slots h) (search needs)
 
 write-counts-requires : tie.Need-write-counts-requires
 write-counts-requires c κs = counts-fit (entry (c .before .before) .pre)
@@ -28,7 +38,7 @@ write-nodes-requires c κs =
 
 write-edges-requires : tie.Need-write-edges-requires
 write-edges-requires c κs =
-    let nodes = c .before .before .before .before .before .before in
+    let nodes = after-write-nodes-of-struct-known-3 c in
     let counts = counted nodes in
     let ranks = ranked counts in
     edges-fit (entry ranks .pre) (counts .write-counts .ensures) (nodes .write-nodes .ensures) (ranks .write-ranks .ensures) (eqb-true _ _)
@@ -36,7 +46,7 @@ write-edges-requires c κs =
 returns : tie.Need-returns
 returns c =
     let edges = c .before .before in
-    let nodes = edges .before .before .before .before .before .before .before in
+    let nodes = after-write-nodes-of-write-edges edges in
     let counts = counted nodes in
     penned-slots (entry (ranked counts) .pre) (counts .write-counts .ensures) (nodes .write-nodes .ensures) (edges .write-edges .ensures)
 

@@ -18,9 +18,16 @@ Inv-loop bytes words₀ count i₀ words i =
 abbrev μ-loop : tie.MeasureT-loop
 μ-loop bytes words₀ count i₀ words i = count - i
 
+-- places on the way to a need, each by what stands just before it
+abbrev start-of-in-loop : tie.In-loop Inv-loop μ-loop → tie.Start Inv-loop μ-loop
+start-of-in-loop c = c .before .before .before .before
+
+abbrev start-of-loop : tie.After-loop Inv-loop μ-loop → tie.Start Inv-loop μ-loop
+start-of-loop c = c .before .before .before .before
+
 -- the next word has its place
 room : (l : tie.In-loop Inv-loop μ-loop) → l .before .loop .i < length (l .before .loop .words)
-room l = omega (arith, writing-room (l .before .loop .inv .1) (words-next (l .before .before .before .before .args .bytes .now) (l .before .loop .i) (omega arith)))
+room l = omega (arith, writing-room (l .before .loop .inv .1) (words-next (start-of-in-loop l .args .bytes .now) (l .before .loop .i) (omega arith)))
 
 loop-again : tie.Need-loop-again Inv-loop μ-loop
 loop-again c =
@@ -30,8 +37,8 @@ loop-again c =
 
 -- all words are written
 all : (c : tie.After-loop Inv-loop μ-loop)
-    → Appended (c .before .before .before .before .args .words .now) 0 (words-of (c .before .before .before .before .args .bytes .now)) (c .before .loop .words) (c .before .loop .i)
-all c = writing-end (c .before .loop .inv .1) (words-none (c .before .before .before .before .args .bytes .now) (c .before .loop .i) (omega arith))
+    → Appended (start-of-loop c .args .words .now) 0 (words-of (start-of-loop c .args .bytes .now)) (c .before .loop .words) (c .before .loop .i)
+all c = writing-end (c .before .loop .inv .1) (words-none (start-of-loop c .args .bytes .now) (c .before .loop .i) (omega arith))
 
 pub read-words-spec : {M : Type 1} → statement M
 read-words-spec =

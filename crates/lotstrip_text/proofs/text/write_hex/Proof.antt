@@ -19,10 +19,14 @@ write-byte-requires : tie.Need-write-byte-requires Inv-loop μ-loop
 write-byte-requires c κs =
     let l = c .before .before .before in writing-room (l .loop .inv) (hex-next (l .before .before .before .args .bytes .now) (l .loop .i) (omega arith))
 
+-- places on the way to a need, each by what stands just before it
+abbrev at-loop : tie.After-write-byte Inv-loop μ-loop → tie.At-loop Inv-loop μ-loop
+at-loop c = c .before .before .before .before
+
 loop-again : tie.Need-loop-again Inv-loop μ-loop
 loop-again c =
     let call = c .before .before in
-    let l = call .before .before .before .before in
+    let l = at-loop call in
     writing-more (l .loop .inv) (hex-next (l .before .before .before .args .bytes .now) (l .loop .i) (omega arith)) (call .write-byte .ensures)
 
 returns : tie.Need-returns Inv-loop μ-loop

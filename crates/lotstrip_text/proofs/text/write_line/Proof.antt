@@ -19,10 +19,17 @@ write-number-requires-2 c κs =
     let a = first .before .before .before .args in
     omega (arith, length-line (a .position) (a .number) (a .value), first .write-number .ensures .ended, length-numbered (a .position) space, put-length (first .write-number .ensures .put))
 
+-- places on the way to a need, each by what stands just before it
+abbrev after-write-number : tie.After-write-number2 → tie.After-write-number
+after-write-number c = c .before .before .before .before
+
+abbrev after-write-number-2 : tie.After-write-number3 → tie.After-write-number2
+after-write-number-2 c = c .before .before .before .before
+
 write-number-requires-3 : tie.Need-write-number-requires-3
 write-number-requires-3 c κs =
     let second = c .before .before .before in
-    let first = second .before .before .before .before in
+    let first = after-write-number second in
     let a = first .before .before .before .args in
     omega (
       arith,
@@ -39,8 +46,8 @@ returns : tie.Need-returns
 unfolding line
 returns c =
     let third = c .before .before in
-    let second = third .before .before .before .before in
-    let first = second .before .before .before .before in
+    let second = after-write-number-2 third in
+    let first = after-write-number second in
     append-then (first .write-number .ensures) (append-then (second .write-number2 .ensures) (third .write-number3 .ensures))
 
 pub write-line-spec : {M : Type 1} → statement M

@@ -20,8 +20,15 @@ abbrev μ-loop : tie.MeasureT-loop
 abbrev start : tie.At-loop Inv-loop μ-loop → tie.Start Inv-loop μ-loop
 start c = c .before .before .before .before .before .before .before .before .before
 
+-- places on the way to a need, each by what stands just before it
+abbrev at-start : tie.After-slice-known Inv-loop μ-loop → tie.Start Inv-loop μ-loop
+at-start c = c .before .before .before .before .before .before .before .before
+
+abbrev in-loop : tie.After-expand-lot-arg Inv-loop μ-loop → tie.In-loop Inv-loop μ-loop
+in-loop c = c .before .before .before .before
+
 loop-holds : tie.Need-loop-holds Inv-loop μ-loop
-loop-holds c = draining-start (c .before .before .before .before .before .before .before .before .pre)
+loop-holds c = draining-start (at-start c .pre)
 
 returns : tie.Need-returns Inv-loop μ-loop
 returns c =
@@ -30,14 +37,14 @@ returns c =
 
 expand-lot-requires : tie.Need-expand-lot-requires Inv-loop μ-loop
 expand-lot-requires c κs =
-    let l = c .before .before .before .before .before in
-    expand-lot (start l .pre) (l .loop .inv) (c .before .before .before .before .loop-test .taken)
+    let l = in-loop c .before in
+    expand-lot (start l .pre) (l .loop .inv) (in-loop c .loop-test .taken)
 
 loop-again : tie.Need-loop-again Inv-loop μ-loop
 loop-again c =
     let k = c .before .before .before in
-    let l = k .before .before .before .before .before in
-    draining-on (start l .pre) (l .loop .inv) (k .before .before .before .before .loop-test .taken) (c .before .before .expand-lot .ensures)
+    let l = in-loop k .before in
+    draining-on (start l .pre) (l .loop .inv) (in-loop k .loop-test .taken) (c .before .before .expand-lot .ensures)
 
 same-length-2 : tie.Need-same-length-2 Inv-loop μ-loop
 same-length-2 c = c .before .loop .inv .same-length

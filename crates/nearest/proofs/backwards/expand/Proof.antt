@@ -26,18 +26,28 @@ abbrev μ-loop : tie.MeasureT-loop
 abbrev stepped : tie.After-is-listed Inv-loop μ-loop → tie.After-step Inv-loop μ-loop
 stepped l = l .before .before .before .before
 
+-- places on the way to a need, each by what stands just before it
+abbrev start-of-slice-known : tie.After-slice-known Inv-loop μ-loop → tie.Start Inv-loop μ-loop
+start-of-slice-known c = c .before .before .before .before .before
+
+abbrev start-of-known-told : tie.After-known-told Inv-loop μ-loop → tie.Start Inv-loop μ-loop
+start-of-known-told c = c .before .before .before .before .before .before .before .before .before .before
+
+abbrev start-of-step : tie.After-step Inv-loop μ-loop → tie.Start Inv-loop μ-loop
+start-of-step c = c .before .before .before .before .before .before .before
+
 loop-holds : tie.Need-loop-holds Inv-loop μ-loop
-loop-holds c = let pre = c .before .before .before .before .before .pre in (expanding-start (pre .ready) (pre .able), refl)
+loop-holds c = let pre = start-of-slice-known c .pre in (expanding-start (pre .ready) (pre .able), refl)
 
 is-listed-requires : tie.Need-is-listed-requires Inv-loop μ-loop
-is-listed-requires c κs = c .before .before .before .before .before .before .before .before .before .before .pre .live-long
+is-listed-requires c κs = start-of-known-told c .pre .live-long
 
 shared-slice-read-see : tie.Need-shared-slice-read-see Inv-loop μ-loop
 shared-slice-read-see c =
     let l = c .before .before .before in
     let s = stepped l in
     lt-of-lt-of-le (step-below (s .before .loop .inv .0 .ready) (s .step .ensures) (l .before .before .found .given .1))
-    (s .before .before .before .before .before .before .before .pre .sources-long)
+    (start-of-step s .pre .sources-long)
 
 see-requires : tie.Need-see-requires Inv-loop μ-loop
 see-requires c κs =

@@ -7,15 +7,19 @@ use Rattle.nearest.proofs.backwards.expand_lot.Tie as tie
 abbrev start : tie.After-start → tie.Start
 start c = c .before .before .before .before .before .before
 
+-- places on the way to a need, each by what stands just before it
+abbrev after-start : tie.After-expand-arg → tie.After-start
+after-start c = c .before .before .before .before .before
+
 expand-requires : tie.Need-expand-requires
 expand-requires c κs =
-    let s = c .before .before .before .before .before in
+    let s = after-start c in
     lot-requires (start s .pre) (s .start .ensures) (c .before .before .before .entries-of .ensures) (c .before .before .next-of .ensures) (c .before .tombstoned .ensures)
 
 returns : tie.Need-returns
 returns c =
     let k = c .before .before .before in
-    let s = k .before .before .before .before .before in
+    let s = after-start k in
     lot-expanded (start s .pre) (s .start .ensures) (k .before .before .before .entries-of .ensures) (k .before .before .next-of .ensures) (k .before .tombstoned .ensures)
     (c .before .before .expand .ensures)
 

@@ -21,15 +21,22 @@ drain-requires c κs =
     let f = filled s in
     seed-drains (start f .pre) (f .fill-words .ensures) (s .seed .ensures)
 
+-- places on the way to a need, each by what stands just before it
+abbrev after-seed-of-drain : tie.After-drain → tie.After-seed
+after-seed-of-drain c = c .before .before .before .before
+
+abbrev after-seed-of-slice-known-5 : tie.After-slice-known5 → tie.After-seed
+after-seed-of-slice-known-5 c = c .before .before .before .before .before .before .before
+
 slice-read-result : tie.Need-slice-read-result
 slice-read-result c =
     let d = c .before .before .before in
-    let pre = start (filled (d .before .before .before .before)) .pre in
+    let pre = start (filled (after-seed-of-drain d)) .pre in
     omega (arith, lot-within (pre .checked) _ (pre .first-live), d .drain .ensures .kept .long)
 
 returns : tie.Need-returns
 returns c =
-    let s = c .before .before .before .before .before .before .before in
+    let s = after-seed-of-slice-known-5 c in
     let f = filled s in
     sought (start f .pre) (f .fill-words .ensures) (s .seed .ensures) (c .before .before .before .drain .ensures)
 

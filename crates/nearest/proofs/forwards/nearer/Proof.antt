@@ -29,11 +29,24 @@ entry c = c .before .before .before .before .before .before
 abbrev stepped : tie.After-is-listed Inv-loop μ-loop → tie.After-step Inv-loop μ-loop
 stepped l = l .before .before .before .before
 
+-- places on the way to a need, each by what stands just before it
+abbrev start : tie.After-shared-slice-known5 Inv-loop μ-loop → tie.Start Inv-loop μ-loop
+start c = c .before .before .before .before .before
+
+abbrev at-loop : tie.After-known-told Inv-loop μ-loop → tie.At-loop Inv-loop μ-loop
+at-loop c = c .before .before .before .before
+
+abbrev after-is-listed : tie.Then2 Inv-loop μ-loop → tie.After-is-listed Inv-loop μ-loop
+after-is-listed c = c .before .before .before .before
+
+abbrev after-found : tie.After-shared-slice-known6 Inv-loop μ-loop → tie.After-found Inv-loop μ-loop
+after-found c = c .before .before .before .before
+
 loop-holds : tie.Need-loop-holds Inv-loop μ-loop
-loop-holds c = nearing-start (c .before .before .before .before .before .pre)
+loop-holds c = nearing-start (start c .pre)
 
 is-listed-requires : tie.Need-is-listed-requires Inv-loop μ-loop
-is-listed-requires c κs = entry (c .before .before .before .before) .pre .live-long
+is-listed-requires c κs = entry (at-loop c) .pre .live-long
 
 shared-slice-read-end : tie.Need-shared-slice-read-end Inv-loop μ-loop
 shared-slice-read-end c =
@@ -49,7 +62,7 @@ shared-slice-read-if2 c =
 
 returns : tie.Need-returns Inv-loop μ-loop
 returns c =
-    let l = c .before .before .before .before in
+    let l = after-is-listed c in
     let s = stepped l in
     sym (search-found (s .before .loop .inv .searching) (s .step .ensures) (l .before .before .found .given .1) (eq-eqb _ _ (c .if2 .taken))
     (sym (l .is-listed .ensures) ∙ c .before .before .before .if1 .taken))
@@ -87,8 +100,8 @@ nearer-spec =
     (λ c. search needs)
     (λ c. search needs)
     shared-slice-read-end
-    (λ c. omega (arith, c .shared-slice-known6 .given (c .before .before .before .before .found .given .0 .0)))
-    (λ c. omega (arith, c .shared-slice-known6 .given (c .before .before .before .before .found .given .0 .0)))
+    (λ c. omega (arith, c .shared-slice-known6 .given (after-found c .found .given .0 .0)))
+    (λ c. omega (arith, c .shared-slice-known6 .given (after-found c .found .given .0 .0)))
     shared-slice-read-if2
     returns
     (λ c. search needs)

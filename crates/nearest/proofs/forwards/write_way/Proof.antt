@@ -17,8 +17,12 @@ abbrev μ-loop : tie.MeasureT-loop
 abbrev start : tie.At-loop Inv-loop μ-loop → tie.Start Inv-loop μ-loop
 start c = c .before .before .before .before .before .before .before .before .before .before
 
+-- places on the way to a need, each by what stands just before it
+abbrev at-start : tie.After-slice-known Inv-loop μ-loop → tie.Start Inv-loop μ-loop
+at-start c = c .before .before .before .before .before .before .before .before .before
+
 loop-holds : tie.Need-loop-holds Inv-loop μ-loop
-loop-holds c = going-start (c .before .before .before .before .before .before .before .before .before .pre)
+loop-holds c = going-start (at-start c .pre)
 
 cast-word : tie.Need-cast-word Inv-loop μ-loop
 cast-word c = omega (arith, start (c .before) .pre .few)

@@ -27,6 +27,16 @@ loop-again c =
     let i = w .before .before .before in
     copy-more (start (i .before) .pre) (i .loop-test .taken) (i .before .loop .inv) (w .keep-one .kept .0) (w .keep-one .ensures)
 
+-- places on the way to a need, each by what stands just before it
+abbrev start-of-struct-known : tie.After-struct-known Inv-loop μ-loop → tie.Start Inv-loop μ-loop
+start-of-struct-known c = c .before .before .before .before
+
+abbrev start-of-base-bounds : tie.After-base-bounds Inv-loop μ-loop → tie.Start Inv-loop μ-loop
+start-of-base-bounds c = c .before .before .before .before .before
+
+abbrev in-loop : tie.After-slice-known3 Inv-loop μ-loop → tie.In-loop Inv-loop μ-loop
+in-loop c = c .before .before .before .before .before
+
 pub copy-base-spec : {M : Type 1} → statement M
 copy-base-spec =
     tie.close
@@ -34,14 +44,14 @@ copy-base-spec =
     Inv-loop
     μ-loop
     (λ c. search needs)
-    (λ c κs. copy-based (c .before .before .before .before .pre))
-    (λ c. copy-start (c .before .before .before .before .before .pre) (c .base-bounds .ensures))
+    (λ c κs. copy-based (start-of-struct-known c .pre))
+    (λ c. copy-start (start-of-base-bounds c .pre) (c .base-bounds .ensures))
     (λ c. omega (arith, place-in c))
     (λ c. omega (arith, place-in c))
     (λ c. omega (arith, place-in c))
     (λ c. omega (arith, place-in (c .before), c .before .before .loop .inv .long))
     (λ c κs. let i = c .before .before in copy-keep (start (i .before) .pre) (i .loop-test .taken) (i .before .loop .inv))
-    (λ c. let i = c .before .before .before .before .before in omega (arith, place-in i))
+    (λ c. let i = in-loop c in omega (arith, place-in i))
     (λ c. omega arith)
     loop-again
     (λ c. c .before .loop .inv .long)

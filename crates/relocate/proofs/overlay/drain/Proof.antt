@@ -21,9 +21,22 @@ start c = c .before .before .before .before .before .before
 next-in : (c : tie.At-loop Inv-loop μ-loop) → c .loop .next < start c .args .edge-capacity
 next-in c = omega (arith, drain-below (start c .pre) (c .loop .inv), start c .pre .ready .editable .edges-within)
 
+-- places on the way to a need, each by what stands just before it
+abbrev in-loop : tie.After-slice-known3 Inv-loop μ-loop → tie.In-loop Inv-loop μ-loop
+in-loop c = c .before .before .before .before .before
+
+abbrev after-keep-one-2 : tie.After-detach Inv-loop μ-loop → tie.After-keep-one2 Inv-loop μ-loop
+after-keep-one-2 c = c .before .before .before .before
+
+abbrev start-of-then-1 : tie.Then1 Inv-loop μ-loop → tie.Start Inv-loop μ-loop
+start-of-then-1 c = c .before .before .before .before .before
+
+abbrev start-of-else-1 : tie.Else1 Inv-loop μ-loop → tie.Start Inv-loop μ-loop
+start-of-else-1 c = c .before .before .before .before .before
+
 loop-less : tie.Need-loop-less Inv-loop μ-loop
 loop-less c =
-    let i = c .before .before .before .before .before in
+    let i = in-loop c in
     drain-less (start (i .before) .pre) (i .before .loop .inv) (i .loop-test .taken)
 
 loop-again : tie.Need-loop-again Inv-loop μ-loop
@@ -40,7 +53,7 @@ detach-requires c κs =
 returns-2 : tie.Need-returns-2 Inv-loop μ-loop
 returns-2 c =
     let d = c .before .before in
-    let w = d .before .before .before .before in
+    let w = after-keep-one-2 d in
     let i = w .before .before in
     drain-last (start (i .before) .pre) (i .before .loop .inv) (i .loop-test .left) (w .keep-one2 .kept .0) (w .keep-one2 .ensures) (d .detach .kept .0) (d .detach .ensures)
 
@@ -52,8 +65,8 @@ drain-spec =
     μ-loop
     (λ c κs. drain-readable (c .before .before .before .pre))
     (λ c. search needs)
-    (λ c. drain-none (c .before .before .before .before .before .pre) (c .before .ring-ends .ensures) (c .if1 .taken))
-    (λ c. drain-start (c .before .before .before .before .before .pre) (c .before .ring-ends .ensures) (c .if1 .left))
+    (λ c. drain-none (start-of-then-1 c .pre) (c .before .ring-ends .ensures) (c .if1 .taken))
+    (λ c. drain-start (start-of-else-1 c .pre) (c .before .ring-ends .ensures) (c .if1 .left))
     (λ c. search needs)
     (λ c. omega (arith, next-in (c .before)))
     (λ c. omega (arith, next-in (c .before)))
@@ -64,5 +77,5 @@ drain-spec =
     loop-again
     (λ c κs. let i = c .before .before in drain-keep (start i .pre) (i .loop .inv))
     detach-requires
-    (λ c. let d = c .before .before in let w = d .before .before .before .before in d .detach .kept .0 ∙ w .keep-one2 .kept .0 ∙ w .before .before .before .loop .inv .long)
+    (λ c. let d = c .before .before in let w = after-keep-one-2 d in d .detach .kept .0 ∙ w .keep-one2 .kept .0 ∙ w .before .before .before .loop .inv .long)
     returns-2)

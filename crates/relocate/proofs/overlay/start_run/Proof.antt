@@ -7,11 +7,18 @@ use Rattle.relocate.proofs.Starting.{start-marked, start-copy, start-en
 use Rattle.relocate.proofs.overlay.start_run.Statement.{statement}
 use Rattle.relocate.proofs.overlay.start_run.Tie as tie
 
+-- places on the way to a need, each by what stands just before it
+abbrev start-of-else-1 : tie.Else1 → tie.Start
+start-of-else-1 c = c .before .before .before .before
+
+abbrev start-of-then-1 : tie.Then1 → tie.Start
+start-of-then-1 c = c .before .before .before .before
+
 returns-2 : tie.Need-returns-2
 returns-2 c =
     let w = c .before .before in
     let e = w .before .before in
-    start-end (e .before .before .before .before .pre) (e .if1 .left) (w .copy-base .ensures)
+    start-end (start-of-else-1 e .pre) (e .if1 .left) (w .copy-base .ensures)
 
 pub start-run-spec : {M : Type 1} → statement M
 start-run-spec =
@@ -27,11 +34,11 @@ start-run-spec =
     (λ c. search needs)
     (λ c. search needs)
     (λ c. search needs)
-    (λ c. start-marked (c .before .before .before .before .pre) (c .if1 .taken))
+    (λ c. start-marked (start-of-then-1 c .pre) (c .if1 .taken))
     (λ c. search needs)
     (λ c. search needs)
     (λ c. search needs)
     (λ c. simp length-set (omega arith))
-    (λ c κs. let e = c .before in start-copy (e .before .before .before .before .pre) (e .if1 .left))
+    (λ c κs. let e = c .before in start-copy (start-of-else-1 e .pre) (e .if1 .left))
     (λ c. c .before .before .copy-base .kept .0 ∙ simp length-set)
     returns-2)

@@ -29,6 +29,13 @@ loop-again c =
     let i = e .before .before in
     scan-more (start (i .before) .pre) (i .loop-test .taken) (i .before .loop .inv) (sym (e .before .is-live .ensures) ∙ not-false _ (e .if1 .left))
 
+-- places on the way to a need, each by what stands just before it
+abbrev at-start : tie.After-shared-slice-known4 Inv-loop μ-loop → tie.Start Inv-loop μ-loop
+at-start c = c .before .before .before .before .before
+
+abbrev at-loop : tie.After-shared-slice-known5 Inv-loop μ-loop → tie.At-loop Inv-loop μ-loop
+at-loop c = c .before .before .before .before
+
 pub live-front-spec : {M : Type 1} → statement M
 live-front-spec =
     tie.close
@@ -47,7 +54,7 @@ live-front-spec =
     (λ c. search needs)
     (λ c. search needs)
     (λ c. search needs)
-    (λ c. scan-start (c .before .before .before .before .before .pre))
+    (λ c. scan-start (at-start c .pre))
     (λ c. omega (arith, next-in c))
     (λ c κs. search needs)
     (λ c. let l = c .before .before .before in omega (arith, scan-sum (start l .pre) (l .loop .inv)))
@@ -55,7 +62,7 @@ live-front-spec =
     (λ c. omega (arith, next-in (c .before .before)))
     (λ c. omega (arith, next-in (c .before .before)))
     (λ c. omega (arith, next-in (c .before .before)))
-    (λ c. omega (arith, next-in (c .before .before .before), start (c .before .before .before .before) .pre .editable .sized .room))
+    (λ c. omega (arith, next-in (c .before .before .before), start (at-loop c) .pre .editable .sized .room))
     (λ c. omega arith)
     (λ c. omega arith)
     loop-again

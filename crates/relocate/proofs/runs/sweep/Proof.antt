@@ -8,17 +8,24 @@ use Rattle.relocate.proofs.runs.sweep.Tie as tie
 abbrev start : tie.After-live-front → tie.Start
 start c = c .before .before .before .before .before
 
+-- places on the way to a need, each by what stands just before it
+abbrev after-live-front : tie.After-shorten → tie.After-live-front
+after-live-front c = c .before .before .before .before
+
+abbrev after-shorten : tie.After-append-live → tie.After-shorten
+after-shorten c = c .before .before .before .before
+
 append-live-requires : tie.Need-append-live-requires
 append-live-requires c κs =
     let short = c .before .before .before in
-    let front = short .before .before .before .before in
+    let front = after-live-front short in
     sweep-append (start front .pre) (front .live-front .ensures) (short .shorten .ensures)
 
 returns-3 : tie.Need-returns-3
 returns-3 c =
     let more = c .before .before in
-    let short = more .before .before .before .before in
-    let front = short .before .before .before .before in
+    let short = after-shorten more in
+    let front = after-live-front short in
     sweep-done (start front .pre) (front .live-front .ensures) (short .shorten .ensures) (more .append-live .ensures)
 
 pub sweep-spec : {M : Type 1} → statement M

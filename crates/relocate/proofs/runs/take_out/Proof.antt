@@ -16,10 +16,17 @@ start c = c .before .before .before .before
 first-in : (c : tie.Else1) → let a = start c .args in first-at (a .axis .now) (a .edge-capacity) (a .node-capacity) (a .node) < a .edge-capacity
 first-in c = out-first (start c .pre) (start c .args .entry) (c .if1 .left)
 
+-- places on the way to a need, each by what stands just before it
+abbrev else-1 : tie.Then3 → tie.Else1
+else-1 c = c .before .before .before .before
+
+abbrev start-of-then-1 : tie.Then1 → tie.Start
+start-of-then-1 c = c .before .before .before .before
+
 unlink-requires : tie.Need-unlink-requires
 unlink-requires c κs =
     let t = c .before in
-    out-some (start (t .before .before .before .before) .pre) _ (t .before .find-before .ensures) (t .if3 .taken)
+    out-some (start (else-1 t) .pre) _ (t .before .find-before .ensures) (t .if3 .taken)
 
 returns-4 : tie.Need-returns-4
 returns-4 c =
@@ -41,7 +48,7 @@ take-out-spec =
     (λ c. search needs)
     (λ c. search needs)
     (λ c. search needs)
-    (λ c. out-empty (c .before .before .before .before .pre) _ (c .if1 .taken))
+    (λ c. out-empty (start-of-then-1 c .pre) _ (c .if1 .taken))
     (λ c. search needs)
     (λ c. search needs)
     (λ c. search needs)
@@ -54,7 +61,7 @@ take-out-spec =
     (λ c. simp length-set (omega arith))
     (λ c. search needs)
     (λ c. let t = c .before in out-head (start (t .before) .pre) _ (t .before .if1 .left) (t .if2 .taken))
-    (λ c κs. let t = c .before .before in out-searchable (start t .pre) (c .before .before .before .before .before .before .args .entry) (t .if1 .left))
+    (λ c κs. let t = c .before .before in out-searchable (start t .pre) (start (c .before .before) .args .entry) (t .if1 .left))
     unlink-requires
     (λ c. search needs)
     (λ c. search needs)

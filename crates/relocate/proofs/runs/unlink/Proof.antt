@@ -6,6 +6,13 @@ use Rattle.relocate.proofs.Unlinking.{unlink-full, unlink-entry, unlink
 use Rattle.relocate.proofs.runs.unlink.Statement.{statement}
 use Rattle.relocate.proofs.runs.unlink.Tie as tie
 
+-- places on the way to a need, each by what stands just before it
+abbrev start-of-then-1 : tie.Then1 → tie.Start
+start-of-then-1 c = c .before .before .before .before
+
+abbrev start-of-else-1 : tie.Else1 → tie.Start
+start-of-else-1 c = c .before .before .before .before
+
 pub unlink-spec : {M : Type 1} → statement M
 unlink-spec =
     tie.close
@@ -36,6 +43,6 @@ unlink-spec =
     (λ c. search needs)
     (λ c. simp length-set (omega arith))
     (λ c. search needs)
-    (λ c. unlink-last (c .before .before .before .before .pre) (c .if1 .taken))
+    (λ c. unlink-last (start-of-then-1 c .pre) (c .if1 .taken))
     (λ c. search needs)
-    (λ c. unlink-inner (c .before .before .before .before .pre) (c .if1 .left)))
+    (λ c. unlink-inner (start-of-else-1 c .pre) (c .if1 .left)))

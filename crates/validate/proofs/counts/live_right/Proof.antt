@@ -5,13 +5,20 @@ use borrow.Author.Needs.{needs}
 use Rattle.validate.proofs.counts.live_right.Statement.{statement}
 use Rattle.validate.proofs.counts.live_right.Tie as tie
 
+-- places on the way to a need, each by what stands just before it
+abbrev start-of-counted : tie.After-counted → tie.Start
+start-of-counted c = c .before .before .before .before .before
+
+abbrev start-of-enum-told : tie.After-enum-told → tie.Start
+start-of-enum-told c = c .before .before .before .before .before
+
 returns : tie.Need-returns
 returns c =
     let k = c .before .before in
-    live-counted _ (k .before .before .before .before .before .args .slots) _ (sym (k .before .before .count-live .ensures) ∙ k .counted .given .1)
+    live-counted _ (start-of-counted k .args .slots) _ (sym (k .before .before .count-live .ensures) ∙ k .counted .given .1)
 
 returns-2 : tie.Need-returns-2
-returns-2 c = live-unpacked _ (c .before .before .before .before .before .args .slots) (sym (c .before .before .count-live .ensures) ∙ c .enum-told .given .1)
+returns-2 c = live-unpacked _ (start-of-enum-told c .args .slots) (sym (c .before .before .count-live .ensures) ∙ c .enum-told .given .1)
 
 pub live-right-spec : {M : Type 1} → statement M
 live-right-spec =

@@ -13,14 +13,21 @@ use Rattle.validate.specs.Laws.Passing.{passed}
 use Rattle.validate.proofs.counts.sizes_right.Statement.{statement}
 use Rattle.validate.proofs.counts.sizes_right.Tie as tie
 
+-- places on the way to a need, each by what stands just before it
+abbrev start-of-then-1 : tie.Then1 → tie.Start
+start-of-then-1 c = c .before .before .before .before
+
+abbrev start-of-then-2 : tie.Then2 → tie.Start
+start-of-then-2 c = c .before .before .before .before .before .before
+
 -- the node slots pass
 nodes-right : (c : tie.Then1)
-    → let a = c .before .before .before .before .args in slots-right (a .node-capacity) (a .live-nodes) (a .counts .nodes) ≡ true
+    → let a = start-of-then-1 c .args in slots-right (a .node-capacity) (a .live-nodes) (a .counts .nodes) ≡ true
 nodes-right c = sym (c .before .slots-right .ensures) ∙ c .if1 .taken
 
 -- and the edge slots
 edges-right : (c : tie.Then2)
-    → let a = c .before .before .before .before .before .before .args in slots-right (a .edge-capacity) (a .live-edges) (a .counts .edges) ≡ true
+    → let a = start-of-then-2 c .args in slots-right (a .edge-capacity) (a .live-edges) (a .counts .edges) ≡ true
 edges-right c = sym (c .before .slots-right2 .ensures) ∙ c .if2 .taken
 
 -- so the capacities are within the limit

@@ -19,9 +19,19 @@ Inv-loop axis edges nodes runless seen₀ base bound e₀ seen e =
 abbrev μ-loop : tie.MeasureT-loop
 μ-loop axis edges nodes runless seen₀ base bound e₀ seen e = bound - e
 
+-- places on the way to a need, each by what stands just before it
+abbrev start : tie.In-loop Inv-loop μ-loop → tie.Start Inv-loop μ-loop
+start c = c .before .before .before .before
+
+abbrev at-loop-of-shared-slice-known-2 : tie.After-shared-slice-known2 Inv-loop μ-loop → tie.At-loop Inv-loop μ-loop
+at-loop-of-shared-slice-known-2 c = c .before .before .before .before .before
+
+abbrev at-loop-of-mark-step : tie.After-mark-step Inv-loop μ-loop → tie.At-loop Inv-loop μ-loop
+at-loop-of-mark-step c = c .before .before .before .before .before .before
+
 edge-step-requires : tie.Need-edge-step-requires Inv-loop μ-loop
 edge-step-requires c κs =
-    let pre = c .before .before .before .before .pre in
+    let pre = start c .pre in
     let l = c .loop-test .taken in (
       record {
         sized = pre .axis .sized;
@@ -33,19 +43,19 @@ edge-step-requires c κs =
     )
 
 cast-link : tie.Need-cast-mark-step-2 Inv-loop μ-loop
-cast-link c = omega (arith, c .shared-slice-known2 .given (2 * c .before .before .before .before .before .before .before .before .args .edge-capacity + c .before .before .before .before .before .loop .e))
+cast-link c = omega (arith, c .shared-slice-known2 .given (2 * at-loop-of-shared-slice-known-2 c .before .before .before .args .edge-capacity + at-loop-of-shared-slice-known-2 c .loop .e))
 
 mark-step-requires : tie.Need-mark-step-requires Inv-loop μ-loop
 mark-step-requires c κs =
     let i = c .before .before in
-    let pre = c .before .before .before .before .before .before .before .before .pre in
+    let pre = at-loop-of-shared-slice-known-2 c .before .before .before .pre in
     λ some. omega (
       arith,
       looked-some (i .before .edge-step .ensures) (i .if1 .left) some .below,
       pre .axis .edges .bound-within,
       pre .axis .sized .edges-within,
       pre .marks-long,
-      c .before .before .before .before .before .loop .inv .follows .long,
+      at-loop-of-shared-slice-known-2 c .loop .inv .follows .long,
     )
 
 loop-again : tie.Need-loop-again Inv-loop μ-loop
@@ -73,7 +83,7 @@ delta-flat-spec =
     (λ c. omega arith)
     cast-link
     mark-step-requires
-    (λ c. let m = c .before .before .before in m .mark-step .kept .0 ∙ m .before .before .before .before .before .before .loop .inv .follows .long)
+    (λ c. let m = c .before .before .before in m .mark-step .kept .0 ∙ at-loop-of-mark-step m .loop .inv .follows .long)
     (λ c. λ h. true-false h refl)
     (λ c. omega arith)
     (λ c. omega arith)

@@ -21,12 +21,22 @@ Inv-loop axis edges nodes live-nodes live-edges bound right₀ e₀ right e =
 abbrev μ-loop : tie.MeasureT-loop
 μ-loop axis edges nodes live-nodes live-edges bound right₀ e₀ right e = bound - e
 
+-- places on the way to a need, each by what stands just before it
+abbrev start-of-then-1 : tie.Then1 Inv-loop μ-loop → tie.Start Inv-loop μ-loop
+start-of-then-1 c = c .before .before .before .before .before .before
+
+abbrev start-of-in-loop : tie.In-loop Inv-loop μ-loop → tie.Start Inv-loop μ-loop
+start-of-in-loop c = c .before .before .before .before .before .before .before .before
+
+abbrev start-of-at-loop : tie.At-loop Inv-loop μ-loop → tie.Start Inv-loop μ-loop
+start-of-at-loop c = c .before .before .before .before .before .before .before
+
 returns : tie.Need-returns Inv-loop μ-loop
-returns c = let s = c .before .before .before .before .before .before in λ _ e l _. all-live (s .args .counts) (s .pre .live) (c .if1 .taken) _ (s .pre .ends-below e l)
+returns c = let s = start-of-then-1 c in λ _ e l _. all-live (s .args .counts) (s .pre .live) (c .if1 .taken) _ (s .pre .ends-below e l)
 
 end-live-requires : tie.Need-end-live-requires Inv-loop μ-loop
 end-live-requires c κs =
-    let pre = c .before .before .before .before .before .before .before .before .pre in
+    let pre = start-of-in-loop c .pre in
     let l = c .loop-test .taken in
     (omega (arith, pre .axis .sized .room, pre .axis .edges .bound-within), omega (arith, pre .edges-long), omega (arith, pre .ends-below _ l, pre .nodes-long))
 
@@ -42,7 +52,7 @@ loop-again c =
 returns-2 : tie.Need-returns-2 Inv-loop μ-loop
 returns-2 c =
     let s = c .before in
-    let pre = s .before .before .before .before .before .before .before .pre in
+    let pre = start-of-at-loop s .pre in
     λ h e l q. flag-at _ _ _ (pre .ends-below e l) ∙ s .loop .inv h e (omega (arith, c .loop-test .left)) (sym (flag-at _ _ e l) ∙ q)
 
 pub ends-live-spec : {M : Type 1} → statement M

@@ -23,10 +23,20 @@ lent s = let a = s .args in store (a .counts) (a .nodes .now) (a .lows .now) (a 
 abbrev start : tie.After-sizes-right → tie.Start
 start r = r .before .before .before .before .before .before .before .before
 
+-- places on the way to a need, each by what stands just before it
+abbrev after-shared-slice-known-3 : tie.After-sizes-right → tie.After-shared-slice-known3
+after-shared-slice-known-3 c = c .before .before .before .before .before
+
+abbrev else-1-of-else-2 : tie.Else2 → tie.Else1
+else-1-of-else-2 c = c .before .before .before .before
+
+abbrev else-1-of-else-3 : tie.Else3 → tie.Else1
+else-1-of-else-3 c = c .before .before .before .before .before .before
+
 -- the first broken rule is the verdict
 judged : (r : tie.After-sizes-right) {rule : ℕ} → rule ≡ broken (lent (start r)) → Judged (lent (start r)) rule
 judged r first =
-    let known = r .before .before .before .before .before in
+    let known = after-shared-slice-known-3 r in
     judges first (λ x. omega (arith, known .before .before .shared-slice-known .given x)) (λ e. omega (arith, known .shared-slice-known3 .given e))
 
 one : (c : tie.Else1) → rule-1 (lent (start (c .before))) ≡ true
@@ -34,14 +44,14 @@ one c = sym (sizes-rule (lent (start (c .before)))) ∙ accepted (c .before .siz
 
 -- the live bits of the nodes are right
 nodes-right : (c : tie.Else2)
-    → let w = lent (start (c .before .before .before .before .before)) in live-agrees (w .live-nodes) (w .counts .nodes) ≡ true
+    → let w = lent (start (else-1-of-else-2 c .before)) in live-agrees (w .live-nodes) (w .counts .nodes) ≡ true
 nodes-right c = accepted (c .before .live-right .ensures) (c .if2 .left)
 
-counted : (c : tie.Else3) → Counted (lent (start (c .before .before .before .before .before .before .before)))
+counted : (c : tie.Else3) → Counted (lent (start (else-1-of-else-3 c .before)))
 unfolding rule-2
 counted c =
     let k = c .before .before in
-    record { r1 = one (k .before .before .before .before); r2 = both-true (nodes-right k) (accepted (c .before .live-right2 .ensures) (c .if3 .left)) }
+    record { r1 = one (else-1-of-else-2 k); r2 = both-true (nodes-right k) (accepted (c .before .live-right2 .ensures) (c .if3 .left)) }
 
 returns : tie.Need-returns
 returns c =
@@ -75,7 +85,7 @@ judge-spec =
     returns
     (λ c κs. let k = c .before .before in live-there (sizes-sound (lent (start (k .before))) (one k) .nodes))
     returns-2
-    (λ c κs. let k = c .before .before .before .before in live-there (sizes-sound (lent (start (k .before))) (one k) .edges))
+    (λ c κs. let k = else-1-of-else-2 c in live-there (sizes-sound (lent (start (k .before))) (one k) .edges))
     returns-3
     (λ c κs. counted c)
     returns-4)

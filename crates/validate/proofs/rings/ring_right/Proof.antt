@@ -29,9 +29,13 @@ returns-2 c = ring-out _ _ _ _ _ (c .before .if1 .left) (c .if2 .taken)
 loop-holds : tie.Need-loop-holds Inv-loop μ-loop
 loop-holds c = refl
 
+-- places on the way to a need, each by what stands just before it
+abbrev start : tie.At-loop Inv-loop μ-loop → tie.Start Inv-loop μ-loop
+start c = c .before .before .before .before .before .before
+
 -- a ring is what its links decide
 some : (s : tie.At-loop Inv-loop μ-loop)
-    → let a = s .before .before .before .before .before .before .args in
+    → let a = start s .args in
     closes (cell (a .axis .now) (2 * a .edge-capacity)) (last-at (a .axis .now) (a .edge-capacity) (a .node)) (own-test (a .base) (a .bound) (a .axis .now) (a .node)) (s .loop .left) (s .loop .e)
     ≡ ring-right (a .edge-capacity) (a .base) (a .bound) (a .axis .now) (a .node)
 some s = sym (s .loop .inv) ∙ ring-some _ _ _ _ _ (s .before .before .before .if1 .left)
@@ -39,12 +43,12 @@ some s = sym (s .loop .inv) ∙ ring-some _ _ _ _ _ (s .before .before .before .
 -- the entry is one of the node's own edges
 own : (c : tie.Else3 Inv-loop μ-loop)
     → let s = c .before .before .before in
-    let a = s .before .before .before .before .before .before .args in
+    let a = start s .args in
     own-test (a .base) (a .bound) (a .axis .now) (a .node) (s .loop .e) ≡ true
 own c = accepted (c .before .own-edge .ensures) (c .if3 .left)
 
 below : (c : tie.Else3 Inv-loop μ-loop)
-    → let s = c .before .before .before in s .loop .e < s .before .before .before .before .before .before .args .bound
+    → let s = c .before .before .before in s .loop .e < start s .args .bound
 below c = own-below _ 0 _ _ _ _ (own c)
 
 returns-3 : tie.Need-returns-3 Inv-loop μ-loop

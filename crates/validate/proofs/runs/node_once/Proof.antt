@@ -34,10 +34,20 @@ returns-2 c =
 returns-3 : tie.Need-returns-3
 returns-3 c = (λ q. true-false (not-false _ (c .before .if2 .left)) q, λ _ h. true-false h refl)
 
+-- places on the way to a need, each by what stands just before it
+abbrev after-run-right : tie.Else3 → tie.After-run-right
+after-run-right c = c .before .before .before .before
+
+abbrev else-2 : tie.Then5 → tie.Else2
+else-2 c = c .before .before .before .before
+
+abbrev else-4 : tie.After-slice-known3 → tie.Else4
+else-4 c = c .before .before .before .before .before .before
+
 returns-4 : tie.Need-returns-4
 returns-4 c =
     let e = c .before .before in
-    let r = e .before .before .before .before in
+    let r = after-run-right e in
     let a = start r .args in (
       λ q. true-false (not-false _ (e .before .if2 .left)) q,
       λ _ _. node-bare (a .axis .now) (a .edge-capacity) (a .node-capacity) (a .base) (a .bound) (a .node) (r .before .before .if1 .left) (a .live) (live-flags (a .words .now) (a .bound))
@@ -48,13 +58,13 @@ returns-4 c =
     )
 
 returns-5 : tie.Need-returns-5
-returns-5 c = (λ q. true-false (not-false _ (c .before .before .before .before .if2 .left)) q, λ _ h. true-false h refl)
+returns-5 c = (λ q. true-false (not-false _ (else-2 c .if2 .left)) q, λ _ h. true-false h refl)
 
 returns-6 : tie.Need-returns-6
 returns-6 c =
-    let n = c .before .before .before .before .before .before in
+    let n = else-4 c in
     let e = n .before .before in
-    let r = e .before .before .before .before in
+    let r = after-run-right e in
     let a = start r .args in (
       λ q. true-false (not-false _ (e .before .if2 .left)) q,
       λ _ h. node-ring (a .axis .now) (a .edge-capacity) (a .node-capacity) (a .base) (a .bound) (a .node) (r .before .before .if1 .left) (a .live) (live-flags (a .words .now) (a .bound))

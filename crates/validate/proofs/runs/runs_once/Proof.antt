@@ -28,19 +28,32 @@ Inv-loop axis edges nodes live-nodes live-edges runless strict seen₀ base boun
 abbrev μ-loop : tie.MeasureT-loop
 μ-loop axis edges nodes live-nodes live-edges runless strict seen₀ base bound node-bound x₀ seen x = node-bound - x
 
+-- places on the way to a need, each by what stands just before it
+abbrev start-of-then-1 : tie.Then1 Inv-loop μ-loop → tie.Start Inv-loop μ-loop
+start-of-then-1 c = c .before .before .before .before .before .before
+
+abbrev start-of-else-1 : tie.Else1 Inv-loop μ-loop → tie.Start Inv-loop μ-loop
+start-of-else-1 c = c .before .before .before .before .before .before
+
+abbrev start-of-at-loop : tie.At-loop Inv-loop μ-loop → tie.Start Inv-loop μ-loop
+start-of-at-loop c = c .before .before .before .before .before .before .before
+
+abbrev at-loop : tie.After-node-once Inv-loop μ-loop → tie.At-loop Inv-loop μ-loop
+at-loop c = c .before .before .before .before
+
 returns : tie.Need-returns Inv-loop μ-loop
 returns c =
-    let p = c .before .before .before .before .before .before .pre .1 in
+    let p = start-of-then-1 c .pre .1 in
     (λ _. sym (runless-right _ _ _ _ _ _ (p .no-run (c .if1 .taken))), λ _ _. listing-none (p .no-run (c .if1 .taken)) (p .clear))
 
 loop-holds : tie.Need-loop-holds Inv-loop μ-loop
 loop-holds c =
-    let p = c .before .before .before .before .before .before .pre .1 in
+    let p = start-of-else-1 c .pre .1 in
     (refl, λ _. listing-start _ _ _ _ _ _ (p .clear), λ _. runs-first _ _ _ _ _ _ _ _ (p .clear))
 
 node-once-requires : tie.Need-node-once-requires Inv-loop μ-loop
 node-once-requires c κs =
-    let p = c .before .before .before .before .before .before .before .before .before .before .pre in
+    let p = start-of-at-loop (c .before .before .before) .pre in
     let a = p .0 .axis in (
       record {
         chains = record {
@@ -57,7 +70,7 @@ node-once-requires c κs =
     )
 
 same-length : tie.Need-same-length Inv-loop μ-loop
-same-length c = let m = c .before .before .before in m .node-once .kept .1 .1 .1 .1 .1 .1 .1 .1 .1 .0 ∙ m .before .before .before .before .loop .inv .0
+same-length c = let m = c .before .before .before in m .node-once .kept .1 .1 .1 .1 .1 .1 .1 .1 .1 .0 ∙ at-loop m .loop .inv .0
 
 -- a node that does not pass
 returns-2 : tie.Need-returns-2 Inv-loop μ-loop
@@ -96,7 +109,7 @@ runs-once-spec =
     (λ c. omega arith)
     returns
     loop-holds
-    (λ c κs. omega (arith, c .before .before .before .before .before .before .before .before .pre .0 .nodes-long))
+    (λ c κs. omega (arith, start-of-at-loop (c .before) .pre .0 .nodes-long))
     node-once-requires
     same-length
     returns-2

@@ -8,13 +8,20 @@ use Rattle.validate.specs.Laws.Fresh.{clear-map}
 use Rattle.validate.proofs.runs.runs_right.Statement.{statement}
 use Rattle.validate.proofs.runs.runs_right.Tie as tie
 
+-- places on the way to a need, each by what stands just before it
+abbrev start-of-seen : tie.After-seen → tie.Start
+start-of-seen c = c .before .before .before .before .before
+
+abbrev start-of-then-1 : tie.Then1 → tie.Start
+start-of-then-1 c = c .before .before .before .before
+
 runs-once-requires : tie.Need-runs-once-requires
 runs-once-requires c κs = (
-  c .before .before .before .before .before .pre .0,
+  start-of-seen c .pre .0,
   record { marks-long = omega (arith, length-replicate {A = ℕ} 512 0); clear = clear-map 512; no-run = λ h. true-false h refl },
 )
 
 pub runs-right-spec : {M : Type 1} → statement M
 runs-right-spec =
     tie.close
-    (tie.spec (λ c. sym (c .before .before .before .before .pre .1 (c .if1 .taken))) (λ c. omega arith) runs-once-requires (λ c. c .before .runs-once .ensures .0 refl))
+    (tie.spec (λ c. sym (start-of-then-1 c .pre .1 (c .if1 .taken))) (λ c. omega arith) runs-once-requires (λ c. c .before .runs-once .ensures .0 refl))

@@ -24,8 +24,15 @@ Inv-loop linked entries next tombstoned live slots ends node seen₀ cursor₀ s
 abbrev μ-loop : tie.MeasureT-loop
 μ-loop linked entries next tombstoned live slots ends node seen₀ cursor₀ seen cursor = length (remaining linked entries next cursor)
 
+-- places on the way to a need, each by what stands just before it
+abbrev start : tie.After-slice-known Inv-loop μ-loop → tie.Start Inv-loop μ-loop
+start c = c .before .before .before .before .before
+
+abbrev after-entry-right : tie.After-cursor Inv-loop μ-loop → tie.After-entry-right Inv-loop μ-loop
+after-entry-right c = c .before .before .before .before
+
 loop-holds : tie.Need-loop-holds Inv-loop μ-loop
-loop-holds c = (follow-start _ _ _, c .before .before .before .before .before .pre .seekable .ready)
+loop-holds c = (follow-start _ _ _, start c .pre .seekable .ready)
 
 -- the entry, which edges are listed, and the place after the step
 abbrev entry : tie.At-loop Inv-loop μ-loop → tie.Start Inv-loop μ-loop
@@ -67,13 +74,13 @@ returns-2 c =
 
 loop-less : tie.Need-loop-less Inv-loop μ-loop
 loop-less c =
-    let a = c .before .before .before .before .before .before .before in
+    let a = after-entry-right c .before .before .before in
     let s = stepped a in
     turn-less (s .before .loop .inv .1) (s .step .ensures) (a .found .given .1)
 
 loop-again : tie.Need-loop-again Inv-loop μ-loop
 loop-again c =
-    let m = c .before .before .before .before in
+    let m = after-entry-right c in
     let a = m .before .before .before in
     let s = stepped a in (
       enter-more (listing (s .before)) _ (s .before .loop .inv .0) (step-edge (s .before .loop .inv .1) (s .step .ensures) _ (a .found .given .1)) (m .entry-right .ensures)

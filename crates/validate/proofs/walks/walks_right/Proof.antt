@@ -20,10 +20,20 @@ abbrev μ-loop : tie.MeasureT-loop
 loop-holds : tie.Need-loop-holds Inv-loop μ-loop
 loop-holds c = walking-start _ _ _ _ _ _ (replicate 512 0) (clear-map 512) refl
 
+-- places on the way to a need, each by what stands just before it
+abbrev start-of-seen : tie.After-seen Inv-loop μ-loop → tie.Start Inv-loop μ-loop
+start-of-seen c = c .before .before .before .before .before .before .before .before .before
+
+abbrev start-of-live-marked : tie.After-live-marked Inv-loop μ-loop → tie.Start Inv-loop μ-loop
+start-of-live-marked c = c .before .before .before .before .before .before .before .before .before
+
+abbrev start-of-then-1 : tie.Then1 Inv-loop μ-loop → tie.Start Inv-loop μ-loop
+start-of-then-1 c = c .before .before .before .before .before
+
 walk-right-requires : tie.Need-walk-right-requires Inv-loop μ-loop
 walk-right-requires c κs =
     let k = c .before .before in
-    record { walkable = c .before .before .before .before .before .before .before .before .before .pre .0 .walkable _ (k .loop-test .taken); marks-long = omega (arith, k .before .loop .inv .long) }
+    record { walkable = start-of-seen c .pre .0 .walkable _ (k .loop-test .taken); marks-long = omega (arith, k .before .loop .inv .long) }
 
 returns-2 : tie.Need-returns-2 Inv-loop μ-loop
 returns-2 c =
@@ -41,7 +51,7 @@ loop-again c =
 returns-3 : tie.Need-returns-3 Inv-loop μ-loop
 returns-3 c =
     let k = c .before .before in
-    c .live-marked .ensures ∙ walking-done _ _ _ _ _ _ (k .before .loop .inv) (k .loop-test .left) (c .before .before .before .before .before .before .before .before .before .pre .0 .ends-below)
+    c .live-marked .ensures ∙ walking-done _ _ _ _ _ _ (k .before .loop .inv) (k .loop-test .left) (start-of-live-marked c .pre .0 .ends-below)
 
 pub walks-right-spec : {M : Type 1} → statement M
 walks-right-spec =
@@ -50,7 +60,7 @@ walks-right-spec =
     Inv-loop
     μ-loop
     (λ c. omega arith)
-    (λ c. sym (c .before .before .before .before .before .pre .1 (c .if1 .taken)))
+    (λ c. sym (start-of-then-1 c .pre .1 (c .if1 .taken)))
     loop-holds
     (λ c. omega arith)
     (λ c. omega arith)

@@ -33,8 +33,15 @@ returns-4 c =
     (rw (eq-eqb _ _ (one .if1 .left), eq-eqb _ _ (two .if2 .left), eq-eqb _ _ (three .if3 .left), ne-eqb _ _ (c .if4 .taken)) at
     (compact-parts (start (one .before) .pre)))
 
+-- places on the way to a need, each by what stands just before it
+abbrev after-struct-known-of-else-4 : tie.Else4 → tie.After-struct-known
+after-struct-known-of-else-4 c = c .before .before .before .before .before .before .before
+
+abbrev after-struct-known-of-else-5 : tie.Else5 → tie.After-struct-known
+after-struct-known-of-else-5 c = c .before .before .before .before .before .before .before .before .before
+
 no-runs-requires : tie.Need-no-runs-requires
-no-runs-requires c κs = marks-there (start (c .before .before .before .before .before .before .before) .pre) Outgoing
+no-runs-requires c κs = marks-there (start (after-struct-known-of-else-4 c) .pre) Outgoing
 
 returns-5 : tie.Need-returns-5
 returns-5 c =
@@ -53,7 +60,7 @@ returns-5 c =
     (compact-parts (start (one .before) .pre)))
 
 no-runs-requires-2 : tie.Need-no-runs-requires-2
-no-runs-requires-2 c κs = marks-there (start (c .before .before .before .before .before .before .before .before .before) .pre) Incoming
+no-runs-requires-2 c κs = marks-there (start (after-struct-known-of-else-5 c) .pre) Incoming
 
 returns-6 : tie.Need-returns-6
 returns-6 c =

@@ -21,10 +21,14 @@ loop-holds c = listing-start (c .next-live .ensures) (c .before .before .before 
 slice-write-slots : tie.Need-slice-write-slots Inv-loop μ-loop
 slice-write-slots c = listing-room (c .before .loop .inv) (rw length-flags (c .loop-test .taken))
 
+-- places on the way to a need, each by what stands just before it
+abbrev at-start : tie.At-loop Inv-loop μ-loop → tie.Start Inv-loop μ-loop
+at-start c = c .before .before .before .before
+
 -- few are written
 few : (c : tie.At-loop Inv-loop μ-loop) → c .loop .n ≤ LIMIT
 few c =
-    let start = c .before .before .before .before in
+    let start = at-start c in
     omega (arith, listing-few (c .loop .inv), length-flags (start .args .words .now) (start .args .bound), start .pre .few)
 
 loop-less : tie.Need-loop-less Inv-loop μ-loop

@@ -24,12 +24,25 @@ abbrev μ-loop : tie.MeasureT-loop
 loop-holds : tie.Need-loop-holds Inv-loop μ-loop
 loop-holds c = walked-start (c .before .before .before .pre .ready)
 
+-- places on the way to a need, each by what stands just before it
+abbrev at-loop : tie.After-known-told Inv-loop μ-loop → tie.At-loop Inv-loop μ-loop
+at-loop c = c .before .before .before .before
+
+abbrev start : tie.At-loop Inv-loop μ-loop → tie.Start Inv-loop μ-loop
+start c = c .before .before .before .before
+
+abbrev after-step-of-is-listed : tie.After-is-listed Inv-loop μ-loop → tie.After-step Inv-loop μ-loop
+after-step-of-is-listed c = c .before .before .before .before
+
+abbrev after-step-of-then-1 : tie.Then1 Inv-loop μ-loop → tie.After-step Inv-loop μ-loop
+after-step-of-then-1 c = c .before .before .before .before .before
+
 is-listed-requires : tie.Need-is-listed-requires Inv-loop μ-loop
-is-listed-requires c κs = c .before .before .before .before .before .before .before .before .pre .live-long
+is-listed-requires c κs = start (at-loop c) .pre .live-long
 
 -- few entries are past
 few : (c : tie.At-loop Inv-loop μ-loop) → c .loop .n ≤ NONE + LIMIT
-few c = walked-few (c .before .before .before .before .pre .ready) (c .loop .inv)
+few c = walked-few (start c .pre .ready) (c .loop .inv)
 
 returns : tie.Need-returns Inv-loop μ-loop
 returns c =
@@ -41,7 +54,7 @@ returns c =
 loop-less : tie.Need-loop-less Inv-loop μ-loop
 loop-less c =
     let l = c .before .before in
-    let s = l .before .before .before .before in
+    let s = after-step-of-is-listed l in
     turn-less (s .before .loop .inv .ready) (s .step .ensures) (l .before .before .found .given .1)
 
 loop-again : tie.Need-loop-again Inv-loop μ-loop
@@ -65,7 +78,7 @@ count-spec =
     (λ c κs. c .loop .inv .ready)
     (λ c. search needs)
     is-listed-requires
-    (λ c. omega (arith, few (c .before .before .before .before .before .before)))
+    (λ c. omega (arith, few (after-step-of-then-1 c .before)))
     (λ c. search needs)
     returns
     loop-less

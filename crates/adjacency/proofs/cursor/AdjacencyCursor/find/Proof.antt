@@ -20,22 +20,38 @@ Inv-loop linked entries next tombstoned live slots ends end cursor₀ cursor =
 abbrev μ-loop : tie.MeasureT-loop
 μ-loop linked entries next tombstoned live slots ends end cursor₀ cursor = length (remaining linked entries next cursor)
 
+-- places on the way to a need, each by what stands just before it
+abbrev start-of-shared-slice-known-4 : tie.After-shared-slice-known4 Inv-loop μ-loop → tie.Start Inv-loop μ-loop
+start-of-shared-slice-known-4 c = c .before .before .before .before
+
+abbrev after-step-of-shared-slice-known-5 : tie.After-shared-slice-known5 Inv-loop μ-loop → tie.After-step Inv-loop μ-loop
+after-step-of-shared-slice-known-5 c = c .before .before .before .before
+
+abbrev start-of-step : tie.After-step Inv-loop μ-loop → tie.Start Inv-loop μ-loop
+start-of-step c = c .before .before .before .before .before .before
+
+abbrev after-step-of-then-1 : tie.Then1 Inv-loop μ-loop → tie.After-step Inv-loop μ-loop
+after-step-of-then-1 c = c .before .before .before .before .before
+
+abbrev after-found : tie.After-cursor Inv-loop μ-loop → tie.After-found Inv-loop μ-loop
+after-found c = c .before .before .before .before
+
 loop-holds : tie.Need-loop-holds Inv-loop μ-loop
-loop-holds c = search-start (c .before .before .before .before .pre .0 .ready)
+loop-holds c = search-start (start-of-shared-slice-known-4 c .pre .0 .ready)
 
 shared-slice-read-if1 : tie.Need-shared-slice-read-if1 Inv-loop μ-loop
 shared-slice-read-if1 c =
-    let s = c .before .before .before .before in
+    let s = after-step-of-shared-slice-known-5 c in
     lt-of-lt-of-le (step-below (s .before .loop .inv .ready) (s .step .ensures) (c .before .before .found .given .1))
-    (s .before .before .before .before .before .before .pre .1)
+    (start-of-step s .pre .1)
 
 is-listed-requires : tie.Need-is-listed-requires Inv-loop μ-loop
-is-listed-requires c κs = c .before .before .before .before .before .before .before .before .before .before .before .pre .0 .live-long
+is-listed-requires c κs = start-of-step (after-step-of-then-1 c) .pre .0 .live-long
 
 returns : tie.Need-returns Inv-loop μ-loop
 returns c =
     let wanted = c .before .before in
-    let s = wanted .before .before .before .before .before in
+    let s = after-step-of-then-1 wanted in
     sym (search-found (s .before .loop .inv) (s .step .ensures) (wanted .before .before .before .found .given .1) (eq-eqb _ _ (wanted .if1 .taken))
     (sym (c .before .is-listed .ensures) ∙ c .if2 .taken))
 
@@ -44,13 +60,13 @@ returns-2 c = let s = c .before .before in sym (search-none (s .before .loop .in
 
 loop-less : tie.Need-loop-less Inv-loop μ-loop
 loop-less c =
-    let s = c .before .before .before .before .before .before in
-    turn-less (s .before .loop .inv .ready) (s .step .ensures) (c .before .before .before .before .found .given .1)
+    let s = after-found c .before .before in
+    turn-less (s .before .loop .inv .ready) (s .step .ensures) (after-found c .found .given .1)
 
 loop-again : tie.Need-loop-again Inv-loop μ-loop
 loop-again c =
-    let s = c .before .before .before .before .before .before in
-    let q = c .before .before .before .before .found .given .1 in
+    let s = after-found c .before .before in
+    let q = after-found c .found .given .1 in
     ⊎-elim
     (λ a. search-skip (s .before .loop .inv) (s .step .ensures) q (sym (a .1 .ensures) ∙ a .2 .left))
     (λ a. search-on (s .before .loop .inv) (s .step .ensures) q (ne-eqb _ _ (a .left)))

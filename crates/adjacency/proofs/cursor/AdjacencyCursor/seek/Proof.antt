@@ -19,12 +19,22 @@ abbrev μ-loop : tie.MeasureT-loop
 loop-holds : tie.Need-loop-holds Inv-loop μ-loop
 loop-holds c = record { ready = c .before .before .before .pre .ready; same = refl }
 
+-- places on the way to a need, each by what stands just before it
+abbrev start : tie.After-step Inv-loop μ-loop → tie.Start Inv-loop μ-loop
+start c = c .before .before .before .before .before
+
+abbrev after-step : tie.Then1 Inv-loop μ-loop → tie.After-step Inv-loop μ-loop
+after-step c = c .before .before .before .before .before
+
+abbrev after-found : tie.After-cursor Inv-loop μ-loop → tie.After-found Inv-loop μ-loop
+after-found c = c .before .before .before .before
+
 is-listed-requires : tie.Need-is-listed-requires Inv-loop μ-loop
-is-listed-requires c κs = c .before .before .before .before .before .before .before .before .pre .live-long
+is-listed-requires c κs = start (c .before .before .before) .pre .live-long
 
 returns : tie.Need-returns Inv-loop μ-loop
 returns c =
-    let s = c .before .before .before .before .before in
+    let s = after-step c in
     seek-listed (s .before .loop .inv) (s .step .ensures) (c .before .before .before .found .given .1) (sym (c .before .is-listed .ensures) ∙ c .if1 .taken)
 
 returns-2 : tie.Need-returns-2 Inv-loop μ-loop
@@ -32,13 +42,13 @@ returns-2 c = let s = c .before .before in seek-done (s .before .loop .inv) (s .
 
 loop-less : tie.Need-loop-less Inv-loop μ-loop
 loop-less c =
-    let s = c .before .before .before .before .before .before in
-    turn-less (s .before .loop .inv .ready) (s .step .ensures) (c .before .before .before .before .found .given .1)
+    let s = after-found c .before .before in
+    turn-less (s .before .loop .inv .ready) (s .step .ensures) (after-found c .found .given .1)
 
 loop-again : tie.Need-loop-again Inv-loop μ-loop
 loop-again c =
-    let s = c .before .before .before .before .before .before in
-    seek-on (s .before .loop .inv) (s .step .ensures) (c .before .before .before .before .found .given .1)
+    let s = after-found c .before .before in
+    seek-on (s .before .loop .inv) (s .step .ensures) (after-found c .found .given .1)
     (sym (c .before .before .is-listed .ensures) ∙ c .before .if1 .left)
 
 pub seek-spec : {M : Type 1} → statement M

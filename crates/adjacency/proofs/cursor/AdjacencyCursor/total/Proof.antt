@@ -30,11 +30,18 @@ stepped l = l .before .before .before .before
 abbrev asked : tie.After-shared-slice-known6 Inv-loop μ-loop → tie.After-is-listed Inv-loop μ-loop
 asked c = c .before .before
 
+-- places on the way to a need, each by what stands just before it
+abbrev start : tie.After-shared-slice-known5 Inv-loop μ-loop → tie.Start Inv-loop μ-loop
+start c = c .before .before .before .before .before
+
+abbrev at-loop : tie.After-known-told Inv-loop μ-loop → tie.At-loop Inv-loop μ-loop
+at-loop c = c .before .before .before .before
+
 loop-holds : tie.Need-loop-holds Inv-loop μ-loop
-loop-holds c = let pre = c .before .before .before .before .before .pre in summing-start (pre .seekable .ready) (pre .few)
+loop-holds c = let pre = start c .pre in summing-start (pre .seekable .ready) (pre .few)
 
 is-listed-requires : tie.Need-is-listed-requires Inv-loop μ-loop
-is-listed-requires c κs = entry (c .before .before .before .before) .pre .seekable .live-long
+is-listed-requires c κs = entry (at-loop c) .pre .seekable .live-long
 
 shared-slice-read-low : tie.Need-shared-slice-read-low Inv-loop μ-loop
 shared-slice-read-low c =

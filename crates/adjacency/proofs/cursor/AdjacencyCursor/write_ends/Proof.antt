@@ -30,11 +30,18 @@ entry c = c .before .before .before .before .before .before
 abbrev stepped : tie.After-is-listed Inv-loop μ-loop → tie.After-step Inv-loop μ-loop
 stepped l = l .before .before .before .before
 
+-- places on the way to a need, each by what stands just before it
+abbrev start : tie.After-slice-known Inv-loop μ-loop → tie.Start Inv-loop μ-loop
+start c = c .before .before .before .before .before
+
+abbrev at-loop : tie.After-known-told Inv-loop μ-loop → tie.At-loop Inv-loop μ-loop
+at-loop c = c .before .before .before .before
+
 loop-holds : tie.Need-loop-holds Inv-loop μ-loop
-loop-holds c = let pre = c .before .before .before .before .before .pre .0 in writing-start (pre .seekable .ready) (pre .fits)
+loop-holds c = let pre = start c .pre .0 in writing-start (pre .seekable .ready) (pre .fits)
 
 is-listed-requires : tie.Need-is-listed-requires Inv-loop μ-loop
-is-listed-requires c κs = entry (c .before .before .before .before) .pre .0 .seekable .live-long
+is-listed-requires c κs = entry (at-loop c) .pre .0 .seekable .live-long
 
 -- few entries are past
 few : (c : tie.At-loop Inv-loop μ-loop) → c .loop .n ≤ NONE + LIMIT
