@@ -55,14 +55,18 @@ returns c =
     (c .before .before .if1 .taken) _
     (ap₂ {C = Words} (λ (n e : Slots). third (record { nodes = n; edges = e }) s) (c .before .all-based .ensures) (c .all-based2 .ensures))
 
+-- places on the way to a need, each by what stands just before it
+abbrev else-1 : tie.After-settle-arg11 → tie.Else1
+else-1 c = c .before .before .before .before .before .before .before .before .before .before .before
+
 settle-requires : tie.Need-settle-requires
 settle-requires c κs =
-    let told = c .before .before .before .before .before .before .before .before .before .before .before .before in
+    let told = else-1 c .before in
     let two = second-judged told in
     let one = first-judged two in
     let s = entry one in
     settleable (first s) (second s) (third no-counts s) (maps s) (one .judge .ensures) (two .judge2 .ensures) (told .answer .result) (told .answer .ensures)
-    (c .before .before .before .before .before .before .before .before .before .before .before .if1 .left)
+    (else-1 c .if1 .left)
 
 same-length : tie.Need-same-length
 same-length c = called c .settle .kept .1 .1 .1 .1 .1 .1 .1 .1 .1 .1 .1 .1 .1 .1 .1 .1 .0

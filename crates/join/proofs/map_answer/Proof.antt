@@ -5,10 +5,17 @@ use Rattle.join.specs.Answers.{sizes-of, rooms-of}
 use Rattle.join.proofs.map_answer.Statement.{statement}
 use Rattle.join.proofs.map_answer.Tie as tie
 
+-- places on the way to a need, each by what stands just before it
+abbrev after-lacking-2 : tie.After-lacking4 → tie.After-lacking2
+after-lacking-2 c = c .before .before .before .before
+
+abbrev start : tie.After-lacking2 → tie.Start
+start c = c .before .before .before .before
+
 returns : tie.Need-returns
 returns c =
-    let a = c .before .before .before .before .before .before .before .before .args in
-    maps-lacking (sizes-of (a .first)) (sizes-of (a .second)) (rooms-of (a .rooms)) (c .before .before .before .before .before .before .lacking .ensures) (c .before .before .before .before .lacking2 .ensures) (c .before .before .lacking3 .ensures) (c .lacking4 .ensures)
+    let a = start (after-lacking-2 c) .args in
+    maps-lacking (sizes-of (a .first)) (sizes-of (a .second)) (rooms-of (a .rooms)) (after-lacking-2 c .before .before .lacking .ensures) (after-lacking-2 c .lacking2 .ensures) (c .before .before .lacking3 .ensures) (c .lacking4 .ensures)
 
 pub map-answer-spec : {M : Type 1} → statement M
 map-answer-spec =

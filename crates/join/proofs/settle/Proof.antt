@@ -53,27 +53,49 @@ by-nodes c = by-sources (sources (targets c))
 abbrev by-highs : tie.After-join-slots3 → tie.Start
 by-highs c = by-nodes (kept-nodes (kept-lows c))
 
+-- places on the way to a need, each by what stands just before it
+abbrev after-slice-known-11-of-struct-known : tie.After-struct-known → tie.After-slice-known11
+after-slice-known-11-of-struct-known c = c .before .before .before .before .before
+
+abbrev after-slice-known-11-of-struct-known-2 : tie.After-struct-known2 → tie.After-slice-known11
+after-slice-known-11-of-struct-known-2 c = c .before .before .before .before .before .before
+
+abbrev after-slice-known-11-of-write-maps-arg-2 : tie.After-write-maps-arg2 → tie.After-slice-known11
+after-slice-known-11-of-write-maps-arg-2 c = c .before .before .before .before .before .before .before .before
+
+abbrev after-write-maps : tie.After-write-maps-arg4 → tie.After-write-maps
+after-write-maps c = c .before .before .before .before .before .before
+
+abbrev after-write-maps-2 : tie.After-join-axis-arg5 → tie.After-write-maps2
+after-write-maps-2 c = c .before .before .before .before .before .before .before .before .before
+
+abbrev after-join-axis : tie.After-join-axis-arg10 → tie.After-join-axis
+after-join-axis c = c .before .before .before .before .before .before .before
+
+abbrev after-reset-all-live-2 : tie.After-all-based2 → tie.After-reset-all-live2
+after-reset-all-live-2 c = c .before .before .before .before
+
 add-all-nodes : tie.Need-add-all-nodes
-add-all-nodes c = omega (arith, few-nodes (entry (c .before .before .before .before .before) .pre))
+add-all-nodes c = omega (arith, few-nodes (entry (after-slice-known-11-of-struct-known c) .pre))
 
 add-all-edges : tie.Need-add-all-edges
-add-all-edges c = omega (arith, few-edges (entry (c .before .before .before .before .before .before) .pre))
+add-all-edges c = omega (arith, few-edges (entry (after-slice-known-11-of-struct-known-2 c) .pre))
 
 write-maps-requires : tie.Need-write-maps-requires
-write-maps-requires c κs = first-maps-fit (entry (c .before .before .before .before .before .before .before .before) .pre)
+write-maps-requires c κs = first-maps-fit (entry (after-slice-known-11-of-write-maps-arg-2 c) .pre)
 
 write-maps-requires-2 : tie.Need-write-maps-requires-2
-write-maps-requires-2 c κs = second-maps-fit (entry (lent (c .before .before .before .before .before .before)) .pre)
+write-maps-requires-2 c κs = second-maps-fit (entry (lent (after-write-maps c)) .pre)
 
 join-axis-requires : tie.Need-join-axis-requires
 join-axis-requires c κs =
-    let two = c .before .before .before .before .before .before .before .before .before in
+    let two = after-write-maps-2 c in
     let one = maps-first two in
     axis-joinable (entry (lent one) .pre) (one .write-maps .ensures) (two .write-maps2 .ensures) Outgoing
 
 join-axis-requires-2 : tie.Need-join-axis-requires-2
 join-axis-requires-2 c κs =
-    let two = maps-second (c .before .before .before .before .before .before .before) in
+    let two = maps-second (after-join-axis c) in
     let one = maps-first two in
     axis-joinable (entry (lent one) .pre) (one .write-maps .ensures) (two .write-maps2 .ensures) Incoming
 
@@ -103,41 +125,41 @@ abbrev outs-of : tie.After-reset-all-live2 → tie.After-join-axis
 outs-of c = sources (targets (kept-nodes (kept-lows (kept-highs (live c)))))
 
 same-length : tie.Need-same-length
-same-length c = kept-nodes (kept-lows (kept-highs (live (c .before .before .before .before)))) .join-slots .kept .0
+same-length c = kept-nodes (kept-lows (kept-highs (live (after-reset-all-live-2 c)))) .join-slots .kept .0
 
 same-length-2 : tie.Need-same-length-2
-same-length-2 c = kept-lows (kept-highs (live (c .before .before .before .before))) .join-slots2 .kept .0
+same-length-2 c = kept-lows (kept-highs (live (after-reset-all-live-2 c))) .join-slots2 .kept .0
 
 same-length-3 : tie.Need-same-length-3
-same-length-3 c = kept-highs (live (c .before .before .before .before)) .join-slots3 .kept .0
+same-length-3 c = kept-highs (live (after-reset-all-live-2 c)) .join-slots3 .kept .0
 
 same-length-4 : tie.Need-same-length-4
-same-length-4 c = live (c .before .before .before .before) .reset-all-live .kept .0
+same-length-4 c = live (after-reset-all-live-2 c) .reset-all-live .kept .0
 
 same-length-5 : tie.Need-same-length-5
-same-length-5 c = c .before .before .before .before .reset-all-live2 .kept .0
+same-length-5 c = after-reset-all-live-2 c .reset-all-live2 .kept .0
 
 same-length-6 : tie.Need-same-length-6
-same-length-6 c = outs-of (c .before .before .before .before) .join-axis .kept .0
+same-length-6 c = outs-of (after-reset-all-live-2 c) .join-axis .kept .0
 
 same-length-7 : tie.Need-same-length-7
-same-length-7 c = targets (kept-nodes (kept-lows (kept-highs (live (c .before .before .before .before))))) .join-axis2 .kept .0
+same-length-7 c = targets (kept-nodes (kept-lows (kept-highs (live (after-reset-all-live-2 c))))) .join-axis2 .kept .0
 
 same-length-8 : tie.Need-same-length-8
-same-length-8 c = maps-first (maps-second (outs-of (c .before .before .before .before))) .write-maps .kept .1 .1 .1 .1 .1 .0
+same-length-8 c = maps-first (maps-second (outs-of (after-reset-all-live-2 c))) .write-maps .kept .1 .1 .1 .1 .1 .0
 
 same-length-9 : tie.Need-same-length-9
-same-length-9 c = maps-first (maps-second (outs-of (c .before .before .before .before))) .write-maps .kept .1 .1 .1 .1 .1 .1 .0
+same-length-9 c = maps-first (maps-second (outs-of (after-reset-all-live-2 c))) .write-maps .kept .1 .1 .1 .1 .1 .1 .0
 
 same-length-10 : tie.Need-same-length-10
-same-length-10 c = maps-second (outs-of (c .before .before .before .before)) .write-maps2 .kept .1 .1 .1 .1 .1 .0
+same-length-10 c = maps-second (outs-of (after-reset-all-live-2 c)) .write-maps2 .kept .1 .1 .1 .1 .1 .0
 
 same-length-11 : tie.Need-same-length-11
-same-length-11 c = maps-second (outs-of (c .before .before .before .before)) .write-maps2 .kept .1 .1 .1 .1 .1 .1 .0
+same-length-11 c = maps-second (outs-of (after-reset-all-live-2 c)) .write-maps2 .kept .1 .1 .1 .1 .1 .1 .0
 
 returns : tie.Need-returns
 returns c =
-    let edges-live = c .before .before .before .before in
+    let edges-live = after-reset-all-live-2 c in
     let nodes-live = live edges-live in
     let highs = kept-highs nodes-live in
     let lows = kept-lows highs in

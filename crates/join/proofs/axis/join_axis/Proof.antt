@@ -21,8 +21,12 @@ entries c = c .before .before .before .before
 abbrev rings : tie.After-fill-words2 → tie.After-fill-words
 rings c = c .before .before .before .before
 
+-- places on the way to a need, each by what stands just before it
+abbrev start-of-join-ends-arg : tie.After-join-ends-arg → tie.Start
+start-of-join-ends-arg c = c .before .before .before .before .before .before .before .before .before .before .before .before .before .before .before .before
+
 join-ends-requires : tie.Need-join-ends-requires
-join-ends-requires c κs = ends-fit (c .before .before .before .before .before .before .before .before .before .before .before .before .before .before .before .before .pre)
+join-ends-requires c κs = ends-fit (start-of-join-ends-arg c .pre)
 
 count-offsets-requires : tie.Need-count-offsets-requires
 count-offsets-requires c κs = let e = c .before .before .before in compressible (entry e .pre) (e .join-ends .ensures)
@@ -78,16 +82,16 @@ join-axis-spec =
     (λ c. search needs)
     join-ends-requires
     count-offsets-requires
-    (λ c. let s = c .before .before .before .before .before .before .before .before .before .before .before .before .before .before .before .before .before .before .before .before .before .before .before in omega (arith, s .pre .sized .edges-within))
+    (λ c. let s = entry (ends (c .before .before)) in omega (arith, s .pre .sized .edges-within))
     (λ c. let o = c .before .before in let e = ends o in omega (arith, room-there (entry e .pre) (e .join-ends .ensures) (o .count-offsets .ensures)))
     (λ c. let o = c .before .before in let e = ends o in omega (arith, room-there (entry e .pre) (e .join-ends .ensures) (o .count-offsets .ensures)))
     (λ c. let o = c .before .before in let e = ends o in omega (arith, room-there (entry e .pre) (e .join-ends .ensures) (o .count-offsets .ensures)))
     join-entries-requires
-    (λ c. let s = c .before .before .before .before .before .before .before .before .before .before .before .before .before .before .before .before .before .before .before .before .before .before .before .before .before .before .before .before in omega (arith, s .pre .sized .edges-within, s .pre .sized .nodes-within))
+    (λ c. let s = entry (ends (offsets (c .before .before .before))) in omega (arith, s .pre .sized .edges-within, s .pre .sized .nodes-within))
     fill-words-requires
-    (λ c. let s = c .before .before .before .before .before .before .before .before .before .before .before .before .before .before .before .before .before .before .before .before .before .before .before .before .before .before .before .before .before .before .before .before in omega (arith, s .pre .sized .edges-within, s .pre .sized .nodes-within))
-    (λ c. let s = c .before .before .before .before .before .before .before .before .before .before .before .before .before .before .before .before .before .before .before .before .before .before .before .before .before .before .before .before .before .before .before .before in omega (arith, s .pre .sized .edges-within, s .pre .sized .nodes-within))
-    (λ c. let s = c .before .before .before .before .before .before .before .before .before .before .before .before .before .before .before .before .before .before .before .before .before .before .before .before .before .before .before .before .before .before .before .before in omega (arith, s .pre .sized .edges-within, s .pre .sized .nodes-within))
+    (λ c. let s = entry (ends (offsets (entries (c .before .before .before)))) in omega (arith, s .pre .sized .edges-within, s .pre .sized .nodes-within))
+    (λ c. let s = entry (ends (offsets (entries (c .before .before .before)))) in omega (arith, s .pre .sized .edges-within, s .pre .sized .nodes-within))
+    (λ c. let s = entry (ends (offsets (entries (c .before .before .before)))) in omega (arith, s .pre .sized .edges-within, s .pre .sized .nodes-within))
     fill-words-requires-2
     same-length
     returns)

@@ -4,14 +4,24 @@ use Rattle.join.proofs.Sides.{first-ends-fit, second-ends-fit, both-end
 use Rattle.join.proofs.axis.join_ends.Statement.{statement}
 use Rattle.join.proofs.axis.join_ends.Tie as tie
 
+-- places on the way to a need, each by what stands just before it
+abbrev start-of-copy-ends-arg : tie.After-copy-ends-arg → tie.Start
+start-of-copy-ends-arg c = c .before .before .before .before .before .before .before .before .before
+
+abbrev start-of-copy-ends : tie.After-copy-ends → tie.Start
+start-of-copy-ends c = c .before .before .before .before .before .before .before .before .before .before
+
+abbrev after-copy-ends : tie.After-slice-known3 → tie.After-copy-ends
+after-copy-ends c = c .before .before .before .before .before .before
+
 copy-ends-requires : tie.Need-copy-ends-requires
-copy-ends-requires c κs = first-ends-fit (c .before .before .before .before .before .before .before .before .before .pre)
+copy-ends-requires c κs = first-ends-fit (start-of-copy-ends-arg c .pre)
 
 copy-ends-requires-2 : tie.Need-copy-ends-requires-2
-copy-ends-requires-2 c κs = second-ends-fit (c .before .before .before .before .before .before .before .before .before .before .before .before .before .pre) (c .before .before .before .copy-ends .ensures)
+copy-ends-requires-2 c κs = second-ends-fit (start-of-copy-ends (c .before .before .before) .pre) (c .before .before .before .copy-ends .ensures)
 
 returns : tie.Need-returns
-returns c = both-ends (c .before .before .before .before .before .before .before .before .before .before .before .before .before .before .before .before .pre) (c .before .before .before .before .before .before .copy-ends .ensures) (c .before .before .copy-ends2 .ensures)
+returns c = both-ends (start-of-copy-ends (after-copy-ends c) .pre) (after-copy-ends c .copy-ends .ensures) (c .before .before .copy-ends2 .ensures)
 
 pub join-ends-spec : {M : Type 1} → statement M
 join-ends-spec =

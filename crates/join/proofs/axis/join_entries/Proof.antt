@@ -4,14 +4,24 @@ use Rattle.join.proofs.Sides.{first-entries-fit, second-entries-fit, bo
 use Rattle.join.proofs.axis.join_entries.Statement.{statement}
 use Rattle.join.proofs.axis.join_entries.Tie as tie
 
+-- places on the way to a need, each by what stands just before it
+abbrev start-of-write-entries-arg : tie.After-write-entries-arg → tie.Start
+start-of-write-entries-arg c = c .before .before .before .before .before .before .before .before .before .before .before
+
+abbrev start-of-write-entries : tie.After-write-entries → tie.Start
+start-of-write-entries c = c .before .before .before .before .before .before .before .before .before .before .before .before
+
+abbrev after-write-entries : tie.After-slice-known3 → tie.After-write-entries
+after-write-entries c = c .before .before .before .before .before .before
+
 write-entries-requires : tie.Need-write-entries-requires
-write-entries-requires c κs = first-entries-fit (c .before .before .before .before .before .before .before .before .before .before .before .pre)
+write-entries-requires c κs = first-entries-fit (start-of-write-entries-arg c .pre)
 
 write-entries-requires-2 : tie.Need-write-entries-requires-2
-write-entries-requires-2 c κs = second-entries-fit (c .before .before .before .before .before .before .before .before .before .before .before .before .before .before .before .pre) (c .before .before .before .write-entries .ensures)
+write-entries-requires-2 c κs = second-entries-fit (start-of-write-entries (c .before .before .before) .pre) (c .before .before .before .write-entries .ensures)
 
 returns : tie.Need-returns
-returns c = both-entries (c .before .before .before .before .before .before .before .before .before .before .before .before .before .before .before .before .before .before .pre) (c .before .before .before .before .before .before .write-entries .ensures) (c .before .before .write-entries2 .ensures)
+returns c = both-entries (start-of-write-entries (after-write-entries c) .pre) (after-write-entries c .write-entries .ensures) (c .before .before .write-entries2 .ensures)
 
 pub join-entries-spec : {M : Type 1} → statement M
 join-entries-spec =

@@ -24,19 +24,26 @@ abbrev μ-loop : tie.MeasureT-loop
 loop-holds : tie.Need-loop-holds Inv-loop μ-loop
 loop-holds c = (passed-none _ _ _, rewritten-none _ _ _)
 
+-- places on the way to a need, each by what stands just before it
+abbrev start : tie.At-loop Inv-loop μ-loop → tie.Start Inv-loop μ-loop
+start c = c .before .before .before .before
+
+abbrev at-loop : tie.After-shared-slice-known3 Inv-loop μ-loop → tie.At-loop Inv-loop μ-loop
+at-loop c = c .before .before .before .before
+
 -- a live slot is one of those that there is room for
-room : (c : tie.Then1 Inv-loop μ-loop) → c .before .before .before .loop .to < length (c .before .before .before .before .before .before .before .args .out .now)
+room : (c : tie.Then1 Inv-loop μ-loop) → c .before .before .before .loop .to < length (start (c .before .before .before) .args .out .now)
 room c =
     let l = c .before .before .before .loop in
-    let s = c .before .before .before .before .before .before .before in
+    let s = start (c .before .before .before) in
     let alive = sym (c .before .is-live .ensures) ∙ c .if1 .taken in
     omega (arith, rank-live (live-flags (s .args .live .now) (s .args .bound)) (l .slot) alive, l .inv .0 .ranked, s .pre .fits)
 
 loop-again : tie.Need-loop-again Inv-loop μ-loop
 loop-again c =
     let t = c .before in
-    let l = c .before .before .before .before .loop in
-    let s = c .before .before .before .before .before .before .before .before in
+    let l = at-loop c .loop in
+    let s = start (at-loop c) in
     let alive = sym (c .before .before .is-live .ensures) ∙ t .if1 .taken in (
       passed-live (l .inv .0) (c .before .before .before .loop-test .taken) alive,
       rewritten-next _ (l .inv .1) (room t) (ap (λ (x : ℕ). getD (s .args .words .now) x 0) (sym (slot-counted (l .inv .0) alive))),
@@ -50,7 +57,7 @@ loop-again-2 c =
 returns : tie.Need-returns Inv-loop μ-loop
 returns c =
     let l = c .before .loop in
-    let s = c .before .before .before .before .before in
+    let s = start (c .before) in
     let count = all-counted (l .inv .0) (c .loop-test .left) in
     copied-all (s .args .words .now) (live-flags (s .args .live .now) (s .args .bound)) (s .pre .fits) (rewritten-all _ (l .inv .1) (omega arith) (omega arith))
 
