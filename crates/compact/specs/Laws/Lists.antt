@@ -1,32 +1,32 @@
 -- The lists that compaction takes over, of a whole store: they are the plain lists of its live nodes; and where the store is checked they can be written to a
 -- slice with room for its live edges.
-use Prim.Native.Nat.{_<_, _≤_, ℕ}
+use Prim.Native.Nat.{ℕ, _<_, _≤_}
+use mathlib.Core.Path.{_∙_, _≡_, ap, refl, sym}
 use mathlib.Core.Bool.{Bool, false, true}
 use mathlib.Core.List.{List, [], _++_, _∷_, map, map-append}
-use mathlib.Core.Path.{_∙_, _≡_, ap, refl, sym}
 use native.Mathlib.Omega.{arith}
 use lib.Dec.{eqb}
 use lib.ListN.{getD, length, length-map}
+use Rattle.plain.specs.declared.TraversalDirection.{TraversalDirection}
+use Rattle.plain.specs.declared.TraversalDirection.the-variants.{Incoming, Outgoing}
 use Rattle.plain.specs.Compaction.{rank, source-of, surviving-list, survivors, target-of}
-use Rattle.plain.specs.Laws.Booleans.{and-left}
-use Rattle.plain.specs.Laws.Compacting.{length-surviving-edges, survivors-sound}
-use Rattle.plain.specs.Laws.ImageLaws.{fitted-joined}
-use Rattle.plain.specs.Laws.ListLaws.{joined-member, map-same, member-getD-map}
-use Rattle.plain.specs.Laws.Operating.{incident}
-use Rattle.plain.specs.Laws.Rank.{live-below, member-live-slots}
 use Rattle.plain.specs.Lists.{joined, member}
 use Rattle.plain.specs.Numbers.{LIMIT}
 use Rattle.plain.specs.Plain.{Plain, edge-flags, end-of, list-of, node-flags}
 use Rattle.plain.specs.Reads.{live-count, live-slots}
 use Rattle.plain.specs.Step.{Capacities}
 use Rattle.plain.specs.WellFormed.{WellFormed}
-use Rattle.plain.specs.declared.TraversalDirection.{TraversalDirection}
-use Rattle.plain.specs.declared.TraversalDirection.the-variants.{Incoming, Outgoing}
+use Rattle.plain.specs.Laws.Booleans.{and-left}
+use Rattle.plain.specs.Laws.Compacting.{length-surviving-edges, survivors-sound}
+use Rattle.plain.specs.Laws.ImageLaws.{fitted-joined}
+use Rattle.plain.specs.Laws.ListLaws.{joined-member, map-same, member-getD-map}
+use Rattle.plain.specs.Laws.Operating.{incident}
+use Rattle.plain.specs.Laws.Rank.{live-below, member-live-slots}
 use Rattle.liveness.specs.FlagLaws.{length-flags}
 use Rattle.shape.specs.Chains.{In}
 use Rattle.shape.specs.Checked.{Checked}
-use Rattle.shape.specs.Laws.Reading.{plain-edge-flags, plain-node-flags}
 use Rattle.shape.specs.Shape.{Words, axis-words, edge-capacity, edge-live, lists, node-capacity, node-live}
+use Rattle.shape.specs.Laws.Reading.{plain-edge-flags, plain-node-flags}
 use Rattle.adjacency.specs.StoreWalks.{checked-walkable, list-is-walk}
 use Rattle.adjacency.specs.Walk.{walk-in}
 use Rattle.compact.specs.Lists.{ListsFit, live-walks}
