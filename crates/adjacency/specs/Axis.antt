@@ -18,7 +18,7 @@ use Rattle.adjacency.specs.declared.cursor.Step.{Step}
 use Rattle.adjacency.specs.Cursor.{listed, Seekable, Sought}
 use Rattle.adjacency.specs.Index.{Based, base-bounds, bounds-at}
 use Rattle.adjacency.specs.Walk.{column, entries-column, next-column, ColumnsThere}
-use Rattle.adjacency.specs.WalkLaws.{column-length, column-word}
+use Rattle.adjacency.specs.Laws.Walk.{column-length, column-word}
 
 -- the compressed index's offsets
 abbrev pub offsets-column : List ℕ → ℕ → ℕ → List ℕ

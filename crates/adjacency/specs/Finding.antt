@@ -12,7 +12,7 @@ use Rattle.adjacency.specs.declared.cursor.AdjacencyCursor.{AdjacencyCur
 use Rattle.adjacency.specs.declared.cursor.Found.the-variants.{Edge, Done}
 use Rattle.adjacency.specs.declared.cursor.Step.{Step}
 use Rattle.adjacency.specs.Cursor.{remaining, step-of, Ready}
-use Rattle.adjacency.specs.CursorLaws.{turn, step-edge, step-none}
+use Rattle.adjacency.specs.Laws.Cursor.{turn, step-edge, step-none}
 
 -- the first entry of a list that is wanted, NONE where none is
 unfoldable pub first-of : (ℕ → Bool) → List ℕ → ℕ

@@ -1,15 +1,9 @@
 pub mod Index
-pub mod IndexLaws
 pub mod Rings
 pub mod Cursor
-pub mod CursorLaws
-pub mod Reading
 pub mod Finding
 pub mod Summing
 pub mod Walk
-pub mod WalkLaws
 pub mod Axis
-pub mod StoreWalks
 pub mod Clear
-pub mod ClearLaws
-pub mod StoreClears
+pub mod Laws

@@ -1,5 +1,4 @@
 -- What the functions over rings ask and promise, of the words of an axis at entry, `ws`, and at exit, `vs`; a record a function.
-pub mod Laws
 use Prim.Native.Nat.{ℕ, _+_, _*_, _≤_, _<_}
 use mathlib.Core.Path.{_≡_}
 use mathlib.Core.Bool.{cond}

@@ -12,7 +12,7 @@ use Rattle.adjacency.specs.declared.cursor.Found.the-variants.{Edge, Don
 use Rattle.adjacency.specs.declared.cursor.Step.{Step}
 use Rattle.adjacency.specs.declared.cursor.Sums.{Sums}
 use Rattle.adjacency.specs.Cursor.{word, remaining, step-of, listed-left, Ready, Seekable}
-use Rattle.adjacency.specs.CursorLaws.{turn, step-edge, step-none}
+use Rattle.adjacency.specs.Laws.Cursor.{turn, step-edge, step-none}
 
 -- the sums of the words of two columns at some edges
 abbrev pub sums-of : List ℕ → List ℕ → List ℕ → Sums

@@ -9,7 +9,7 @@ use lib.ListN.{getD}
 use Rattle.plain.specs.Reads.{live-count, live-slots}
 use Rattle.plain.specs.Laws.ListLaws.{count-length}
 use Rattle.plain.specs.Laws.Rank.{live-slot-live}
-use Rattle.liveness.specs.FlagLaws.{length-flags}
+use Rattle.liveness.specs.Laws.Flags.{length-flags}
 use Rattle.liveness.specs.Flags.{live-flags}
 use Rattle.shape.specs.Columns.{end-at}
 use Rattle.shape.specs.Index.{Rewritten}

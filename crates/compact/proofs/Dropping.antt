@@ -9,11 +9,11 @@ use lib.Seq.{take-all}
 use Rattle.plain.specs.declared.Slots.{Slots}
 use Rattle.plain.specs.declared.TraversalDirection.{TraversalDirection}
 use Rattle.plain.specs.Laws.Rank.{live-below, rank-live}
-use Rattle.liveness.specs.FlagLaws.{length-flags}
+use Rattle.liveness.specs.Laws.Flags.{length-flags}
 use Rattle.shape.specs.Checked.{Checked, SlotsChecked}
 use Rattle.shape.specs.Columns.{end-at}
 use Rattle.shape.specs.Shape.{Words, axis-words, edge-capacity, edge-live, node-capacity, node-live}
-use Rattle.relocate.specs.Stores.{checked-end}
+use Rattle.relocate.specs.Laws.Stores.{checked-end}
 use Rattle.compact.specs.Bases.{AxisCompacted, Compactable}
 use Rattle.compact.specs.Dropping.{Droppable}
 use Rattle.compact.specs.Slots.{Keepable, WeightsKeepable}

@@ -9,7 +9,7 @@ use lib.ListN.{getD, length}
 use Rattle.plain.specs.declared.TraversalDirection.the-variants.{Outgoing}
 use Rattle.plain.specs.Compaction.{rank, renumbering}
 use Rattle.plain.specs.Lists.{written}
-use Rattle.liveness.specs.FlagLaws.{length-flags}
+use Rattle.liveness.specs.Laws.Flags.{length-flags}
 use Rattle.shape.specs.Shape.{Words, edge-live, node-live}
 use Rattle.compact.specs.Dropping.{Droppable}
 use Rattle.compact.specs.Settling.{Settleable}

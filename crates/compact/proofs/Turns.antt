@@ -17,7 +17,7 @@ use Rattle.plain.specs.Laws.Booleans.{below-or-not}
 use Rattle.plain.specs.Laws.ListLaws.{count-length, getD-from}
 use Rattle.plain.specs.Laws.Rank.{live-count-all-live, live-from-all-live}
 use Rattle.plain.specs.Laws.Renumberings.{length-renumbering, lookup-from}
-use Rattle.liveness.specs.FlagLaws.{length-flags}
+use Rattle.liveness.specs.Laws.Flags.{length-flags}
 use Rattle.liveness.specs.Flags.{live-flags}
 use Rattle.shape.specs.Columns.{cell}
 use Rattle.shape.specs.Index.{Rewritten}

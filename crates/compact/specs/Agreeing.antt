@@ -7,7 +7,7 @@ use borrow.Author.Tests.{eqb-true, eqb-false}
 use Rattle.plain.specs.declared.Counts.{Counts}
 use Rattle.plain.specs.declared.TraversalDirection.{TraversalDirection}
 use Rattle.plain.specs.Laws.Booleans.{by-test}
-use Rattle.liveness.specs.CallLaws.{reset-narrow}
+use Rattle.liveness.specs.Laws.Calls.{reset-narrow}
 use Rattle.shape.specs.Checked.{Checked}
 use Rattle.shape.specs.Columns.{mark-at}
 use Rattle.shape.specs.Fields.{SameFields}

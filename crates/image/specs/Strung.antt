@@ -14,7 +14,7 @@ use Rattle.plain.specs.Compaction.{EdgeRecord}
 use Rattle.plain.specs.Bits.{bits-of, row}
 use Rattle.plain.specs.Image.{edge-bits}
 use Rattle.liveness.specs.Flags.{next-live}
-use Rattle.liveness.specs.Passed.{Passed, passed-none, passed-fewer, passed-on, passed-all}
+use Rattle.liveness.specs.Laws.Passed.{Passed, passed-none, passed-fewer, passed-on, passed-all}
 use Rattle.bits.specs.Wrote.{Wrote, wrote-none, wrote-then}
 
 -- the pieces of what is in a list, one after the other

@@ -28,13 +28,13 @@ use Rattle.plain.specs.Laws.ImageBits.{length-edge-bits, below-image-bits, leng
 use Rattle.plain.specs.Laws.ImageLaws.{fitted-joined, image-length}
 use Rattle.plain.specs.Laws.Width.{width-holds, width-most}
 use Rattle.liveness.specs.Flags.{live-flags}
-use Rattle.liveness.specs.FlagLaws.{length-flags}
-use Rattle.liveness.specs.WordFlags.{count-le}
+use Rattle.liveness.specs.Laws.Flags.{length-flags}
+use Rattle.liveness.specs.Laws.WordFlags.{count-le}
 use Rattle.liveness.specs.Ranks.{RanksFit, Ranked}
 use Rattle.shape.specs.Shape.{Words, capacities, node-live, edge-live, axis-words, plain-of, lists}
 use Rattle.shape.specs.Checked.{SlotsChecked, Checked}
 use Rattle.shape.specs.Laws.Reading.{plain-node-flags, plain-edge-flags, plain-end, node-at, edge-at}
-use Rattle.relocate.specs.Stores.{checked-end}
+use Rattle.relocate.specs.Laws.Stores.{checked-end}
 use Rattle.compact.specs.Laws.Working.{both-length, both-live, both-renumbered}
 use Rattle.compact.specs.Working.{both-walks}
 use Rattle.bits.specs.Wrote.{Wrote, wrote-then, wrote-pack}

@@ -15,8 +15,8 @@ use Rattle.plain.specs.Laws.Bits.{length-bits-of}
 use Rattle.plain.specs.Laws.ImageBits.{length-edge-bits}
 use Rattle.plain.specs.Laws.Rank.{rank-live, live-below}
 use Rattle.liveness.specs.Flags.{live-flags}
-use Rattle.liveness.specs.FlagLaws.{length-flags}
-use Rattle.liveness.specs.Passed.{passed-live}
+use Rattle.liveness.specs.Laws.Flags.{length-flags}
+use Rattle.liveness.specs.Laws.Passed.{passed-live}
 use Rattle.liveness.specs.Ranks.{Ranked}
 use Rattle.bits.specs.Fields.{Room}
 use Rattle.bits.specs.Wrote.{Wrote, wrote-then}

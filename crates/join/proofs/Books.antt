@@ -19,7 +19,7 @@ use Rattle.shape.specs.Checked.{Checked, SlotsChecked}
 use Rattle.shape.specs.Columns.{end-at}
 use Rattle.shape.specs.Shape.{Words, axis-words, edge-capacity, edge-live, lists, node-capacity, node-live}
 use Rattle.shape.specs.Laws.Reading.{plain-node-flags}
-use Rattle.adjacency.specs.StoreWalks.{checked-walkable}
+use Rattle.adjacency.specs.Laws.StoreWalks.{checked-walkable}
 use Rattle.compact.specs.Lists.{live-walks}
 use Rattle.compact.specs.Laws.Left.{end-in, ends-left, slot-low}
 use Rattle.compact.specs.Laws.Lists.{lists-live, lists-renumbered, lists-total}

@@ -24,7 +24,7 @@ use Rattle.plain.specs.Laws.ImageBits.{record-high, record-low}
 use Rattle.plain.specs.Laws.Joining.{columns-of-both, ends-of-both, joined-raised, joined-sound, raised-none}
 use Rattle.plain.specs.Laws.ListLaws.{map-getD}
 use Rattle.liveness.specs.Calls.{Reset}
-use Rattle.liveness.specs.FlagLaws.{length-flags}
+use Rattle.liveness.specs.Laws.Flags.{length-flags}
 use Rattle.shape.specs.Columns.{Sized}
 use Rattle.shape.specs.Index.{ends-of}
 use Rattle.shape.specs.Kept.{AxisRenewed, Renewed, same-axis, same-edges, same-highs, same-live-edges, same-live-nodes, same-nodes}

@@ -10,7 +10,7 @@ use Rattle.plain.specs.Numbers.{NONE}
 use Rattle.liveness.specs.declared.Counted.{Counted}
 use Rattle.liveness.specs.declared.Counted.the-variants.{Live, Unpacked}
 use Rattle.adjacency.specs.Cursor.{Ready, Sought}
-use Rattle.adjacency.specs.Reading.{sought-below}
+use Rattle.adjacency.specs.Laws.Reading.{sought-below}
 use Rattle.adjacency.specs.declared.rings.RingEnds.{RingEnds}
 use Rattle.adjacency.specs.declared.cursor.AdjacencyCursor.{AdjacencyCursor}
 use Rattle.adjacency.specs.declared.cursor.Step.{Step}

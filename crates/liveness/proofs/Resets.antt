@@ -12,8 +12,8 @@ use lib.ListN.{length, getD, set, drop, replicate, length-append, length-replica
 use lib.Seq.{ext-getD, getD-at, set-at, drop-cons}
 use Rattle.liveness.specs.Flags.{bit, live-bit, live-flags, packed}
 use Rattle.liveness.specs.Calls.{all-live, Reset}
-use Rattle.liveness.specs.Bits.{full-bit}
-use Rattle.liveness.specs.FlagLaws.{length-flags, flag-at, packed-full, packed-is}
+use Rattle.liveness.specs.Laws.Bits.{full-bit}
+use Rattle.liveness.specs.Laws.Flags.{length-flags, flag-at, packed-full, packed-is}
 
 -- the whole words of the slots, and what follows them
 abbrev pub filled : ℕ → List ℕ → List ℕ

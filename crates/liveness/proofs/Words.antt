@@ -12,8 +12,8 @@ use lib.ListN.{length, getD, set}
 use lib.Seq.{getD-set-same, getD-set-other, set-getD}
 use Rattle.liveness.specs.Flags.{bit, live-bit, live-flags, packed}
 use Rattle.liveness.specs.Calls.{Pushed, Cleared}
-use Rattle.liveness.specs.Bits.{bit-past, mark-here, mark-other, unmark-here, unmark-other}
-use Rattle.liveness.specs.FlagLaws.{flag-at, flag-past, flags-suc, flags-same, flags-set, bit-in, bit-out, bit-of, bit-other, packed-full, packed-below, packed-is}
+use Rattle.liveness.specs.Laws.Bits.{bit-past, mark-here, mark-other, unmark-here, unmark-other}
+use Rattle.liveness.specs.Laws.Flags.{flag-at, flag-past, flags-suc, flags-same, flags-set, bit-in, bit-out, bit-of, bit-other, packed-full, packed-below, packed-is}
 
 -- a frame of one word
 frame : (words : List ℕ) (at w : ℕ) → at < length words → set words at w ≡ set words at (getD (set words at w) at 0)

@@ -1,10 +1,5 @@
 pub mod Flags
 pub mod Calls
-pub mod CallLaws
-pub mod Bits
-pub mod FlagLaws
-pub mod WordFlags
-pub mod Next
-pub mod Passed
 pub mod Ranks
 pub mod Examples
+pub mod Laws

@@ -18,9 +18,9 @@ use Rattle.adjacency.specs.declared.cursor.Found.the-variants.{Edge, Done}
 use Rattle.adjacency.specs.declared.cursor.Step.{Step}
 use Rattle.adjacency.specs.declared.cursor.Start.{Start}
 use Rattle.adjacency.specs.Cursor.{listed, listed-left, remaining, Ready, Sought}
-use Rattle.adjacency.specs.Reading.{sought-edge, sought-none}
+use Rattle.adjacency.specs.Laws.Reading.{sought-edge, sought-none}
 use Rattle.adjacency.specs.Walk.{walk-in, tombstoned-in, entries-column, next-column, Started}
-use Rattle.adjacency.specs.WalkLaws.{given-walk, given-seekable, next-length}
+use Rattle.adjacency.specs.Laws.Walk.{given-walk, given-seekable, next-length}
 use Rattle.nearest.specs.Frontier.{Frontier, frontier, dist-in, turn, pushed, expanded}
 use Rattle.nearest.specs.Backwards.{Seeable, Expandable, Expand, ExpandLot}
 use Rattle.nearest.proofs.FrontierLaws.{room, turn-held, turn-standing}

@@ -21,11 +21,11 @@ use Rattle.adjacency.specs.declared.cursor.Found.the-variants.{Edge}
 use Rattle.adjacency.specs.declared.cursor.Step.{Step}
 use Rattle.adjacency.specs.declared.cursor.Start.{Start}
 use Rattle.adjacency.specs.Cursor.{listed, listed-left, remaining, step-of}
-use Rattle.adjacency.specs.CursorLaws.{step-edge}
-use Rattle.adjacency.specs.Reading.{write-one}
+use Rattle.adjacency.specs.Laws.Cursor.{step-edge}
+use Rattle.adjacency.specs.Laws.Reading.{write-one}
 use Rattle.adjacency.specs.Finding.{first-of, Searching, search-start, search-skip, search-on}
 use Rattle.adjacency.specs.Walk.{walk-in, tombstoned-in, entries-column, next-column, Started}
-use Rattle.adjacency.specs.WalkLaws.{given-walk, given-seekable, next-length}
+use Rattle.adjacency.specs.Laws.Walk.{given-walk, given-seekable, next-length}
 use Rattle.nearest.specs.Search.{Distance}
 use Rattle.nearest.specs.Frontier.{dist-in}
 use Rattle.nearest.specs.Stores.{LiveLot}

@@ -21,7 +21,7 @@ use Rattle.shape.specs.Shape.{Words, node-capacity, edge-capacity, axis-words, 
 use Rattle.shape.specs.Checked.{Checked}
 use Rattle.shape.specs.Laws.Reading.{plain-node-bound, plain-edge-bound, plain-node-flags, plain-end}
 use Rattle.adjacency.specs.Walk.{walk-in, Walkable}
-use Rattle.adjacency.specs.StoreWalks.{checked-walkable, list-is-walk}
+use Rattle.adjacency.specs.Laws.StoreWalks.{checked-walkable, list-is-walk}
 use Rattle.nearest.specs.Chains.{first-candidate, or-else, chains, nearest-from, nearest}
 use Rattle.nearest.specs.ChainLaws.{Within}
 use Rattle.nearest.specs.Search.{Consistent}

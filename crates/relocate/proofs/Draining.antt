@@ -25,11 +25,11 @@ use Rattle.shape.specs.Laws.Taking.{keep-append}
 use Rattle.shape.specs.Laws.Keeping.{in-keep, in-either, in-second}
 use Rattle.adjacency.specs.declared.rings.RingEnds.{RingEnds}
 use Rattle.adjacency.specs.Rings.{EndsReadable, ring-ends, Detached}
-use Rattle.adjacency.specs.Rings.Laws.{ends-readable, ends-ring}
+use Rattle.adjacency.specs.Laws.Rings.{ends-readable, ends-ring}
 use Rattle.relocate.specs.Runs.{Edited, Grown, Keepable}
-use Rattle.relocate.specs.Runs.Laws.{run-of-marked, edited-none, edited-again, edited-wider, edited-list, edited-mark, edited-new, edited-rings, edited-kept, edited-writes}
+use Rattle.relocate.specs.Laws.Runs.{run-of-marked, edited-none, edited-again, edited-wider, edited-list, edited-mark, edited-new, edited-rings, edited-kept, edited-writes}
 use Rattle.relocate.specs.Overlay.{flags-of, Ready, Remade, Drainable, Drained}
-use Rattle.relocate.specs.Overlay.Laws.{node-same, edited-base, edited-index, edited-node, remade-run}
+use Rattle.relocate.specs.Laws.Overlay.{node-same, edited-base, edited-index, edited-node, remade-run}
 
 -- a line is what the function reads of it
 line-until : {link : ℕ → ℕ} {lo hi f t : ℕ} {xs : List ℕ} (n : ℕ) → length xs ≤ n → Line link lo hi f t xs → until link t n f ≡ xs

@@ -21,7 +21,7 @@ use Rattle.shape.specs.Laws.Chains.{in-front, in-none, seg-append, seg-agree, l
 use Rattle.shape.specs.Laws.Frames.{run-list-below}
 use Rattle.shape.specs.Laws.Keeping.{in-either}
 use Rattle.relocate.specs.Runs.{Editable, Edited}
-use Rattle.relocate.specs.Runs.Laws.{edited, edited-none, edited-list, edited-other}
+use Rattle.relocate.specs.Laws.Runs.{edited, edited-none, edited-list, edited-other}
 use Rattle.relocate.specs.Moves.{HandableOver, HandedOver}
 use Rattle.relocate.proofs.Pushing.{run-before}
 

@@ -24,11 +24,11 @@ use Rattle.shape.specs.Laws.Taking.{live-taken, swept-live}
 use Rattle.shape.specs.Laws.Keeping.{in-either, in-edited, in-second}
 use Rattle.shape.specs.Laws.Reading.{axis-adjacency}
 use Rattle.relocate.specs.Runs.{Editable, Cuttable}
-use Rattle.relocate.specs.Runs.Laws.{list-of-run, mark-of-run}
+use Rattle.relocate.specs.Laws.Runs.{list-of-run, mark-of-run}
 use Rattle.relocate.specs.Overlay.{flags-of, Remade, Preparable, Prepared}
-use Rattle.relocate.specs.Overlay.Laws.{remade-run}
+use Rattle.relocate.specs.Laws.Overlay.{remade-run}
 use Rattle.relocate.specs.Redirects.{Linked, Relabelled, Relocated}
-use Rattle.relocate.specs.Redirects.Laws.{placed-ready, remade-linked, remade-axis, remade-placed, relocated-axis, relocated-checked, relabelled-node, relabelled-linked, relabelled-kept}
+use Rattle.relocate.specs.Laws.Redirects.{placed-ready, remade-linked, remade-axis, remade-placed, relocated-axis, relocated-checked, relabelled-node, relabelled-linked, relabelled-kept}
 use Rattle.relocate.specs.Moves.{RunRelabelled, HandableOver, HandedOver, Movable, Met, Moved}
 use Rattle.relocate.proofs.Pushing.{run-before}
 

@@ -9,7 +9,7 @@ use Rattle.shape.specs.Steps.{swept}
 use Rattle.shape.specs.Laws.Keeping.{in-taken}
 use Rattle.relocate.specs.Runs.{Edited, Sweepable, Swept}
 use Rattle.relocate.specs.Overlay.{flags-of, TakenOver, Preparable, Prepared}
-use Rattle.relocate.specs.Overlay.Laws.{remade-edited, remade-list, remade-mark}
+use Rattle.relocate.specs.Laws.Overlay.{remade-edited, remade-list, remade-mark}
 
 module _
     {ws us : List ℕ}

@@ -18,7 +18,7 @@ use Rattle.shape.specs.Steps.{live-entries}
 use Rattle.shape.specs.Laws.Chains.{in-snoc, line-one, line-more, line-last, run-short, run-empty, run-line}
 use Rattle.shape.specs.Laws.Frames.{run-list-below}
 use Rattle.relocate.specs.Runs.{Editable, Grown, Pushable, Keepable}
-use Rattle.relocate.specs.Runs.Laws.{edited, edited-none}
+use Rattle.relocate.specs.Laws.Runs.{edited, edited-none}
 
 -- the run of a node with a mark
 pub run-before : {ws : List ℕ} {ce cn : ℕ} {counts : Counts} {node : ℕ} → Editable ws ce cn counts node → mark-at ws ce cn node ≢ 0

@@ -25,9 +25,9 @@ use Rattle.shape.specs.Laws.Keeping.{in-either, in-edited, in-one, in-without}
 use Rattle.shape.specs.Laws.Reading.{axis-end, axis-adjacency}
 use Rattle.relocate.specs.Runs.{Cuttable, TakenOut, Pushable, Grown}
 use Rattle.relocate.specs.Overlay.{flags-of, Preparable, Prepared}
-use Rattle.relocate.specs.Overlay.Laws.{remade-edited, remade-list, remade-mark, remade-new}
+use Rattle.relocate.specs.Laws.Overlay.{remade-edited, remade-list, remade-mark, remade-new}
 use Rattle.relocate.specs.Redirects.{Relocatable, Placed, Relabelled, Relocated, Left, Arrivable, Arrived, Redirectable, Redirected}
-use Rattle.relocate.specs.Redirects.Laws.{placed-ready, remade-axis, remade-placed, relocated-axis, relocated-checked, remade-linked, relabelled-node, relabelled-linked, relabelled-kept}
+use Rattle.relocate.specs.Laws.Redirects.{placed-ready, remade-axis, remade-placed, relocated-axis, relocated-checked, remade-linked, relabelled-node, relabelled-linked, relabelled-kept}
 
 -- ---- leaving
 

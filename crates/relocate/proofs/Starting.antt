@@ -26,9 +26,9 @@ use Rattle.shape.specs.Laws.Keeping.{in-keep, in-either, in-second}
 use Rattle.adjacency.specs.Index.{Based, base-bounds}
 use Rattle.adjacency.specs.declared.index.BaseBounds.{BaseBounds}
 use Rattle.relocate.specs.Runs.{Edited, Grown, Keepable}
-use Rattle.relocate.specs.Runs.Laws.{run-of-marked, edited, edited-none, edited-again, edited-wider, edited-list, edited-mark, edited-new, edited-other, edited-ring, edited-rings}
+use Rattle.relocate.specs.Laws.Runs.{run-of-marked, edited, edited-none, edited-again, edited-wider, edited-list, edited-mark, edited-new, edited-other, edited-ring, edited-rings}
 use Rattle.relocate.specs.Overlay.{flags-of, Ready, Remade, Copyable, Copied, Started, Drainable, Drained, TakenOver}
-use Rattle.relocate.specs.Overlay.Laws.{edited-base, edited-index, edited-remade}
+use Rattle.relocate.specs.Laws.Overlay.{edited-base, edited-index, edited-remade}
 
 -- ---- copying
 

@@ -22,7 +22,7 @@ use Rattle.shape.specs.Laws.Taking.{keep-append, swept-live, swept-all}
 use Rattle.shape.specs.Laws.Keeping.{in-either, in-keep, in-second}
 use Rattle.relocate.specs.declared.runs.Front.{Front}
 use Rattle.relocate.specs.Runs.{Edited, Grown, Keepable, Scanned, Shortenable, Shortened, Appendable, Appended, Sweepable, Swept}
-use Rattle.relocate.specs.Runs.Laws.{edited, edited-none, edited-again, edited-wider, edited-list, edited-mark, edited-new}
+use Rattle.relocate.specs.Laws.Runs.{edited, edited-none, edited-again, edited-wider, edited-list, edited-mark, edited-new}
 use Rattle.relocate.proofs.Pushing.{run-before}
 
 -- what is taken was there

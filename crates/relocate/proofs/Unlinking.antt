@@ -32,7 +32,7 @@ use Rattle.shape.specs.Laws.Chains.{in-front, in-last, in-none, seg-append, seg
 use Rattle.shape.specs.Laws.Frames.{run-list-below}
 use Rattle.shape.specs.Laws.Keeping.{in-second, in-without}
 use Rattle.relocate.specs.Runs.{Editable, before-in, Searchable, Cuttable, Unlinkable, TakenOut}
-use Rattle.relocate.specs.Runs.Laws.{edited, edited-none}
+use Rattle.relocate.specs.Laws.Runs.{edited, edited-none}
 use Rattle.relocate.proofs.Pushing.{run-before}
 use Rattle.relocate.proofs.Searching.{before-none, Split, before-split, without-middle}
 

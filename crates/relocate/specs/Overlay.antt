@@ -1,6 +1,5 @@
 -- What the functions that give a node a run in place of its base part and ring ask and promise, of the words of an axis at entry, `ws`, and at exit, `vs`. All of
 -- them promise an `Edited`, or a `Remade` once the ring is taken over.
-pub mod Laws
 use Prim.Native.Nat.{ℕ, _+_, _*_, _≤_, _<_}
 use mathlib.Core.Path.{_≡_}
 use mathlib.Core.Bool.{Bool, true, false}

@@ -1,5 +1,4 @@
 -- What a redirection of an edge on one axis asks and promises, of the words of the axis at entry, `ws`, and at exit, `vs`.
-pub mod Laws
 use Prim.Native.Nat.{ℕ, _+_, _*_, _≤_, _<_}
 use mathlib.Core.Path.{_≡_}
 use mathlib.Core.Bool.{Bool, true, false}

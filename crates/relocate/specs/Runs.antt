@@ -1,6 +1,5 @@
 -- What the functions that edit one node's run ask and promise, of the words of an axis at entry, `ws`, and at exit, `vs`. All of them promise an `Edited`: which
 -- run the node has now, and that everything else is as before.
-pub mod Laws
 use Prim.Native.Nat.{ℕ, _+_, _*_, _≤_, _<_}
 use mathlib.Core.Path.{_≡_}
 use mathlib.Core.Bool.{Bool, true, false, cond}

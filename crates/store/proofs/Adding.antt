@@ -16,7 +16,7 @@ use Rattle.plain.specs.Step.{changed, step}
 use Rattle.plain.specs.Laws.Cases.{comes-to, add-node, add-edge}
 use Rattle.plain.specs.Laws.Rank.{live-below}
 use Rattle.liveness.specs.Calls.{Pushed}
-use Rattle.liveness.specs.FlagLaws.{length-flags}
+use Rattle.liveness.specs.Laws.Flags.{length-flags}
 use Rattle.shape.specs.Shape.{Words, node-capacity, edge-capacity, capacities, node-live, edge-live, edge-payload-at, axis-words, axis-of, shape-of, plain-of, store, lists}
 use Rattle.shape.specs.Checked.{AxisChecked}
 use Rattle.shape.specs.Kept.{SameLengths, AxisKept, each-length, same-nodes, same-edges, same-highs, past-none}

@@ -12,7 +12,7 @@ use borrow.Author.Tests.{le-ltb}
 use Rattle.plain.specs.declared.TraversalDirection.{TraversalDirection}
 use Rattle.plain.specs.declared.Counts.{Counts}
 use Rattle.plain.specs.Laws.Booleans.{by-test, true-false, below-or-not}
-use Rattle.liveness.specs.FlagLaws.{length-flags}
+use Rattle.liveness.specs.Laws.Flags.{length-flags}
 use Rattle.shape.specs.Columns.{Sized, mark-at}
 use Rattle.shape.specs.Chains.{In}
 use Rattle.shape.specs.Shape.{Words, Adjacency, Axis, node-capacity, edge-capacity, node-live, edge-live, axis-words, base-of, run-list, run-of, ring-of, hiding, no-adjacency, axis-of}

@@ -19,7 +19,7 @@ use Rattle.plain.specs.Laws.Cases.{comes-to, remove-node}
 use Rattle.plain.specs.Laws.Deleting.{getD-set}
 use Rattle.plain.specs.Laws.Rank.{live-below}
 use Rattle.liveness.specs.Calls.{Cleared}
-use Rattle.liveness.specs.FlagLaws.{length-flags}
+use Rattle.liveness.specs.Laws.Flags.{length-flags}
 use Rattle.shape.specs.Chains.{In}
 use Rattle.shape.specs.Shape.{Words, node-capacity, edge-capacity, node-live, edge-live, node-slot-at, axis-words, axis-of, shape-of, plain-of, lists, store}
 use Rattle.shape.specs.Checked.{AxisChecked, Checked}
@@ -30,7 +30,7 @@ use Rattle.shape.specs.Laws.Keeping.{in-either}
 use Rattle.shape.specs.Laws.Reading.{made-at, node-flags-are}
 use Rattle.adjacency.specs.Walk.{walk-in}
 use Rattle.adjacency.specs.Clear.{Retired, Clearable}
-use Rattle.adjacency.specs.StoreClears.{checked-clearable, retired-slots, retired-within, retired-checked, node-retired, node-dead}
+use Rattle.adjacency.specs.Laws.StoreClears.{checked-clearable, retired-slots, retired-within, retired-checked, node-retired, node-dead}
 use Rattle.store.proofs.Keeping.{cleared-word, cleared-other, retired-word}
 use Rattle.store.proofs.Made.{slots-set}
 use Rattle.store.specs.Operations.{Acted, RemovedNode, fewer}

@@ -19,7 +19,7 @@ use Rattle.plain.specs.Laws.Cases.{Slot, absent, removed, live, slot, comes-to,
 use Rattle.plain.specs.Laws.Deleting.{getD-set}
 use Rattle.plain.specs.Laws.Rank.{live-below}
 use Rattle.liveness.specs.Calls.{Cleared}
-use Rattle.liveness.specs.FlagLaws.{length-flags}
+use Rattle.liveness.specs.Laws.Flags.{length-flags}
 use Rattle.shape.specs.Shape.{Words, node-capacity, edge-capacity, capacities, node-live, edge-live, edge-payload-at, edge-slot-at, axis-words, axis-of, shape-of, plain-of, store, lists}
 use Rattle.shape.specs.Checked.{AxisChecked, Checked}
 use Rattle.shape.specs.Kept.{SameLengths, AxisKept, each-length, same-edges, same-highs, past-none, axis-kept-none}

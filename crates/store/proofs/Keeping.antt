@@ -10,7 +10,7 @@ use lib.Seq.{getD-set-other}
 use Rattle.plain.specs.Laws.Booleans.{below-or-not}
 use Rattle.plain.specs.Laws.Rank.{live-below}
 use Rattle.liveness.specs.Flags.{live-flags}
-use Rattle.liveness.specs.FlagLaws.{length-flags}
+use Rattle.liveness.specs.Laws.Flags.{length-flags}
 use Rattle.liveness.specs.Calls.{Pushed, Cleared}
 use Rattle.shape.specs.Kept.{AxisKept}
 use Rattle.shape.specs.Writes.{OfRing}

@@ -19,7 +19,7 @@ use Rattle.plain.specs.Laws.Cases.{comes-to, redirect, move}
 use Rattle.plain.specs.Laws.ListLaws.{no-entries}
 use Rattle.plain.specs.Laws.Rank.{live-below}
 use Rattle.plain.specs.Laws.Stepping.{Fitting}
-use Rattle.liveness.specs.FlagLaws.{length-flags}
+use Rattle.liveness.specs.Laws.Flags.{length-flags}
 use Rattle.shape.specs.Columns.{end-at}
 use Rattle.shape.specs.Chains.{In}
 use Rattle.shape.specs.Shape.{Words, Axis, store, node-capacity, edge-capacity, capacities, node-live, edge-live, axis-words, axis-of, axis-in, edge-flags-of, live-in, raw, walk-of, adjacency-in, shape-of, plain-of, lists, adjacency-of}
@@ -30,11 +30,11 @@ use Rattle.shape.specs.Steps.{live-entries, acted, acts, with-axis, redirected-
 use Rattle.shape.specs.Laws.Reading.{node-bound-is, node-flags-are, edge-flags-are, plain-end, axis-is, axis-end, shape-adjacency}
 use Rattle.shape.specs.Laws.Taking.{live-taken}
 use Rattle.adjacency.specs.Walk.{tombstoned-in}
-use Rattle.adjacency.specs.StoreWalks.{list-is-walk}
+use Rattle.adjacency.specs.Laws.StoreWalks.{list-is-walk}
 use Rattle.relocate.specs.Redirects.{Redirectable, Redirected}
-use Rattle.relocate.specs.Redirects.Laws.{alive-below}
+use Rattle.relocate.specs.Laws.Redirects.{alive-below}
 use Rattle.relocate.specs.Moves.{Movable, Moved}
-use Rattle.relocate.specs.Stores.{checked-redirectable, checked-movable, checked-end, checked-all-live}
+use Rattle.relocate.specs.Laws.Stores.{checked-redirectable, checked-movable, checked-end, checked-all-live}
 use Rattle.store.specs.Operations.{Acted, RedirectedEdge, MovedEdges, EdgeRedirectable, EdgesMovable}
 use Rattle.store.specs.Acting.{shape-ext, acted-walks}
 

@@ -12,7 +12,7 @@ use Rattle.plain.specs.WellFormed.{WellFormed}
 use Rattle.plain.specs.Laws.Rank.{live-count-removed, live-count-pushed}
 use Rattle.plain.specs.Laws.Stepping.{Fitting}
 use Rattle.liveness.specs.Flags.{live-flags}
-use Rattle.liveness.specs.WordFlags.{count-le}
+use Rattle.liveness.specs.Laws.WordFlags.{count-le}
 use Rattle.liveness.specs.Calls.{Pushed, Cleared}
 use Rattle.shape.specs.Shape.{Words, Shape, capacities, shape-of, lists}
 use Rattle.shape.specs.Checked.{SlotsChecked, Checked}

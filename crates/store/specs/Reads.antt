@@ -19,8 +19,8 @@ use Rattle.shape.specs.Laws.Reading.{edge-at}
 use Rattle.adjacency.specs.declared.cursor.Sums.{Sums}
 use Rattle.adjacency.specs.Summing.{sums-of}
 use Rattle.adjacency.specs.Walk.{walk-in, WalkSummable}
-use Rattle.adjacency.specs.WalkLaws.{walk-below}
-use Rattle.adjacency.specs.StoreWalks.{checked-walkable, list-is-walk}
+use Rattle.adjacency.specs.Laws.Walk.{walk-below}
+use Rattle.adjacency.specs.Laws.StoreWalks.{checked-walkable, list-is-walk}
 
 -- both sums of a node's list
 abbrev pub sums-in : TraversalDirection → Plain → ℕ → Sums

@@ -15,12 +15,12 @@ use Rattle.plain.specs.Laws.Booleans.{by-test}
 use Rattle.plain.specs.Laws.Cases.{redirect-edge-absent, redirect-edge-removed, redirect-node-absent, redirect-node-removed, redirect-same, redirect, move-onto-itself, move-old-absent, move-nothing, move-new-absent, move-new-removed, move}
 use Rattle.plain.specs.Laws.ListLaws.{no-entries}
 use Rattle.plain.specs.Laws.Rank.{live-below}
-use Rattle.liveness.specs.FlagLaws.{length-flags}
+use Rattle.liveness.specs.Laws.Flags.{length-flags}
 use Rattle.shape.specs.Shape.{Words, node-capacity, edge-capacity, node-live, edge-live, axis-words, lists}
 use Rattle.shape.specs.Checked.{Checked}
 use Rattle.shape.specs.Laws.Reading.{plain-end}
 use Rattle.adjacency.specs.Walk.{walk-in}
-use Rattle.adjacency.specs.StoreWalks.{list-is-walk}
+use Rattle.adjacency.specs.Laws.StoreWalks.{list-is-walk}
 use Rattle.store.specs.Operations.{RedirectedEdge, MovedEdges}
 use Rattle.strip.specs.Faults.{fault-of, by-fault}
 use Rattle.strip.specs.Step.{StepOf, node-bound-of, absent-node, live-node, removed-node, absent-edge, live-edge, removed-edge, stays, done}

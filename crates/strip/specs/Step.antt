@@ -12,7 +12,7 @@ use Rattle.plain.specs.declared.Operation.the-variants.{RemoveEdge, RemoveNode,
 use Rattle.plain.specs.Numbers.{NONE}
 use Rattle.plain.specs.Laws.Booleans.{true-false}
 use Rattle.plain.specs.Laws.Cases.{Absent, Removed, Live, Case, comes-to, unknown as unknown-code}
-use Rattle.liveness.specs.FlagLaws.{length-flags}
+use Rattle.liveness.specs.Laws.Flags.{length-flags}
 use Rattle.shape.specs.Shape.{Words, capacities, node-live, edge-live, shape-of, plain-of, lists}
 use Rattle.shape.specs.Checked.{Checked}
 use Rattle.shape.specs.Kept.{Kept, kept-none, SameLengths}

@@ -23,7 +23,7 @@ use Rattle.shape.specs.Fields.{StripLeaves}
 use Rattle.shape.specs.Steps.{shape-step, shape-run, state-of}
 use Rattle.shape.specs.Laws.Running.{shape-run-snoc}
 use Rattle.shape.specs.Laws.NoFields.{kept-leaves}
-use Rattle.adjacency.specs.Reading.{write-one}
+use Rattle.adjacency.specs.Laws.Reading.{write-one}
 use Rattle.validate.specs.Judging.{Judged}
 use Rattle.strip.specs.Step.{StepOf, outcome, step-lists}
 

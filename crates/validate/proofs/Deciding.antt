@@ -21,8 +21,8 @@ use Rattle.shape.specs.Laws.Checking.{all-below, ring-sound, ring-own, index-so
 use Rattle.shape.specs.Laws.Judging.{Structured, sizes-sound, nodes-live-sound, edges-live-sound, axis-sound}
 use Rattle.shape.specs.Laws.Reading.{plain-node-bound, plain-edge-bound, plain-node-flags, plain-edge-flags, plain-end}
 use Rattle.adjacency.specs.Walk.{Walkable}
-use Rattle.adjacency.specs.WalkLaws.{walk-below}
-use Rattle.adjacency.specs.StoreWalks.{list-is-walk}
+use Rattle.adjacency.specs.Laws.Walk.{walk-below}
+use Rattle.adjacency.specs.Laws.StoreWalks.{list-is-walk}
 use Rattle.validate.specs.Passing.{entries-agree, slots-agree}
 use Rattle.validate.specs.Sizes.{axis-sized, live-there}
 use Rattle.validate.specs.Broken.{Threaded}

@@ -20,7 +20,7 @@ use Rattle.plain.specs.Lists.{member, distinct, all, from, keep, count}
 use Rattle.plain.specs.Laws.Booleans.{by-test, below-or-not, true-false, refuted, and-left, and-right, both-true, or-other, or-true}
 use Rattle.plain.specs.Laws.ListLaws.{member-append, member-keep, distinct-append, distinct-left, distinct-keep, all-of, all-member, count-length}
 use Rattle.liveness.specs.Flags.{live-flags}
-use Rattle.liveness.specs.FlagLaws.{length-flags, flag-at}
+use Rattle.liveness.specs.Laws.Flags.{length-flags, flag-at}
 use Rattle.shape.specs.Columns.{cell, end-at, last-at, tail-at, mark-at}
 use Rattle.shape.specs.Chains.{In, until, ring}
 use Rattle.shape.specs.Shape.{adjacency-in, base-of, run-of, run-list, ring-of, raw, live-in}

@@ -10,8 +10,8 @@ use lib.Dec.{eqb}
 use borrow.Author.Tests.{eq-eqb, eqb-true, eqb-false}
 use Rattle.plain.specs.Laws.Booleans.{by-test}
 use Rattle.liveness.specs.Flags.{bit}
-use Rattle.liveness.specs.Bits.{bit-zero, bit-suc, mark-here, mark-other}
-use Rattle.liveness.specs.FlagLaws.{bit-in, bit-of, bit-other}
+use Rattle.liveness.specs.Laws.Bits.{bit-zero, bit-suc, mark-here, mark-other}
+use Rattle.liveness.specs.Laws.Flags.{bit-in, bit-of, bit-other}
 use Rattle.validate.specs.Marks.{marked, Marked}
 use Rattle.validate.specs.Walks.{Within}
 

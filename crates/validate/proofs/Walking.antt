@@ -12,7 +12,7 @@ use Rattle.plain.specs.Lists.{member, distinct, all, from}
 use Rattle.plain.specs.Laws.Booleans.{by-test, same-truth, and-left, and-right, both-true, and-true, and-false, or-true, or-false}
 use Rattle.plain.specs.Laws.ListLaws.{all-of, all-member}
 use Rattle.liveness.specs.Flags.{live-flags}
-use Rattle.liveness.specs.FlagLaws.{flag-at}
+use Rattle.liveness.specs.Laws.Flags.{flag-at}
 use Rattle.shape.specs.Columns.{end-at}
 use Rattle.adjacency.specs.Walk.{walk-in}
 use Rattle.validate.specs.Passing.{slots-agree, rest, rest-first, rest-more, rest-fails, rest-none}

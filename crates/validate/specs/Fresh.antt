@@ -12,7 +12,7 @@ use Rattle.plain.specs.Lists.{member, distinct, all}
 use Rattle.plain.specs.Laws.Booleans.{by-test, below-or-not, same-truth, true-false, refuted, and-left, and-right, both-true, and-false, and-true, or-true, or-false}
 use Rattle.plain.specs.Laws.ListLaws.{all-of, all-member}
 use Rattle.liveness.specs.Flags.{live-bit}
-use Rattle.liveness.specs.Bits.{bit-past}
+use Rattle.liveness.specs.Laws.Bits.{bit-past}
 use Rattle.validate.specs.Marks.{marked, fresh, passes}
 
 -- nothing is marked in a clear map

@@ -15,7 +15,7 @@ use Rattle.plain.specs.Lists.{all, from, count}
 use Rattle.plain.specs.Reads.{live-count}
 use Rattle.plain.specs.Laws.Booleans.{by-test, eqb-same, refuted}
 use Rattle.plain.specs.Laws.ListLaws.{count-length}
-use Rattle.liveness.specs.FlagLaws.{length-flags}
+use Rattle.liveness.specs.Laws.Flags.{length-flags}
 use Rattle.shape.specs.Columns.{cell, mark-at}
 use Rattle.shape.specs.Shape.{Words, node-capacity, edge-capacity, axis-words, adjacency-in, axis-of, run-of, has-run, shape-of, is-compact}
 use Rattle.shape.specs.Checked.{Checked}

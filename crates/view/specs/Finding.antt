@@ -15,8 +15,8 @@ use Rattle.shape.specs.Shape.{Words, node-capacity, edge-capacity, node-live, p
 use Rattle.shape.specs.Laws.Reading.{node-bound-is, plain-end}
 use Rattle.shape.specs.Laws.Taking.{keep-agree}
 use Rattle.adjacency.specs.Walk.{walk-in}
-use Rattle.adjacency.specs.WalkLaws.{walk-below}
-use Rattle.adjacency.specs.StoreWalks.{checked-walkable, list-is-walk}
+use Rattle.adjacency.specs.Laws.Walk.{walk-below}
+use Rattle.adjacency.specs.Laws.StoreWalks.{checked-walkable, list-is-walk}
 use Rattle.adjacency.specs.Finding.{first-of, ends-at}
 use Rattle.validate.specs.Judging.{Judged}
 use Rattle.view.specs.Calls.{Answered, answer-done}

@@ -14,11 +14,11 @@ use Rattle.plain.specs.Reads.{Reply, listing, live-count, live-slots, node-slot
 use Rattle.plain.specs.Laws.ListLaws.{count-length}
 use Rattle.plain.specs.Laws.Rank.{length-live-slots}
 use Rattle.liveness.specs.Flags.{live-flags, next-live}
-use Rattle.liveness.specs.Passed.{Passed, passed-none, passed-fewer, passed-on, passed-later, passed-few, passed-all}
+use Rattle.liveness.specs.Laws.Passed.{Passed, passed-none, passed-fewer, passed-on, passed-later, passed-few, passed-all}
 use Rattle.shape.specs.Checked.{SlotsChecked}
 use Rattle.shape.specs.Shape.{Words, node-live, edge-live, plain-of, lists}
 use Rattle.shape.specs.Laws.Reading.{node-flags-are, edge-flags-are}
-use Rattle.adjacency.specs.Reading.{write-one}
+use Rattle.adjacency.specs.Laws.Reading.{write-one}
 use Rattle.validate.specs.Judging.{Judged}
 use Rattle.view.specs.Calls.{Replied, list-short, list-done}
 

@@ -11,7 +11,7 @@ use Rattle.plain.specs.declared.Record.{Record}
 use Rattle.plain.specs.Numbers.{NONE}
 use Rattle.plain.specs.Reads.{answered, yes-or-no, no-record, node-payload, edge-record, live-edge-record, contains-node, contains-edge}
 use Rattle.plain.specs.Laws.CallCases.{node-payload-absent, node-payload-there, edge-record-absent, edge-record-there, live-edge-record-absent, live-edge-record-removed, live-edge-record-there, contains-node-is, contains-edge-is}
-use Rattle.liveness.specs.FlagLaws.{length-flags}
+use Rattle.liveness.specs.Laws.Flags.{length-flags}
 use Rattle.shape.specs.Shape.{Words, node-live, edge-live, plain-of, lists}
 use Rattle.shape.specs.Laws.Reading.{node-bound-is, edge-bound-is, node-at, edge-at, node-flags-are, edge-flags-are, plain-end}
 use Rattle.shape.specs.Checked.{Checked}

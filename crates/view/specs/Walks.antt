@@ -16,7 +16,7 @@ use Rattle.plain.specs.Calls.{judged-total}
 use Rattle.plain.specs.Laws.Cases.{Absent}
 use Rattle.plain.specs.Laws.Totals.{Totals, totals}
 use Rattle.plain.specs.Laws.CallCases.{walk-absent, walk-there, neighbors-absent, neighbors-there, degree-absent, degree-there, total-absent, total-there}
-use Rattle.liveness.specs.FlagLaws.{length-flags}
+use Rattle.liveness.specs.Laws.Flags.{length-flags}
 use Rattle.shape.specs.Columns.{end-at}
 use Rattle.shape.specs.Shape.{Words, node-capacity, edge-capacity, node-live, axis-words, plain-of, lists}
 use Rattle.shape.specs.Checked.{Checked}
@@ -27,7 +27,7 @@ use Rattle.adjacency.specs.Walk.{walk-in, WalkFits}
 use Rattle.store.specs.Reads.{sums-in}
 use Rattle.validate.specs.Judging.{Judged, refusal}
 use Rattle.view.specs.Calls.{Answered, Totalled, Replied, answer-refuses, answer-done, reply-refuses, reply-absent, list-short, list-done}
-use Rattle.adjacency.specs.StoreWalks.{checked-walkable, list-is-walk, far-ends}
+use Rattle.adjacency.specs.Laws.StoreWalks.{checked-walkable, list-is-walk, far-ends}
 
 -- a node's list, and the far ends of it
 abbrev pub list-in : TraversalDirection → Words → ℕ → List ℕ

@@ -18,13 +18,13 @@ use Rattle.plain.specs.Laws.Compacting.{length-surviving-edges, length-survivin
 use Rattle.plain.specs.Laws.ImageBits.{record-high, record-low}
 use Rattle.plain.specs.Laws.ListLaws.{map-same}
 use Rattle.plain.specs.Laws.Rank.{live-below, member-live-slots}
-use Rattle.liveness.specs.FlagLaws.{length-flags}
+use Rattle.liveness.specs.Laws.Flags.{length-flags}
 use Rattle.liveness.specs.Flags.{live-flags}
 use Rattle.shape.specs.Checked.{Checked}
 use Rattle.shape.specs.Columns.{end-at}
 use Rattle.shape.specs.Shape.{Words, axis-words, capacities, edge-live, lists, node-live, plain-of, shape-of, edge-payload-at}
 use Rattle.shape.specs.Laws.Reading.{edge-at, node-at, plain-edge-flags, plain-end, plain-node-flags}
-use Rattle.relocate.specs.Stores.{checked-end}
+use Rattle.relocate.specs.Laws.Stores.{checked-end}
 use Rattle.compact.specs.Slots.{live-words-of}
 
 -- the end of a record in a direction

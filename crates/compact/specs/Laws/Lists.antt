@@ -22,12 +22,12 @@ use Rattle.plain.specs.Laws.ImageLaws.{fitted-joined}
 use Rattle.plain.specs.Laws.ListLaws.{joined-member, map-same, member-getD-map}
 use Rattle.plain.specs.Laws.Operating.{incident}
 use Rattle.plain.specs.Laws.Rank.{live-below, member-live-slots}
-use Rattle.liveness.specs.FlagLaws.{length-flags}
+use Rattle.liveness.specs.Laws.Flags.{length-flags}
 use Rattle.shape.specs.Chains.{In}
 use Rattle.shape.specs.Checked.{Checked}
 use Rattle.shape.specs.Shape.{Words, axis-words, edge-capacity, edge-live, lists, node-capacity, node-live}
 use Rattle.shape.specs.Laws.Reading.{plain-edge-flags, plain-node-flags}
-use Rattle.adjacency.specs.StoreWalks.{checked-walkable, list-is-walk}
+use Rattle.adjacency.specs.Laws.StoreWalks.{checked-walkable, list-is-walk}
 use Rattle.adjacency.specs.Walk.{walk-in}
 use Rattle.compact.specs.Lists.{ListsFit, live-walks}
 

@@ -15,7 +15,7 @@ use Rattle.plain.specs.Renumbering.{lookup}
 use Rattle.plain.specs.Laws.ListLaws.{getD-default, map-getD, count-length}
 use Rattle.plain.specs.Laws.Rank.{live-below}
 use Rattle.plain.specs.Laws.Renumberings.{length-renumbering, lookup-from}
-use Rattle.liveness.specs.FlagLaws.{length-flags}
+use Rattle.liveness.specs.Laws.Flags.{length-flags}
 use Rattle.liveness.specs.Flags.{live-flags}
 use Rattle.shape.specs.Checked.{SlotsChecked}
 use Rattle.shape.specs.Index.{Rewritten}

@@ -10,7 +10,7 @@ use lib.ListN.{getD, length, set}
 use Rattle.plain.specs.Compaction.{rank}
 use Rattle.plain.specs.Reads.{live-count, live-slots}
 use Rattle.plain.specs.Laws.Rank.{live-slot-rank, rank-end}
-use Rattle.liveness.specs.FlagLaws.{length-flags}
+use Rattle.liveness.specs.Laws.Flags.{length-flags}
 use Rattle.liveness.specs.Flags.{live-flags}
 use Rattle.shape.specs.Index.{Rewritten}
 use Rattle.shape.specs.Laws.Indexing.{rewritten-set}

@@ -6,7 +6,7 @@ use denote.Ref.{now}
 use lib.ListN.{getD}
 use Rattle.liveness.specs.Flags.{live-flags}
 use borrow.Author.Needs.{needs}
-use Rattle.liveness.specs.Bits.{power, unmark-room}
+use Rattle.liveness.specs.Laws.Bits.{power, unmark-room}
 use Rattle.liveness.proofs.Words.{live-below, live-one, clear-live, clear-dead}
 use Rattle.liveness.proofs.clear.Statement.{statement}
 use Rattle.liveness.proofs.clear.Tie as tie

@@ -9,8 +9,8 @@ use lib.ListN.{getD}
 use Rattle.plain.specs.Reads.{live-count}
 use Rattle.plain.specs.Lists.{from, count}
 use Rattle.liveness.specs.Flags.{live-flags}
-use Rattle.liveness.specs.Bits.{power}
-use Rattle.liveness.specs.WordFlags.{count-turn, count-rest, count-le}
+use Rattle.liveness.specs.Laws.Bits.{power}
+use Rattle.liveness.specs.Laws.WordFlags.{count-turn, count-rest, count-le}
 use Rattle.liveness.proofs.count_before.Statement.{statement}
 use Rattle.liveness.proofs.count_before.Tie as tie
 

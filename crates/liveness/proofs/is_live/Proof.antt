@@ -2,7 +2,7 @@
 use mathlib.Core.Path.{sym}
 use borrow.Author.Needs.{needs}
 use Rattle.liveness.specs.Flags.{bit, live-bit}
-use Rattle.liveness.specs.FlagLaws.{flag-at, flag-past}
+use Rattle.liveness.specs.Laws.Flags.{flag-at, flag-past}
 use Rattle.liveness.proofs.is_live.Statement.{statement}
 use Rattle.liveness.proofs.is_live.Tie as tie
 

@@ -8,8 +8,8 @@ use borrow.Author.Needs.{needs}
 use lib.Count.{trailingZeros}
 use lib.ListN.{getD}
 use Rattle.liveness.specs.Flags.{live-flags, next-live}
-use Rattle.liveness.specs.FlagLaws.{length-flags}
-use Rattle.liveness.specs.Next.{next-end, next-word-zero, next-word-here, zeros-room}
+use Rattle.liveness.specs.Laws.Flags.{length-flags}
+use Rattle.liveness.specs.Laws.Next.{next-end, next-word-zero, next-word-here, zeros-room}
 use Rattle.liveness.proofs.next_in_words.Statement.{statement}
 use Rattle.liveness.proofs.next_in_words.Tie as tie
 

@@ -5,8 +5,8 @@ use native.Mathlib.Omega.{arith}
 use borrow.Author.Needs.{needs}
 use lib.Count.{trailingZeros}
 use lib.ListN.{getD}
-use Rattle.liveness.specs.FlagLaws.{length-flags}
-use Rattle.liveness.specs.Next.{next-end, next-word, next-zero, zeros-room}
+use Rattle.liveness.specs.Laws.Flags.{length-flags}
+use Rattle.liveness.specs.Laws.Next.{next-end, next-word, next-zero, zeros-room}
 use Rattle.liveness.proofs.next_live.Statement.{statement}
 use Rattle.liveness.proofs.next_live.Tie as tie
 

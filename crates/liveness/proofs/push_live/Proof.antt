@@ -3,7 +3,7 @@ use native.Mathlib.Omega.{arith}
 use borrow.Author.Needs.{needs}
 use Prim.Native.Nat.{_/_, _%_}
 use Rattle.liveness.specs.Flags.{bit}
-use Rattle.liveness.specs.Bits.{power, mark-below}
+use Rattle.liveness.specs.Laws.Bits.{power, mark-below}
 use Rattle.liveness.proofs.Words.{push-first, push-bit, push-set}
 use Rattle.liveness.proofs.push_live.Statement.{statement}
 use Rattle.liveness.proofs.push_live.Tie as tie

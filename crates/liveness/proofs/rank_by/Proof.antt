@@ -8,8 +8,8 @@ use lib.Count.{ones}
 use lib.ListN.{getD}
 use Rattle.plain.specs.Reads.{live-count}
 use Rattle.liveness.specs.Flags.{live-flags}
-use Rattle.liveness.specs.Bits.{power}
-use Rattle.liveness.specs.WordFlags.{count-rest, count-le, rank-flags}
+use Rattle.liveness.specs.Laws.Bits.{power}
+use Rattle.liveness.specs.Laws.WordFlags.{count-rest, count-le, rank-flags}
 use Rattle.liveness.proofs.rank_by.Statement.{statement}
 use Rattle.liveness.proofs.rank_by.Tie as tie
 

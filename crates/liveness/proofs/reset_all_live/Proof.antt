@@ -7,7 +7,7 @@ use native.Mathlib.Omega.{arith}
 use borrow.Author.Fill.{fill-more}
 use lib.Pow.{pow-pos}
 use lib.ListN.{length, drop, replicate, length-set}
-use Rattle.liveness.specs.Bits.{power}
+use Rattle.liveness.specs.Laws.Bits.{power}
 use Rattle.liveness.proofs.Resets.{filled, reset-full, reset-rest}
 use Rattle.liveness.proofs.reset_all_live.Statement.{statement}
 use Rattle.liveness.proofs.reset_all_live.Tie as tie

@@ -9,7 +9,7 @@ use Rattle.plain.specs.Memory.{live-words}
 use Rattle.plain.specs.Reads.{live-count}
 use Rattle.plain.specs.Lists.{from, count}
 use Rattle.liveness.specs.Flags.{live-flags}
-use Rattle.liveness.specs.WordFlags.{count-turn, count-le}
+use Rattle.liveness.specs.Laws.WordFlags.{count-turn, count-le}
 use Rattle.liveness.specs.Ranks.{RankedTo, ranks-start, ranks-turn}
 use Rattle.liveness.proofs.write_ranks.Statement.{statement}
 use Rattle.liveness.proofs.write_ranks.Tie as tie

@@ -20,7 +20,7 @@ use Rattle.plain.specs.Reads.{live-count}
 use Rattle.plain.specs.Laws.Booleans.{by-test, below-or-not}
 use Rattle.plain.specs.Laws.ListLaws.{length-from, getD-from, getD-map}
 use Rattle.liveness.specs.Flags.{live-flags, packed}
-use Rattle.liveness.specs.FlagLaws.{words-same}
+use Rattle.liveness.specs.Laws.Flags.{words-same}
 use Rattle.shape.specs.Columns.{cell, adjacency-at, last-at, first-at, tail-at, count-at, mark-at, offset-at}
 use Rattle.shape.specs.Chains.{In, Seg, Line, Run, Ring}
 use Rattle.shape.specs.Shape.{Words, node-capacity, edge-capacity, axis-words, node-live, edge-live, edge-payload-at, base-of, run-list, run-of, ring-of, Adjacency, Axis, Shape, adjacency-in, axis-in, axis-of, shape-of, no-adjacency, node-flags-of, edge-flags-of}

@@ -22,7 +22,7 @@ use Rattle.plain.specs.WellFormed.{WellFormed}
 use Rattle.plain.specs.Laws.Booleans.{by-test, true-false}
 use Rattle.plain.specs.Laws.ListLaws.{member-first, distinct-apart}
 use Rattle.liveness.specs.Flags.{live-bit, live-flags, packed}
-use Rattle.liveness.specs.FlagLaws.{flags-same}
+use Rattle.liveness.specs.Laws.Flags.{flags-same}
 use Rattle.shape.specs.Columns.{cell, end-at, first-at, tail-at, count-at, mark-at}
 use Rattle.shape.specs.Chains.{In, Line, Run}
 use Rattle.shape.specs.Shape.{Words, node-capacity, edge-capacity, axis-words, node-live, edge-live, node-slot-at, edge-payload-at, edge-slot-at, base-of, run-list, run-of, ring-of, adjacency-in, axis-of, shape-of, plain-of}

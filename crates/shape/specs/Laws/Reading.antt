@@ -13,7 +13,7 @@ use Rattle.plain.specs.Lists.{from}
 use Rattle.plain.specs.Plain.{NodeSlot, EdgeSlot, incidence, end-of, node-bound, edge-bound, node-flags, edge-flags, no-node, no-edge}
 use Rattle.plain.specs.Laws.ListLaws.{getD-map, getD-from, length-from, map-getD, map-same, member-below}
 use Rattle.liveness.specs.Flags.{live-flags}
-use Rattle.liveness.specs.FlagLaws.{length-flags}
+use Rattle.liveness.specs.Laws.Flags.{length-flags}
 use Rattle.shape.specs.Columns.{end-at}
 use Rattle.shape.specs.Laws.Refining.{ends-of}
 use Rattle.shape.specs.Shape.{Axis, node-capacity, edge-capacity, plain-of, adjacency-of, Words, node-live, edge-live, node-slot-at, edge-payload-at, edge-slot-at, axis-words, adjacency-in, axis-of, shape-of, axis-in, no-adjacency, node-flags-of, edge-flags-of}

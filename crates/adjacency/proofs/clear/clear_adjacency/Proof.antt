@@ -1,6 +1,6 @@
 -- `adjacency::clear::clear_adjacency` meets its contract: the entries of the started walk made dead are the node's walk made dead.
 use borrow.Author.Needs.{needs}
-use Rattle.adjacency.specs.ClearLaws.{started-clearable, started-retired}
+use Rattle.adjacency.specs.Laws.Clear.{started-clearable, started-retired}
 use Rattle.adjacency.proofs.clear.clear_adjacency.Statement.{statement}
 use Rattle.adjacency.proofs.clear.clear_adjacency.Tie as tie
 

@@ -4,8 +4,8 @@ use borrow.Author.Needs.{needs}
 use lib.ListN.{length}
 use Rattle.adjacency.specs.Cursor.{remaining}
 use Rattle.adjacency.specs.Walk.{entries-column, next-column}
-use Rattle.adjacency.specs.Reading.{sought-less}
-use Rattle.adjacency.specs.ClearLaws.{Clearing, clearing-start, clearing-next, clearing-on, clearing-end, retired-then, retired-few}
+use Rattle.adjacency.specs.Laws.Reading.{sought-less}
+use Rattle.adjacency.specs.Laws.Clear.{Clearing, clearing-start, clearing-next, clearing-on, clearing-end, retired-then, retired-few}
 use Rattle.adjacency.proofs.clear.clear_left.Statement.{statement}
 use Rattle.adjacency.proofs.clear.clear_left.Tie as tie
 

@@ -1,6 +1,6 @@
 -- `adjacency::clear::retire` meets its contract: it is one edge made dead.
 use borrow.Author.Needs.{needs}
-use Rattle.adjacency.specs.ClearLaws.{retired-one}
+use Rattle.adjacency.specs.Laws.Clear.{retired-one}
 use Rattle.adjacency.proofs.clear.retire.Statement.{statement}
 use Rattle.adjacency.proofs.clear.retire.Tie as tie
 

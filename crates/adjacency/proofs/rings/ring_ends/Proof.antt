@@ -2,7 +2,7 @@
 use mathlib.Core.Path.{sym}
 use native.Mathlib.Omega.{arith}
 use borrow.Author.Needs.{needs}
-use Rattle.adjacency.specs.Rings.Laws.{ends-none, ends-some}
+use Rattle.adjacency.specs.Laws.Rings.{ends-none, ends-some}
 use Rattle.adjacency.proofs.rings.ring_ends.Statement.{statement}
 use Rattle.adjacency.proofs.rings.ring_ends.Tie as tie
 

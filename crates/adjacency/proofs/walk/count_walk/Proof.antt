@@ -2,7 +2,7 @@
 use mathlib.Core.Path.{ap, _∙_}
 use borrow.Author.Needs.{needs}
 use lib.ListN.{length}
-use Rattle.adjacency.specs.WalkLaws.{given-seekable, given-walk}
+use Rattle.adjacency.specs.Laws.Walk.{given-seekable, given-walk}
 use Rattle.adjacency.proofs.walk.count_walk.Statement.{statement}
 use Rattle.adjacency.proofs.walk.count_walk.Tie as tie
 

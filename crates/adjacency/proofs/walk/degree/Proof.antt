@@ -2,8 +2,8 @@
 use mathlib.Core.Path.{sym, _∙_}
 use native.Mathlib.Omega.{arith}
 use borrow.Author.Needs.{needs}
-use Rattle.adjacency.specs.CursorLaws.{base-within, ring-ready}
-use Rattle.adjacency.specs.WalkLaws.{given-degree, walk-short}
+use Rattle.adjacency.specs.Laws.Cursor.{base-within, ring-ready}
+use Rattle.adjacency.specs.Laws.Walk.{given-degree, walk-short}
 use Rattle.adjacency.proofs.walk.degree.Statement.{statement}
 use Rattle.adjacency.proofs.walk.degree.Tie as tie
 

@@ -1,7 +1,7 @@
 -- `adjacency::walk::start` meets its contract: a law of the start for each way out.
 use borrow.Author.Needs.{needs}
 use borrow.Author.Tests.{not-true, not-false}
-use Rattle.adjacency.specs.WalkLaws.{ends-readable, none-starts, run-starts, base-starts}
+use Rattle.adjacency.specs.Laws.Walk.{ends-readable, none-starts, run-starts, base-starts}
 use Rattle.adjacency.proofs.walk.start.Statement.{statement}
 use Rattle.adjacency.proofs.walk.start.Tie as tie
 

@@ -1,6 +1,6 @@
 -- `adjacency::walk::total` meets its contract: the listed entries of the started walk are the node's walk.
 use borrow.Author.Needs.{needs}
-use Rattle.adjacency.specs.WalkLaws.{next-length, given-seekable, given-walk}
+use Rattle.adjacency.specs.Laws.Walk.{next-length, given-seekable, given-walk}
 use Rattle.adjacency.proofs.walk.total.Statement.{statement}
 use Rattle.adjacency.proofs.walk.total.Tie as tie
 

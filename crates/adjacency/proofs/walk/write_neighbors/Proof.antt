@@ -1,6 +1,6 @@
 -- `adjacency::walk::write_neighbors` meets its contract: the listed entries of the started walk are the node's walk.
 use borrow.Author.Needs.{needs}
-use Rattle.adjacency.specs.WalkLaws.{next-length, given-writable, given-walk}
+use Rattle.adjacency.specs.Laws.Walk.{next-length, given-writable, given-walk}
 use Rattle.adjacency.proofs.walk.write_neighbors.Statement.{statement}
 use Rattle.adjacency.proofs.walk.write_neighbors.Tie as tie
 

@@ -1,6 +1,6 @@
 -- `adjacency::walk::write_walk` meets its contract: the listed entries of the started walk are the node's walk.
 use borrow.Author.Needs.{needs}
-use Rattle.adjacency.specs.WalkLaws.{given-writable, given-walk}
+use Rattle.adjacency.specs.Laws.Walk.{given-writable, given-walk}
 use Rattle.adjacency.proofs.walk.write_walk.Statement.{statement}
 use Rattle.adjacency.proofs.walk.write_walk.Tie as tie
 

@@ -8,8 +8,8 @@ use borrow.Author.Needs.{needs}
 use Rattle.plain.specs.Reads.{live-slots}
 use Rattle.plain.specs.Image.{record-width}
 use Rattle.liveness.specs.Flags.{live-flags}
-use Rattle.liveness.specs.FlagLaws.{length-flags}
-use Rattle.liveness.specs.Passed.{passed-later}
+use Rattle.liveness.specs.Laws.Flags.{length-flags}
+use Rattle.liveness.specs.Laws.Passed.{passed-later}
 use Rattle.image.specs.Strung.{StrungLive, live-none, live-more, live-all, record-bits, records-strung}
 use Rattle.image.specs.Writing.{record-at, edge-room, length-record-bits}
 use Rattle.image.proofs.write.write_edges.Statement.{statement}

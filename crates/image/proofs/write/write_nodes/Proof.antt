@@ -8,8 +8,8 @@ use Rattle.plain.specs.Reads.{live-slots}
 use Rattle.plain.specs.Image.{node-payload-width}
 use Rattle.plain.specs.Laws.Bits.{length-bits-of}
 use Rattle.liveness.specs.Flags.{live-flags}
-use Rattle.liveness.specs.FlagLaws.{length-flags}
-use Rattle.liveness.specs.Passed.{passed-later}
+use Rattle.liveness.specs.Laws.Flags.{length-flags}
+use Rattle.liveness.specs.Laws.Passed.{passed-later}
 use Rattle.image.specs.Strung.{StrungLive, live-none, live-more, live-all, row-strung}
 use Rattle.image.specs.Writing.{node-bits, node-room}
 use Rattle.image.proofs.write.write_nodes.Statement.{statement}

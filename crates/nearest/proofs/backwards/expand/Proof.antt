@@ -5,7 +5,7 @@ use borrow.Author.Needs.{needs}
 use lib.ListN.{length, getD}
 use Rattle.liveness.specs.Flags.{live-flags}
 use Rattle.adjacency.specs.Cursor.{listed, listed-left}
-use Rattle.adjacency.specs.Reading.{sought-below}
+use Rattle.adjacency.specs.Laws.Reading.{sought-below}
 use Rattle.nearest.proofs.Expanding.{Expanding, expanding-start, expanding-see, expanding-on, expanding-end, expanding-less, length-turn}
 use Rattle.nearest.specs.Frontier.{Frontier, frontier}
 use Rattle.nearest.proofs.backwards.expand.Statement.{statement}

@@ -8,7 +8,7 @@ use borrow.Author.Tests.{eq-eqb, ne-eqb}
 use lib.ListN.{length, getD}
 use Rattle.liveness.specs.Flags.{live-flags}
 use Rattle.adjacency.specs.Cursor.{remaining, listed}
-use Rattle.adjacency.specs.CursorLaws.{turn-less, step-below}
+use Rattle.adjacency.specs.Laws.Cursor.{turn-less, step-below}
 use Rattle.adjacency.specs.Finding.{search-found, search-none}
 use Rattle.nearest.specs.Forwards.{leads}
 use Rattle.nearest.proofs.Nearing.{Nearing, nearing-start, nearing-word, nearing-on, nearing-skip}

@@ -1,7 +1,7 @@
 -- `reads::degree` meets its contract: in either direction the list of a node is its walk.
 use borrow.Author.Needs.{needs}
 use Rattle.plain.specs.declared.TraversalDirection.the-variants.{Outgoing, Incoming}
-use Rattle.adjacency.specs.StoreWalks.{checked-walkable}
+use Rattle.adjacency.specs.Laws.StoreWalks.{checked-walkable}
 use Rattle.store.specs.Reads.{degree-read}
 use Rattle.store.proofs.reads.degree.Statement.{statement}
 use Rattle.store.proofs.reads.degree.Tie as tie

@@ -8,7 +8,7 @@ use native.Mathlib.Omega.{arith}
 use borrow.Author.Tests.{not-false}
 use Rattle.plain.specs.Laws.Booleans.{true-false, below-or-not}
 use Rattle.liveness.specs.Flags.{live-bit}
-use Rattle.liveness.specs.FlagLaws.{flag-at}
+use Rattle.liveness.specs.Laws.Flags.{flag-at}
 use Rattle.shape.specs.Columns.{end-at}
 use Rattle.validate.proofs.Listing.{all-live}
 use Rattle.validate.proofs.flat.ends_live.Statement.{statement}

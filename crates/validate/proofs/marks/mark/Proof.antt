@@ -3,7 +3,7 @@ use Prim.Native.Nat.{_/_, _%_}
 use native.Mathlib.Omega.{arith}
 use borrow.Author.Needs.{needs}
 use Rattle.liveness.specs.Flags.{bit}
-use Rattle.liveness.specs.Bits.{power, mark-below}
+use Rattle.liveness.specs.Laws.Bits.{power, mark-below}
 use Rattle.validate.proofs.Marking.{mark-again, mark-new}
 use Rattle.validate.proofs.marks.mark.Statement.{statement}
 use Rattle.validate.proofs.marks.mark.Tie as tie

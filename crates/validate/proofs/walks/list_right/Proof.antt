@@ -11,7 +11,7 @@ use lib.Dec.{eqb}
 use Rattle.liveness.specs.Flags.{live-flags}
 use Rattle.shape.specs.Columns.{end-at}
 use Rattle.adjacency.specs.Cursor.{remaining, listed, listed-left, Ready}
-use Rattle.adjacency.specs.CursorLaws.{turn, turn-less, step-edge, step-none, step-below}
+use Rattle.adjacency.specs.Laws.Cursor.{turn, turn-less, step-edge, step-none, step-below}
 use Rattle.validate.proofs.Following.{Following, follow-start, follow-done, enter-fails, enter-more}
 use Rattle.validate.proofs.walks.list_right.Statement.{statement}
 use Rattle.validate.proofs.walks.list_right.Tie as tie

@@ -9,7 +9,7 @@ use borrow.Author.Tests.{ltb-true, eq-eqb, eqb-true}
 use Rattle.plain.specs.Laws.Booleans.{by-test, below-or-not}
 use Rattle.plain.specs.Laws.ListLaws.{all-of, member-below}
 use Rattle.liveness.specs.Flags.{bit, live-bit}
-use Rattle.liveness.specs.FlagLaws.{flag-at}
+use Rattle.liveness.specs.Laws.Flags.{flag-at}
 use native.Mathlib.Omega.{arith}
 use borrow.Author.Needs.{needs}
 use Rattle.plain.specs.Lists.{all, from}

@@ -1,7 +1,7 @@
 -- `validate::walks::walk_right` meets its contract: the listed entries of the started walk are the node's walk.
 use native.Mathlib.Omega.{arith}
 use borrow.Author.Needs.{needs}
-use Rattle.adjacency.specs.WalkLaws.{next-length, given-seekable, given-walk}
+use Rattle.adjacency.specs.Laws.Walk.{next-length, given-seekable, given-walk}
 use Rattle.validate.proofs.walks.walk_right.Statement.{statement}
 use Rattle.validate.proofs.walks.walk_right.Tie as tie
 

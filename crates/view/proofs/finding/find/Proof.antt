@@ -2,7 +2,7 @@
 use native.Mathlib.Omega.{arith}
 use borrow.Author.Needs.{needs}
 use Rattle.plain.specs.declared.TraversalDirection.the-variants.{Outgoing, Incoming}
-use Rattle.adjacency.specs.StoreWalks.{checked-walkable}
+use Rattle.adjacency.specs.Laws.StoreWalks.{checked-walkable}
 use Rattle.view.specs.Calls.{answer-refuses}
 use Rattle.view.specs.Finding.{first-past, second-past, find-done}
 use Rattle.view.proofs.finding.find.Statement.{statement}

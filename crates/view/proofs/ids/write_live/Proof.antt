@@ -4,7 +4,7 @@ use native.Mathlib.Omega.{arith}
 use borrow.Author.Needs.{needs}
 use Rattle.plain.specs.Numbers.{LIMIT}
 use Rattle.liveness.specs.Flags.{live-flags}
-use Rattle.liveness.specs.FlagLaws.{length-flags}
+use Rattle.liveness.specs.Laws.Flags.{length-flags}
 use Rattle.view.specs.Ids.{Listing, listing-start, listing-room, listing-few, listing-on, listing-later, listing-end}
 use Rattle.view.proofs.ids.write_live.Statement.{statement}
 use Rattle.view.proofs.ids.write_live.Tie as tie

@@ -8,8 +8,8 @@ use lib.ListN.{length}
 use Rattle.plain.specs.Numbers.{NONE, LIMIT}
 use Rattle.liveness.specs.Flags.{live-flags}
 use Rattle.adjacency.specs.Cursor.{remaining, listed}
-use Rattle.adjacency.specs.CursorLaws.{seek-start, seek-listed, seek-done, turn-less}
-use Rattle.adjacency.specs.Reading.{Walked, walked-start, walked-on, walked-skip, walked-end, walked-few}
+use Rattle.adjacency.specs.Laws.Cursor.{seek-start, seek-listed, seek-done, turn-less}
+use Rattle.adjacency.specs.Laws.Reading.{Walked, walked-start, walked-on, walked-skip, walked-end, walked-few}
 use Rattle.adjacency.proofs.cursor.AdjacencyCursor.count.Statement.{statement}
 use Rattle.adjacency.proofs.cursor.AdjacencyCursor.count.Tie as tie
 

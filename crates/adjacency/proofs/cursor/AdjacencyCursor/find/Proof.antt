@@ -7,7 +7,7 @@ use borrow.Author.Tests.{eq-eqb, ne-eqb}
 use lib.ListN.{length}
 use Rattle.liveness.specs.Flags.{live-flags}
 use Rattle.adjacency.specs.Cursor.{remaining, listed}
-use Rattle.adjacency.specs.CursorLaws.{turn-less, step-below}
+use Rattle.adjacency.specs.Laws.Cursor.{turn-less, step-below}
 use Rattle.adjacency.specs.Finding.{ends-at, Searching, search-start, search-found, search-none, search-skip, search-on}
 use Rattle.adjacency.proofs.cursor.AdjacencyCursor.find.Statement.{statement}
 use Rattle.adjacency.proofs.cursor.AdjacencyCursor.find.Tie as tie

@@ -4,7 +4,7 @@ use borrow.Author.Needs.{needs}
 use lib.ListN.{length}
 use Rattle.liveness.specs.Flags.{live-flags}
 use Rattle.adjacency.specs.Cursor.{remaining, listed}
-use Rattle.adjacency.specs.CursorLaws.{Seeking, seek-listed, seek-done, seek-on, turn-less}
+use Rattle.adjacency.specs.Laws.Cursor.{Seeking, seek-listed, seek-done, seek-on, turn-less}
 use Rattle.adjacency.proofs.cursor.AdjacencyCursor.seek.Statement.{statement}
 use Rattle.adjacency.proofs.cursor.AdjacencyCursor.seek.Tie as tie
 

@@ -3,7 +3,7 @@ use native.Mathlib.Omega.{arith}
 use borrow.Author.Needs.{needs}
 use borrow.Author.Tests.{eq-eqb, ne-eqb, lt-ltb, le-ltb}
 use Rattle.adjacency.specs.Cursor.{step-of}
-use Rattle.adjacency.specs.CursorLaws.{ring-within, base-within, run-within}
+use Rattle.adjacency.specs.Laws.Cursor.{ring-within, base-within, run-within}
 use Rattle.adjacency.proofs.cursor.AdjacencyCursor.step.Statement.{statement}
 use Rattle.adjacency.proofs.cursor.AdjacencyCursor.step.Tie as tie
 

@@ -8,7 +8,7 @@ use borrow.Author.Needs.{needs}
 use lib.ListN.{length}
 use Rattle.liveness.specs.Flags.{live-flags}
 use Rattle.adjacency.specs.Cursor.{word, remaining, listed}
-use Rattle.adjacency.specs.CursorLaws.{turn-less, step-below}
+use Rattle.adjacency.specs.Laws.Cursor.{turn-less, step-below}
 use Rattle.adjacency.specs.Summing.{Summing, summing-start, low-room, high-room, summing-on, summing-skip, summing-end}
 use Rattle.adjacency.proofs.cursor.AdjacencyCursor.total.Statement.{statement}
 use Rattle.adjacency.proofs.cursor.AdjacencyCursor.total.Tie as tie

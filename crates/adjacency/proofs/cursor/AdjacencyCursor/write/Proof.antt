@@ -10,8 +10,8 @@ use lib.ListN.{length}
 use Rattle.plain.specs.Numbers.{NONE, LIMIT}
 use Rattle.liveness.specs.Flags.{live-flags}
 use Rattle.adjacency.specs.Cursor.{remaining, listed}
-use Rattle.adjacency.specs.CursorLaws.{seek-start, seek-listed, seek-done, turn-less}
-use Rattle.adjacency.specs.Reading.{walked-few, walked-end, Writing, writing-start, writing-room, writing-on, writing-skip, writing-end}
+use Rattle.adjacency.specs.Laws.Cursor.{seek-start, seek-listed, seek-done, turn-less}
+use Rattle.adjacency.specs.Laws.Reading.{walked-few, walked-end, Writing, writing-start, writing-room, writing-on, writing-skip, writing-end}
 use Rattle.adjacency.proofs.cursor.AdjacencyCursor.write.Statement.{statement}
 use Rattle.adjacency.proofs.cursor.AdjacencyCursor.write.Tie as tie
 

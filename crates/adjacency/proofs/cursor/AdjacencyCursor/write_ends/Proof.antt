@@ -10,8 +10,8 @@ use lib.ListN.{length}
 use Rattle.plain.specs.Numbers.{NONE, LIMIT}
 use Rattle.liveness.specs.Flags.{live-flags}
 use Rattle.adjacency.specs.Cursor.{word, remaining, listed}
-use Rattle.adjacency.specs.CursorLaws.{seek-start, seek-listed, seek-done, turn-less, step-below}
-use Rattle.adjacency.specs.Reading.{walked-few, Writing, writing-start, writing-room, writing-on, writing-skip, writing-end}
+use Rattle.adjacency.specs.Laws.Cursor.{seek-start, seek-listed, seek-done, turn-less, step-below}
+use Rattle.adjacency.specs.Laws.Reading.{walked-few, Writing, writing-start, writing-room, writing-on, writing-skip, writing-end}
 use Rattle.adjacency.proofs.cursor.AdjacencyCursor.write_ends.Statement.{statement}
 use Rattle.adjacency.proofs.cursor.AdjacencyCursor.write_ends.Tie as tie
 

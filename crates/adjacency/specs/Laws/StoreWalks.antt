@@ -16,7 +16,7 @@ use Rattle.shape.specs.Steps.{walk-in as walk-of-shape}
 use Rattle.shape.specs.Laws.Refining.{list-is-walk as walked}
 use Rattle.shape.specs.Laws.Reading.{edge-flags-are, node-flags-are, shape-adjacency, plain-end}
 use Rattle.adjacency.specs.Walk.{walk-in, Readable, Walkable}
-use Rattle.adjacency.specs.WalkLaws.{walk-below}
+use Rattle.adjacency.specs.Laws.Walk.{walk-below}
 
 module _ {w : Words} (k : Checked w) (d : TraversalDirection) (x : ℕ) (node : x < w .counts .nodes .bound) where
   -- a node of a checked store can be read, in either direction

@@ -16,7 +16,7 @@ use Rattle.plain.specs.Laws.Booleans.{by-test, true-false}
 use Rattle.plain.specs.Laws.ListLaws.{length-from}
 use Rattle.plain.specs.Laws.Deleting.{getD-set, length-set-all, getD-set-all}
 use Rattle.plain.specs.Laws.Rank.{live-below}
-use Rattle.liveness.specs.FlagLaws.{length-flags}
+use Rattle.liveness.specs.Laws.Flags.{length-flags}
 use Rattle.shape.specs.Columns.{end-at}
 use Rattle.shape.specs.Chains.{In}
 use Rattle.shape.specs.Shape.{adjacency-in, Adjacency, Axis, raw, live-in, run-list, axis-of, no-adjacency, ring-of}
@@ -25,9 +25,9 @@ use Rattle.shape.specs.Checked.{AxisChecked}
 use Rattle.shape.specs.Kept.{AxisKept}
 use Rattle.shape.specs.Laws.Frames.{run-list-below, run-of-agree, base-of-agree, ring-of-agree, index-kept, runs-kept, rings-agree}
 use Rattle.shape.specs.Laws.Reading.{made-at}
-use Rattle.relocate.specs.Runs.Laws.{same-entries}
+use Rattle.relocate.specs.Laws.Runs.{same-entries}
 use Rattle.relocate.specs.Overlay.{flags-of, Ready, Remade}
-use Rattle.relocate.specs.Overlay.Laws.{node-same, remade-list, remade-other}
+use Rattle.relocate.specs.Laws.Overlay.{node-same, remade-list, remade-other}
 use Rattle.relocate.specs.Redirects.{Linked, Relocatable, Placed, Relabelled, Relocated}
 
 -- a live edge is below the bound

@@ -18,7 +18,7 @@ use Rattle.plain.specs.Reads.{live-count}
 use Rattle.plain.specs.Laws.Booleans.{by-test, and-left, or-other}
 use Rattle.plain.specs.Laws.ListLaws.{member-append, member-keep, count-length}
 use Rattle.liveness.specs.Flags.{live-flags}
-use Rattle.liveness.specs.FlagLaws.{length-flags}
+use Rattle.liveness.specs.Laws.Flags.{length-flags}
 use Rattle.plain.specs.Laws.Deleting.{keep-all}
 use Rattle.shape.specs.Laws.Taking.{keep-agree}
 use Rattle.shape.specs.Laws.CheckedShape.{part-below, raw-below}
@@ -31,11 +31,11 @@ use Rattle.shape.specs.Laws.Walking.{between-none, until-wider, until-first}
 use Rattle.adjacency.specs.declared.cursor.AdjacencyCursor.{AdjacencyCursor}
 use Rattle.adjacency.specs.declared.cursor.Start.{Start}
 use Rattle.adjacency.specs.Index.{base-bounds}
-use Rattle.adjacency.specs.IndexLaws.{bounds-part, bounds-range}
+use Rattle.adjacency.specs.Laws.Index.{bounds-part, bounds-range}
 use Rattle.adjacency.specs.Rings.{EndsReadable, ring-ends}
 use Rattle.adjacency.specs.Cursor.{word, part-left, part-count, ring-left, remaining, exhausted, base-at, PartWithin, Closed, listed, listed-left, Seekable, Writable}
-use Rattle.adjacency.specs.CursorLaws.{part-counted, ring-remaining}
-use Rattle.adjacency.specs.Reading.{kept-short}
+use Rattle.adjacency.specs.Laws.Cursor.{part-counted, ring-remaining}
+use Rattle.adjacency.specs.Laws.Reading.{kept-short}
 use Rattle.adjacency.specs.Walk.{walk-in, tombstoned-in, column, entries-column, next-column, Readable, Walkable, Started}
 
 -- ---- columns

@@ -14,7 +14,7 @@ use Rattle.plain.specs.Laws.Booleans.{by-test, true-false, and-left, and-true, 
 use Rattle.plain.specs.Laws.ListLaws.{member-append, member-first, member-keep, count-length}
 use Rattle.plain.specs.Laws.Rank.{live-count-removed}
 use Rattle.liveness.specs.Flags.{live-flags}
-use Rattle.liveness.specs.FlagLaws.{length-flags}
+use Rattle.liveness.specs.Laws.Flags.{length-flags}
 use Rattle.liveness.specs.Calls.{Cleared}
 use Rattle.shape.specs.Shape.{Adjacency, adjacency-in, raw, live-in, walk-of}
 use Rattle.shape.specs.Laws.Chains.{in-front}
@@ -25,9 +25,9 @@ use Rattle.adjacency.specs.declared.cursor.Found.the-variants.{Edge, Don
 use Rattle.adjacency.specs.declared.cursor.Step.{Step}
 use Rattle.adjacency.specs.declared.cursor.Start.{Start}
 use Rattle.adjacency.specs.Cursor.{remaining, Ready, Sought}
-use Rattle.adjacency.specs.Reading.{before-first, before-fails, sought-whole, sought-over}
+use Rattle.adjacency.specs.Laws.Reading.{before-first, before-fails, sought-whole, sought-over}
 use Rattle.adjacency.specs.Walk.{walk-in, entries-column, next-column, Started}
-use Rattle.adjacency.specs.WalkLaws.{started-left, started-seekable}
+use Rattle.adjacency.specs.Laws.Walk.{started-left, started-seekable}
 use Rattle.adjacency.specs.Axis.{Advanceable}
 use Rattle.adjacency.specs.Clear.{Retired, LeftClearable, Clearable}
 

@@ -19,7 +19,7 @@ use Rattle.shape.specs.Checked.{Index, Rings}
 use Rattle.shape.specs.Kept.{axis-kept-again}
 use Rattle.shape.specs.Laws.Frames.{base-kept, index-kept}
 use Rattle.relocate.specs.Runs.{Edited}
-use Rattle.relocate.specs.Runs.Laws.{same-entries, list-of-run, mark-of-run, edited-ring, edited-rings, edited-kept, edited-writes}
+use Rattle.relocate.specs.Laws.Runs.{same-entries, list-of-run, mark-of-run, edited-ring, edited-rings, edited-kept, edited-writes}
 use Rattle.relocate.specs.Overlay.{Ready, Remade}
 
 -- equal parts make equal adjacencies

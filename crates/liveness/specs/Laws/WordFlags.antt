@@ -15,8 +15,8 @@ use Rattle.plain.specs.Lists.{count}
 use Rattle.plain.specs.Reads.{live-count}
 use Rattle.plain.specs.Compaction.{rank}
 use Rattle.liveness.specs.Flags.{bit, live-flags}
-use Rattle.liveness.specs.Bits.{bit-zero, bit-suc}
-use Rattle.liveness.specs.FlagLaws.{length-flags, flags-suc, flags-take, bit-of}
+use Rattle.liveness.specs.Laws.Bits.{bit-zero, bit-suc}
+use Rattle.liveness.specs.Laws.Flags.{length-flags, flags-suc, flags-take, bit-of}
 use Rattle.plain.specs.Laws.ListLaws.{count-append, count-length}
 use Rattle.plain.specs.Laws.Rank.{rank-take}
 

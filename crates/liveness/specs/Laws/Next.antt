@@ -15,8 +15,8 @@ use lib.ListN.{length, getD, drop, drop-of-length-le}
 use lib.Seq.{drop-cons}
 use Rattle.plain.specs.Reads.{live-from}
 use Rattle.liveness.specs.Flags.{bit, live-flags, next-live}
-use Rattle.liveness.specs.Bits.{bit-zero, bit-suc, bit-past, unmark-room}
-use Rattle.liveness.specs.FlagLaws.{length-flags, flag-at, flag-past, bit-of}
+use Rattle.liveness.specs.Laws.Bits.{bit-zero, bit-suc, bit-past, unmark-room}
+use Rattle.liveness.specs.Laws.Flags.{length-flags, flag-at, flag-past, bit-of}
 
 -- ---- on flags
 

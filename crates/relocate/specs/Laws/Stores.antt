@@ -19,7 +19,7 @@ use Rattle.plain.specs.Laws.Booleans.{by-test, true-false, and-right, both-true
 use Rattle.plain.specs.Laws.ListLaws.{member-keep, count-length}
 use Rattle.plain.specs.Laws.Rank.{live-below}
 use Rattle.plain.specs.Laws.Operating.{incident}
-use Rattle.liveness.specs.FlagLaws.{length-flags}
+use Rattle.liveness.specs.Laws.Flags.{length-flags}
 use Rattle.shape.specs.Columns.{end-at}
 use Rattle.shape.specs.Chains.{In}
 use Rattle.shape.specs.Shape.{Words, Adjacency, node-capacity, edge-capacity, adjacency-in, adjacency-of, hiding, raw, live-in, node-live, edge-live, axis-words, shape-of, plain-of, node-flags-of, walk-of, run-list}
@@ -28,9 +28,9 @@ use Rattle.shape.specs.Checked.{Checked}
 use Rattle.shape.specs.Laws.Chains.{in-none, in-front}
 use Rattle.shape.specs.Laws.Refining.{list-is-walk}
 use Rattle.shape.specs.Laws.Reading.{edge-flags-are, node-flags-are, shape-adjacency, plain-end}
-use Rattle.relocate.specs.Runs.Laws.{entries-are, entries-of}
+use Rattle.relocate.specs.Laws.Runs.{entries-are, entries-of}
 use Rattle.relocate.specs.Redirects.{Linked, Relocatable, Placed, Redirectable}
-use Rattle.relocate.specs.Redirects.Laws.{alive-below}
+use Rattle.relocate.specs.Laws.Redirects.{alive-below}
 use Rattle.relocate.specs.Moves.{Movable}
 
 -- an entry of a run is read in place of the base part

@@ -12,7 +12,7 @@ use Rattle.plain.specs.Reads.{live-count, live-from, live-slots}
 use Rattle.plain.specs.Laws.Booleans.{below-or-not}
 use Rattle.plain.specs.Laws.Rank.{length-live-slots}
 use Rattle.liveness.specs.Flags.{next-live}
-use Rattle.liveness.specs.Next.{listed-next, listed-end}
+use Rattle.liveness.specs.Laws.Next.{listed-next, listed-end}
 
 -- The live slots before `slot`, which is the next one or past the end, are `past`.
 pub record Passed (flags : List Bool) (past : List ℕ) (slot : ℕ) : Type 0 where

@@ -10,7 +10,7 @@ use lib.Dec.{eqb}
 use lib.Pow.{pow-pos, pow-mono}
 use lib.ListN.{length, getD, drop, replicate, length-replicate, getD-replicate, List·getD-append}
 use Rattle.liveness.specs.Calls.{Reset, all-live}
-use Rattle.liveness.specs.FlagLaws.{packed-below}
+use Rattle.liveness.specs.Laws.Flags.{packed-below}
 
 -- those that hold a bit of a slot have 64 bits
 pub reset-narrow : {entry exit : List ℕ} {slots : ℕ} → Reset entry slots exit → (i : ℕ) → 64 * i < slots → getD exit i 0 < 2 ^ 64

@@ -19,7 +19,7 @@ use Rattle.plain.specs.Laws.Booleans.{by-test, and-true, and-false, or-true}
 use Rattle.plain.specs.Laws.ListLaws.{member-append, member-keep}
 use Rattle.plain.specs.Laws.Deleting.{map-set}
 use Rattle.liveness.specs.Flags.{live-flags}
-use Rattle.liveness.specs.FlagLaws.{length-flags}
+use Rattle.liveness.specs.Laws.Flags.{length-flags}
 use Rattle.shape.specs.Columns.{mark-at}
 use Rattle.shape.specs.Chains.{In}
 use Rattle.shape.specs.Shape.{Words, node-capacity, edge-capacity, node-live, edge-live, axis-words, edge-payload-at, edge-slot-at, shape-of, adjacency-in, run-list, run-of, part, raw, live-in}
@@ -29,9 +29,9 @@ use Rattle.shape.specs.Laws.Chains.{in-none}
 use Rattle.shape.specs.Laws.Keeping.{retired-length}
 use Rattle.shape.specs.Laws.Reading.{edge-bound-is, edge-flags-are}
 use Rattle.adjacency.specs.Walk.{walk-in}
-use Rattle.adjacency.specs.StoreWalks.{checked-readable, checked-walkable, shape-walk}
+use Rattle.adjacency.specs.Laws.StoreWalks.{checked-readable, checked-walkable, shape-walk}
 use Rattle.adjacency.specs.Clear.{Retired, Clearable}
-use Rattle.adjacency.specs.ClearLaws.{getD-cleared, retired-both}
+use Rattle.adjacency.specs.Laws.Clear.{getD-cleared, retired-both}
 
 -- a node of a checked store can be cleared in either direction, whatever stands in the live words
 pub checked-clearable : {w : Words} → Checked w → (d : TraversalDirection) (x : ℕ) → x < w .counts .nodes .bound → {live-edges : List ℕ}

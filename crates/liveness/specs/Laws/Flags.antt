@@ -14,7 +14,7 @@ use lib.ListN.{length, getD, set, take, length-set, length-map, List·getD-eq-de
 use lib.Seq.{ext-getD, getD-take, length-take-le, getD-set-same, getD-set-other}
 use Rattle.plain.specs.Lists.{from}
 use Rattle.liveness.specs.Flags.{bit, live-bit, live-flags, packed}
-use Rattle.liveness.specs.Bits.{bit-small, same-bits}
+use Rattle.liveness.specs.Laws.Bits.{bit-small, same-bits}
 
 -- one number more at the end
 from-suc : (a n : ℕ) → from a (suc n) ≡ from a n ++ ((a + n) ∷ [])

@@ -18,7 +18,7 @@ use Rattle.adjacency.specs.declared.cursor.AdjacencyCursor.{AdjacencyCur
 use Rattle.adjacency.specs.declared.cursor.Found.the-variants.{Edge, Done}
 use Rattle.adjacency.specs.declared.cursor.Step.{Step}
 use Rattle.adjacency.specs.Cursor.{word, part-left, ring-left, remaining, step-of, Ready, from-first, Sought}
-use Rattle.adjacency.specs.CursorLaws.{part-counted, turn, found-is}
+use Rattle.adjacency.specs.Laws.Cursor.{part-counted, turn, found-is}
 
 -- ---- a list from its first entry on that passes
 
