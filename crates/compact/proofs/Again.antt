@@ -14,30 +14,29 @@ use mathlib.Core.List.{List, map}
 use native.Mathlib.Nat.{zero-add}
 use lib.ListN.{length, getD, take, drop, replicate}
 use lib.Seq.{getD-take}
+use Rattle.plain.specs.declared.Counts.{Counts}
+use Rattle.plain.specs.declared.Slots.{Slots}
 use Rattle.plain.specs.declared.TraversalDirection.{TraversalDirection}
 use Rattle.plain.specs.declared.TraversalDirection.the-variants.{Outgoing, Incoming}
-use Rattle.plain.specs.declared.Slots.{Slots}
-use Rattle.plain.specs.declared.Counts.{Counts}
+use Rattle.plain.specs.Compaction.{survivors, of-survivors, compacted}
 use Rattle.plain.specs.Lists.{joined, from, written}
 use Rattle.plain.specs.Plain.{Plain, list-of}
-use Rattle.plain.specs.Compaction.{survivors, of-survivors, compacted}
 use Rattle.plain.specs.Laws.AllLive.{AllLive, live-slot, own-rank, compacted-same}
 use Rattle.plain.specs.Laws.ListLaws.{getD-map, length-from, getD-from}
-use Rattle.liveness.specs.Flags.{live-flags}
 use Rattle.liveness.specs.Calls.{all-live}
-use Rattle.shape.specs.Columns.{cell, end-at}
-use Rattle.shape.specs.Shape.{Words, capacities, node-live, edge-live, axis-words, lists, node-capacity, edge-capacity}
+use Rattle.liveness.specs.Flags.{live-flags}
 use Rattle.shape.specs.Checked.{Checked}
-use Rattle.shape.specs.Laws.Reading.{plain-node-bound, plain-edge-bound, plain-node-flags, plain-edge-flags}
+use Rattle.shape.specs.Columns.{cell, end-at}
 use Rattle.shape.specs.Index.{Rewritten, before, ends-of}
-use Rattle.compact.proofs.Turns.{rewritten-same, kept-all-live}
-use Rattle.compact.specs.Slots.{kept-word}
-use Rattle.compact.specs.Bases.{Compactable, AxisCompacted}
-use Rattle.compact.proofs.Dropping.{axis-compactable, first-half, drop-room}
-use Rattle.compact.specs.Dropping.{Droppable, Dropped}
-use Rattle.compact.specs.Bases.{based}
-use Rattle.compact.specs.Laws.Holding.{all-lists}
+use Rattle.shape.specs.Shape.{Words, capacities, node-live, edge-live, axis-words, lists, node-capacity, edge-capacity}
+use Rattle.shape.specs.Laws.Reading.{plain-node-bound, plain-edge-bound, plain-node-flags, plain-edge-flags}
+use Rattle.compact.specs.Bases.{Compactable, AxisCompacted, based}
 use Rattle.compact.specs.Calls.{AxisCanonical, Canonical}
+use Rattle.compact.specs.Dropping.{Droppable, Dropped}
+use Rattle.compact.specs.Slots.{kept-word}
+use Rattle.compact.specs.Laws.Holding.{all-lists}
+use Rattle.compact.proofs.Dropping.{axis-compactable, first-half, drop-room}
+use Rattle.compact.proofs.Turns.{rewritten-same, kept-all-live}
 
 -- ---- a canonical store compacted
 

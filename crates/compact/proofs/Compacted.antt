@@ -3,39 +3,37 @@ use Prim.Native.Nat.{ℕ, _<_}
 use mathlib.Core.Path.{_≡_, sym, ap, ap₂, subst, subst₂, _∙_}
 use mathlib.Core.Bool.{Bool}
 use mathlib.Core.List.{List, map, map-map}
-use native.Mathlib.Omega.{arith}
 use native.Mathlib.Nat.{zero-add}
+use native.Mathlib.Omega.{arith}
 use lib.ListN.{length, getD, take, drop}
 use borrow.Author.Tests.{ltb-true}
+use Rattle.plain.specs.declared.Counts.{Counts}
 use Rattle.plain.specs.declared.TraversalDirection.{TraversalDirection}
 use Rattle.plain.specs.declared.TraversalDirection.the-variants.{Outgoing, Incoming}
-use Rattle.plain.specs.declared.Counts.{Counts}
+use Rattle.plain.specs.Compaction.{Survivors, rank, survivors, source-of, target-of}
 use Rattle.plain.specs.Lists.{joined, from}
 use Rattle.plain.specs.Reads.{live-count, live-slots}
-use Rattle.plain.specs.Compaction.{Survivors, rank, survivors, source-of, target-of}
 use Rattle.plain.specs.WellFormed.{Fitted}
+use Rattle.plain.specs.Laws.Joining.{raised-none}
 use Rattle.plain.specs.Laws.ListLaws.{map-same, map-getD, member-below}
 use Rattle.plain.specs.Laws.Rank.{length-live-slots}
-use Rattle.liveness.specs.Flags.{live-flags}
 use Rattle.liveness.specs.Calls.{Reset}
+use Rattle.liveness.specs.Flags.{live-flags}
 use Rattle.shape.specs.Columns.{Sized, end-at}
-use Rattle.shape.specs.Shape.{Words, node-live, edge-live, axis-words, lists, node-capacity, edge-capacity}
-use Rattle.shape.specs.Kept.{AxisRenewed, Renewed, same-nodes, same-edges, same-highs, same-live-nodes, same-live-edges, same-axis}
 use Rattle.shape.specs.Index.{Rewritten, ends-of}
+use Rattle.shape.specs.Kept.{AxisRenewed, Renewed, same-nodes, same-edges, same-highs, same-live-nodes, same-live-edges, same-axis}
+use Rattle.shape.specs.Shape.{Words, node-live, edge-live, axis-words, lists, node-capacity, edge-capacity}
 use Rattle.shape.specs.Laws.NewBase.{NewBase}
-use Rattle.compact.specs.Bases.{based}
-use Rattle.compact.specs.Laws.Holding.{front, Holding, reset-same, reset-word, sized-as}
-use Rattle.compact.proofs.Turns.{rewritten-through}
-use Rattle.compact.specs.Slots.{kept-word}
-use Rattle.compact.specs.Laws.Left.{end-in, left-sound, left-nodes, left-edges, nodes-left, lows-left, highs-left, ends-left}
-use Rattle.compact.specs.Slots.{live-words-of}
-use Rattle.plain.specs.Laws.Joining.{raised-none}
-use Rattle.compact.proofs.Bases.{rebuildable}
-use Rattle.compact.specs.Bases.{Compactable, AxisCompacted}
-use Rattle.compact.specs.Laws.Bases.{rebuilt-base, rebuilt-renewed}
-use Rattle.compact.proofs.Dropping.{axis-compactable, first-half, drop-room}
+use Rattle.compact.specs.Bases.{based, Compactable, AxisCompacted}
 use Rattle.compact.specs.Dropping.{Droppable, Dropped}
+use Rattle.compact.specs.Slots.{kept-word, live-words-of}
+use Rattle.compact.specs.Laws.Bases.{rebuilt-base, rebuilt-renewed}
+use Rattle.compact.specs.Laws.Holding.{front, Holding, reset-same, reset-word, sized-as}
+use Rattle.compact.specs.Laws.Left.{end-in, left-sound, left-nodes, left-edges, nodes-left, lows-left, highs-left, ends-left}
 use Rattle.compact.specs.Laws.Slots.{live-few}
+use Rattle.compact.proofs.Bases.{rebuildable}
+use Rattle.compact.proofs.Dropping.{axis-compactable, first-half, drop-room}
+use Rattle.compact.proofs.Turns.{rewritten-through}
 
 -- a function of the live slots, slot by slot
 slots-mapped : {A : Type 0} (f g : ℕ → A) (flags : List Bool) → ((i : ℕ) → i < live-count flags → f i ≡ g (getD (live-slots flags) i 0))

@@ -1,22 +1,22 @@
 -- Dropping the dead slots, call by call: what each call asks holds in a checked store.
-use Prim.Native.Nat.{_*_, _-_, _<_, _≤_, ℕ}
+use Prim.Native.Nat.{ℕ, _*_, _-_, _<_, _≤_}
+use mathlib.Core.Path.{_≡_, subst}
 use mathlib.Core.Bool.{false, true}
 use mathlib.Core.List.{List}
-use mathlib.Core.Path.{_≡_, subst}
 use native.Mathlib.Omega.{arith}
 use lib.ListN.{drop, getD, length, length-drop, take}
 use lib.Seq.{take-all}
-use Rattle.plain.specs.Laws.Rank.{live-below, rank-live}
+use Rattle.plain.specs.declared.Slots.{Slots}
 use Rattle.plain.specs.declared.TraversalDirection.{TraversalDirection}
 use Rattle.liveness.specs.Laws.Flags.{length-flags}
+use Rattle.plain.specs.Laws.Rank.{live-below, rank-live}
+use Rattle.shape.specs.Checked.{Checked, SlotsChecked}
 use Rattle.shape.specs.Columns.{end-at}
 use Rattle.shape.specs.Shape.{Words, axis-words, edge-capacity, edge-live, node-capacity, node-live}
 use Rattle.relocate.specs.Laws.Stores.{checked-end}
 use Rattle.compact.specs.Bases.{AxisCompacted, Compactable}
 use Rattle.compact.specs.Dropping.{Droppable}
 use Rattle.compact.specs.Slots.{Keepable, WeightsKeepable}
-use Rattle.plain.specs.declared.Slots.{Slots}
-use Rattle.shape.specs.Checked.{Checked, SlotsChecked}
 use Rattle.compact.specs.Laws.Slots.{live-few, slots-there}
 
 -- ---- a part of a slice up to its end

@@ -9,27 +9,27 @@ use lib.ListN.{length, take, drop, length-map, length-append, length-drop}
 use lib.Seq.{take-at, drop-at}
 use borrow.Author.Tests.{le-leb, lt-leb}
 use Rattle.plain.specs.declared.TraversalDirection.the-variants.{Outgoing}
+use Rattle.plain.specs.Calls.{Compacted, compaction, judged-compaction}
+use Rattle.plain.specs.Compaction.{Survivors, survivors, source-of, target-of, renumbering, adjacency, compacted}
 use Rattle.plain.specs.Lists.{written, joined}
+use Rattle.plain.specs.Memory.{first-short}
 use Rattle.plain.specs.Plain.{node-flags, edge-flags}
 use Rattle.plain.specs.Reads.{live-edges, live-count}
-use Rattle.plain.specs.Memory.{first-short}
-use Rattle.plain.specs.Compaction.{Survivors, survivors, source-of, target-of, renumbering, adjacency, compacted}
 use Rattle.plain.specs.WellFormed.{Sound}
 use Rattle.plain.specs.Laws.Compacting.{survivors-sound, length-surviving-edges}
-use Rattle.plain.specs.Calls.{Compacted, compaction, judged-compaction}
-use Rattle.shape.specs.Shape.{Words, capacities, shape-of, lists}
 use Rattle.shape.specs.Kept.{nothing-spared, renewed-none, renewed-spared, same-nodes, same-edges}
 use Rattle.shape.specs.Rules.{broken}
+use Rattle.shape.specs.Shape.{Words, capacities, shape-of, lists}
 use Rattle.shape.specs.Steps.{state-of}
 use Rattle.shape.specs.Laws.NewBase.{fitted-total}
 use Rattle.shape.specs.Laws.Reading.{plain-node-bound, plain-edge-bound, plain-node-flags, plain-edge-flags}
 use Rattle.validate.specs.Judging.{Judged}
-use Rattle.compact.proofs.Settling.{droppable}
+use Rattle.compact.specs.Calls.{compacting-of, CompactOf}
 use Rattle.compact.specs.Settling.{Settleable, Settling}
 use Rattle.compact.specs.Laws.Holding.{holding-shape, holding-state, holding-checked, holding-canonical, canonical-leaves}
-use Rattle.compact.proofs.Compacted.{dropped-holding, dropped-renewed}
-use Rattle.compact.specs.Calls.{compacting-of, CompactOf}
 use Rattle.compact.proofs.Again.{dropped-again}
+use Rattle.compact.proofs.Compacted.{dropped-holding, dropped-renewed}
+use Rattle.compact.proofs.Settling.{droppable}
 
 module _ (w : Words) (node-map edge-map work : List ℕ) where
   -- refused: not a word changes

@@ -1,21 +1,22 @@
 -- Compacting a checked store, call by call: what each call asks holds, the maps once they are written.
 use Prim.Native.Nat.{ℕ}
+use mathlib.Core.Path.{_∙_, _≡_, ap}
 use mathlib.Core.Bool.{Bool, false, true}
 use mathlib.Core.List.{List}
-use mathlib.Core.Path.{_∙_, _≡_, ap}
 use native.Mathlib.Nat.{zero-add}
 use native.Mathlib.Omega.{arith}
 use lib.ListN.{getD, length}
+use Rattle.plain.specs.declared.TraversalDirection.the-variants.{Outgoing}
 use Rattle.plain.specs.Compaction.{rank, renumbering}
 use Rattle.plain.specs.Lists.{written}
 use Rattle.plain.specs.declared.TraversalDirection.the-variants.{Outgoing}
 use Rattle.liveness.specs.Laws.Flags.{length-flags}
 use Rattle.shape.specs.Shape.{Words, edge-live, node-live}
 use Rattle.compact.specs.Dropping.{Droppable}
-use Rattle.compact.specs.Laws.Slots.{mapped-long, written-from}
 use Rattle.compact.specs.Settling.{Settleable}
 use Rattle.compact.specs.Slots.{MapFits}
 use Rattle.compact.specs.Working.{Workable}
+use Rattle.compact.specs.Laws.Slots.{mapped-long, written-from}
 
 pub written-at : (flags : List Bool) (entry : List ℕ) (x : ℕ) → getD flags x false ≡ true → getD (written (renumbering flags) entry) x 0 ≡ rank flags x
 written-at flags entry x live = written-from 0 flags entry x live ∙ zero-add (rank flags x)

@@ -1,30 +1,30 @@
 -- The loops over slots: what a turn does to the map and to the words moved down, and that no word moves where every slot is live.
-use Prim.Native.Nat.{_+_, _-_, _<_, _≤_, ℕ}
-use mathlib.Core.Bool.{Bool, cond, false, true}
-use mathlib.Core.List.{List, [], _∷_}
-use mathlib.Core.Logic.{_⊎_, inl, inr}
+use Prim.Native.Nat.{ℕ, _+_, _-_, _<_, _≤_}
 use mathlib.Core.Path.{_∙_, _≡_, ap, ap₂, refl, sym}
+use mathlib.Core.Bool.{Bool, cond, false, true}
+use mathlib.Core.Logic.{_⊎_, inl, inr}
+use mathlib.Core.List.{List, [], _∷_}
 use native.Mathlib.Nat.{zero-add}
 use native.Mathlib.Omega.{arith}
 use lib.ListN.{getD, length, replicate}
 use lib.Seq.{ext-getD}
 use Rattle.plain.specs.Compaction.{renumbering-from}
-use Rattle.plain.specs.Laws.Booleans.{below-or-not}
-use Rattle.plain.specs.Laws.ListLaws.{count-length, getD-from}
-use Rattle.plain.specs.Laws.Rank.{live-count-all-live, live-from-all-live}
-use Rattle.plain.specs.Laws.Renumberings.{length-renumbering, lookup-from}
 use Rattle.plain.specs.Lists.{count, written}
 use Rattle.plain.specs.Numbers.{NONE}
 use Rattle.plain.specs.Reads.{live-count, live-slots}
 use Rattle.plain.specs.Renumbering.{lookup}
+use Rattle.plain.specs.Laws.Booleans.{below-or-not}
+use Rattle.plain.specs.Laws.ListLaws.{count-length, getD-from}
+use Rattle.plain.specs.Laws.Rank.{live-count-all-live, live-from-all-live}
+use Rattle.plain.specs.Laws.Renumberings.{length-renumbering, lookup-from}
 use Rattle.liveness.specs.Laws.Flags.{length-flags}
 use Rattle.liveness.specs.Flags.{live-flags}
 use Rattle.shape.specs.Columns.{cell}
 use Rattle.shape.specs.Index.{Rewritten}
 use Rattle.shape.specs.Laws.Indexing.{rewritten-again, rewritten-all, rewritten-as, rewritten-here}
+use Rattle.compact.specs.Slots.{kept-word, translated-word}
 use Rattle.compact.specs.Laws.Slots.{rewritten-written}
 use Rattle.compact.specs.Laws.Turns.{Passed, all-counted, slot-counted}
-use Rattle.compact.specs.Slots.{kept-word, translated-word}
 
 -- ---- words rewritten
 

@@ -4,15 +4,15 @@ use mathlib.Core.Path.{_≡_, sym, ap, _∙_, subst₂}
 use mathlib.Core.List.{List}
 use lib.Dec.{eqb}
 use borrow.Author.Tests.{eqb-true, eqb-false}
-use Rattle.plain.specs.declared.TraversalDirection.{TraversalDirection}
 use Rattle.plain.specs.declared.Counts.{Counts}
+use Rattle.plain.specs.declared.TraversalDirection.{TraversalDirection}
 use Rattle.plain.specs.Laws.Booleans.{by-test}
 use Rattle.liveness.specs.Laws.Calls.{reset-narrow}
-use Rattle.shape.specs.Columns.{mark-at}
-use Rattle.shape.specs.Shape.{Words, node-capacity, edge-capacity, axis-words, shape-of}
 use Rattle.shape.specs.Checked.{Checked}
-use Rattle.shape.specs.Kept.{SameLengths, same-nodes, same-edges}
+use Rattle.shape.specs.Columns.{mark-at}
 use Rattle.shape.specs.Fields.{SameFields}
+use Rattle.shape.specs.Kept.{SameLengths, same-nodes, same-edges}
+use Rattle.shape.specs.Shape.{Words, node-capacity, edge-capacity, axis-words, shape-of}
 use Rattle.shape.specs.Laws.Agreeing.{Narrow, counts-same, shape-fields, kept-both}
 use Rattle.compact.specs.Calls.{Canonical, CompactOf}
 

@@ -1,12 +1,12 @@
 -- What putting a new base into an axis, and compacting an axis, ask and promise.
-use Prim.Native.Nat.{_*_, _+_, _<_, _≤_, ℕ}
+use Prim.Native.Nat.{ℕ, _*_, _+_, _<_, _≤_}
+use mathlib.Core.Path.{_≡_}
 use mathlib.Core.Bool.{false, true}
 use mathlib.Core.List.{List}
-use mathlib.Core.Path.{_≡_}
 use lib.ListN.{getD, length}
+use Rattle.plain.specs.declared.Slots.{Slots}
 use Rattle.plain.specs.Numbers.{NONE}
 use Rattle.plain.specs.Reads.{live-count}
-use Rattle.plain.specs.declared.Slots.{Slots}
 use Rattle.liveness.specs.Flags.{live-flags}
 use Rattle.shape.specs.Columns.{Sized, end-at}
 use Rattle.shape.specs.Index.{Rewritten, before, ends-of}

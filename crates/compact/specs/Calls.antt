@@ -3,22 +3,22 @@ use Prim.Native.Nat.{ℕ, _+_, _<_}
 use mathlib.Core.Path.{_≡_}
 use mathlib.Core.List.{List, map}
 use lib.ListN.{length}
-use Rattle.plain.specs.declared.TraversalDirection.{TraversalDirection}
 use Rattle.plain.specs.declared.Slots.{Slots}
-use Rattle.plain.specs.Numbers.{NONE}
-use Rattle.plain.specs.Lists.{written, joined, from}
-use Rattle.plain.specs.Plain.{list-of}
-use Rattle.plain.specs.Compaction.{survivors}
+use Rattle.plain.specs.declared.TraversalDirection.{TraversalDirection}
 use Rattle.plain.specs.Calls.{Compacted, compaction, judged-compaction}
+use Rattle.plain.specs.Compaction.{survivors}
+use Rattle.plain.specs.Lists.{written, joined, from}
+use Rattle.plain.specs.Numbers.{NONE}
+use Rattle.plain.specs.Plain.{list-of}
 use Rattle.liveness.specs.Calls.{Reset}
-use Rattle.shape.specs.Columns.{cell, offset-at, last-at, mark-at}
-use Rattle.shape.specs.Shape.{Words, axis-words, shape-of, lists, node-capacity, edge-capacity}
 use Rattle.shape.specs.Checked.{Checked}
-use Rattle.shape.specs.Kept.{Renewed, Spared, SameLengths}
+use Rattle.shape.specs.Columns.{cell, offset-at, last-at, mark-at}
 use Rattle.shape.specs.Fields.{RenewalLeaves}
-use Rattle.shape.specs.Rules.{broken}
-use Rattle.shape.specs.Steps.{state-of}
 use Rattle.shape.specs.Index.{before, ends-of}
+use Rattle.shape.specs.Kept.{Renewed, Spared, SameLengths}
+use Rattle.shape.specs.Rules.{broken}
+use Rattle.shape.specs.Shape.{Words, axis-words, shape-of, lists, node-capacity, edge-capacity}
+use Rattle.shape.specs.Steps.{state-of}
 use Rattle.compact.specs.Survivors.{shape-of-survivors}
 
 -- what document 01 says of a compaction of a store, number 1 included, by the lengths of the three lent slices

@@ -1,8 +1,8 @@
 -- What dropping the dead slots asks and promises.
-use Prim.Native.Nat.{_*_, _≤_, ℕ}
+use Prim.Native.Nat.{ℕ, _*_, _≤_}
+use mathlib.Core.Path.{_≡_}
 use mathlib.Core.Bool.{false, true}
 use mathlib.Core.List.{List}
-use mathlib.Core.Path.{_≡_}
 use lib.ListN.{drop, getD, length}
 use Rattle.plain.specs.Compaction.{rank}
 use Rattle.plain.specs.Reads.{live-count}

@@ -4,23 +4,23 @@ use Prim.Native.Nat.{ℕ}
 use mathlib.Core.Path.{_≡_, refl}
 use mathlib.Core.List.{List, [], _∷_}
 use lib.ListN.{length}
+use Rattle.plain.specs.declared.Slots.{Slots}
 use Rattle.plain.specs.declared.TraversalDirection.{TraversalDirection}
 use Rattle.plain.specs.declared.TraversalDirection.the-variants.{Outgoing, Incoming}
-use Rattle.plain.specs.declared.Slots.{Slots}
+use Rattle.plain.specs.Bits.{bits-of, value-of, row, bytes-of, pack, least-from, least-width}
+use Rattle.plain.specs.Calls.{compaction}
+use Rattle.plain.specs.Compaction.{rank, survivors, adjacency, of-survivors, compacted}
+use Rattle.plain.specs.Image.{edge-bits, image-bits, image}
 use Rattle.plain.specs.Lists.{member, distinct, from, keep, all, count, joined}
+use Rattle.plain.specs.Memory.{first-short}
 use Rattle.plain.specs.Plain.{list-of}
 use Rattle.plain.specs.Reads.{live-from}
-use Rattle.plain.specs.Compaction.{rank, survivors, adjacency, of-survivors, compacted}
-use Rattle.plain.specs.Bits.{bits-of, value-of, row, bytes-of, pack, least-from, least-width}
-use Rattle.plain.specs.Image.{edge-bits, image-bits, image}
-use Rattle.plain.specs.Memory.{first-short}
-use Rattle.plain.specs.Calls.{compaction}
 use Rattle.liveness.specs.Flags.{bit, live-bit, live-flags, packed}
 use Rattle.shape.specs.Chains.{chain, until, ring}
-use Rattle.shape.specs.Shape.{Words, store, axis-words, base-of, run-list, run-of, ring-of, axis-of, shape-of, plain-of, lists}
 use Rattle.shape.specs.Rules.{rule-1, rule-2, rule-3, rule-4, rule-5, rule-6, rule-7, index-right, ring-right, last-of, runs-right, walks-right, weights-right, broken}
-use Rattle.compact.specs.Lists.{live-walks}
+use Rattle.shape.specs.Shape.{Words, store, axis-words, base-of, run-list, run-of, ring-of, axis-of, shape-of, plain-of, lists}
 use Rattle.compact.specs.Calls.{compacting-of}
+use Rattle.compact.specs.Lists.{live-walks}
 
 abbrev slots : ℕ → ℕ → ℕ → Slots
 slots bound base live = record { bound = bound; base = base; live = live }

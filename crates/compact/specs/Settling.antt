@@ -1,7 +1,7 @@
 -- What compacting a checked store asks and promises, with its answers: the two maps, the work slice, and the store without its dead slots.
-use Prim.Native.Nat.{_*_, _≤_, ℕ}
-use mathlib.Core.List.{List}
+use Prim.Native.Nat.{ℕ, _*_, _≤_}
 use mathlib.Core.Path.{_≡_}
+use mathlib.Core.List.{List}
 use lib.ListN.{length}
 use Rattle.plain.specs.Compaction.{adjacency, renumbering, survivors}
 use Rattle.plain.specs.Lists.{written}

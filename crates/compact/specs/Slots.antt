@@ -1,8 +1,8 @@
 -- What the functions over slots ask and promise.
-use Prim.Native.Nat.{_*_, _+_, _<_, _≤_, ℕ}
+use Prim.Native.Nat.{ℕ, _*_, _+_, _<_, _≤_}
+use mathlib.Core.Path.{_≡_}
 use mathlib.Core.Bool.{Bool}
 use mathlib.Core.List.{List, map}
-use mathlib.Core.Path.{_≡_}
 use lib.ListN.{getD, length}
 use Rattle.plain.specs.Numbers.{NONE}
 use Rattle.plain.specs.Reads.{live-count, live-slots}

@@ -2,8 +2,8 @@
 use mathlib.Core.List.{map}
 use lib.ListN.{length}
 use Rattle.plain.specs.Compaction.{Survivors, kept-edge, kept-node, source-of, target-of}
-use Rattle.shape.specs.Laws.NewBase.{in-base}
 use Rattle.shape.specs.Shape.{Shape}
+use Rattle.shape.specs.Laws.NewBase.{in-base}
 
 -- the shape of survivors: "the bounds being its two counts", every slot live, no ring, no run
 unfoldable pub shape-of-survivors : Survivors → Shape

@@ -1,12 +1,12 @@
 -- The refusals of joining that one function tells: 2 for a map, and 1.
-use Prim.Native.Nat.{suc, zero, ℕ}
-use mathlib.Core.List.{List, [], _∷_}
+use Prim.Native.Nat.{ℕ, suc, zero}
 use mathlib.Core.Path.{_≡_, refl}
+use mathlib.Core.List.{List, [], _∷_}
+use Rattle.plain.specs.declared.Answer.{Answer}
 use Rattle.plain.specs.Calls.{judged, short-answer}
 use Rattle.plain.specs.Joining.{MapRooms, Sizes, map-slices}
 use Rattle.plain.specs.Memory.{Slice, first-short}
 use Rattle.plain.specs.Numbers.{too-short}
-use Rattle.plain.specs.declared.Answer.{Answer}
 use Rattle.memory.specs.Laws.{then-lacking}
 use Rattle.memory.specs.Lengths.{lacking}
 

@@ -1,10 +1,13 @@
 -- What a checked book hands over: its live slots can be read, and in each direction the ends and lists by its maps are those of its survivors, raised.
-use Prim.Native.Nat.{_+_, _<_, _≤_, ℕ}
+use Prim.Native.Nat.{ℕ, _+_, _<_, _≤_}
+use mathlib.Core.Path.{_∙_, _≡_, ap, refl, sym}
 use mathlib.Core.Bool.{Bool, false, true}
 use mathlib.Core.List.{List, map, map-map}
-use mathlib.Core.Path.{_∙_, _≡_, ap, refl, sym}
 use native.Mathlib.Omega.{arith}
 use lib.ListN.{getD, length}
+use Rattle.plain.specs.declared.Slots.{Slots}
+use Rattle.plain.specs.declared.TraversalDirection.{TraversalDirection}
+use Rattle.plain.specs.declared.TraversalDirection.the-variants.{Incoming, Outgoing}
 use Rattle.plain.specs.Compaction.{Survivors, rank, surviving-list, survivors}
 use Rattle.plain.specs.Joining.{raised}
 use Rattle.plain.specs.Laws.ListLaws.{map-same}
@@ -12,8 +15,6 @@ use Rattle.plain.specs.Lists.{joined}
 use Rattle.plain.specs.Numbers.{LIMIT}
 use Rattle.plain.specs.Plain.{node-flags}
 use Rattle.plain.specs.Reads.{live-slots}
-use Rattle.plain.specs.declared.TraversalDirection.{TraversalDirection}
-use Rattle.plain.specs.declared.TraversalDirection.the-variants.{Incoming, Outgoing}
 use Rattle.shape.specs.Checked.{Checked, SlotsChecked}
 use Rattle.shape.specs.Columns.{end-at}
 use Rattle.shape.specs.Laws.Reading.{plain-node-flags}
@@ -22,10 +23,9 @@ use Rattle.adjacency.specs.Laws.StoreWalks.{checked-walkable}
 use Rattle.compact.specs.Laws.Left.{end-in, ends-left, slot-low}
 use Rattle.compact.specs.Laws.Lists.{lists-live, lists-renumbered, lists-total}
 use Rattle.compact.specs.Lists.{live-walks}
+use Rattle.compact.specs.Laws.Slots.{slots-there}
 use Rattle.join.specs.Sides.{EndsReadable, EntriesReadable, side-ends, side-entries, side-of}
 use Rattle.join.specs.Slots.{LiveReadable}
-use Rattle.plain.specs.declared.Slots.{Slots}
-use Rattle.compact.specs.Laws.Slots.{slots-there}
 
 -- the lists of survivors in a direction
 abbrev pub lists-in : TraversalDirection → Survivors → List (List ℕ)

@@ -1,21 +1,21 @@
 -- Copying the words of live slots, one book's behind the other's, call by call.
-use Prim.Native.Nat.{_≤_, ℕ}
+use Prim.Native.Nat.{ℕ, _≤_}
+use mathlib.Core.Path.{_∙_, _≡_, ap, sym}
 use mathlib.Core.Bool.{Bool}
 use mathlib.Core.List.{List, _++_, map, map-map}
-use mathlib.Core.Path.{_∙_, _≡_, ap, sym}
 use native.Mathlib.Omega.{arith}
 use lib.ListN.{drop, getD, length, length-map}
-use Rattle.plain.specs.Laws.ListLaws.{map-getD}
-use Rattle.plain.specs.Laws.Rank.{length-live-slots}
+use Rattle.plain.specs.declared.Slots.{Slots}
 use Rattle.plain.specs.Lists.{from, written}
 use Rattle.plain.specs.Reads.{live-count, live-slots}
-use Rattle.plain.specs.declared.Slots.{Slots}
+use Rattle.plain.specs.Laws.ListLaws.{map-getD}
+use Rattle.plain.specs.Laws.Rank.{length-live-slots}
 use Rattle.liveness.specs.Flags.{live-flags}
 use Rattle.shape.specs.Index.{Rewritten}
-use Rattle.compact.specs.Laws.Slots.{rewritten-list}
 use Rattle.compact.specs.Slots.{kept-word, live-words-of}
-use Rattle.join.proofs.Written.{rest, room-behind, with-rest, written-behind}
+use Rattle.compact.specs.Laws.Slots.{rewritten-list}
 use Rattle.join.specs.Slots.{BothCopyable, Copyable}
+use Rattle.join.proofs.Written.{rest, room-behind, with-rest, written-behind}
 
 -- as many as are live
 pub length-live-words : (words : List ℕ) (flags : List Bool) → length (live-words-of words flags) ≡ live-count flags

@@ -1,31 +1,31 @@
 -- The two ways that joining ends: refused, or with the survivors of both in the third memory.
 use Prim.Native.Nat.{ℕ, zero, suc}
-use native.Mathlib.Omega.{arith}
 use mathlib.Core.Path.{_≡_, refl, sym, ap, ap₂, subst, _∙_}
 use mathlib.Core.Bool.{Bool, cond}
 use mathlib.Core.Logic.{inl}
 use mathlib.Core.List.{List}
+use native.Mathlib.Omega.{arith}
 use lib.ListN.{length}
 use borrow.Author.Tests.{eq-eqb, ne-eqb}
 use Rattle.plain.specs.declared.Answer.{Answer}
+use Rattle.plain.specs.Calls.{judged}
+use Rattle.plain.specs.Compaction.{survivors, renumbering-from}
+use Rattle.plain.specs.Joining.{Sizes, sizes, MapRooms, Maps, join-maps, no-maps, join-answer, join, joined-survivors, joined-plain, joined-state}
 use Rattle.plain.specs.Lists.{written}
 use Rattle.plain.specs.Plain.{Plain}
 use Rattle.plain.specs.Reads.{live-count, live-nodes, live-edges}
-use Rattle.plain.specs.Compaction.{survivors, renumbering-from}
-use Rattle.plain.specs.Calls.{judged}
-use Rattle.plain.specs.Joining.{Sizes, sizes, MapRooms, Maps, join-maps, no-maps, join-answer, join, joined-survivors, joined-plain, joined-state}
-use Rattle.shape.specs.Shape.{Words, lengths-of, shape-of, lists}
 use Rattle.shape.specs.Checked.{Checked}
 use Rattle.shape.specs.Kept.{nothing-spared, renewed-none, renewed-spared, same-nodes, same-edges}
+use Rattle.shape.specs.Shape.{Words, lengths-of, shape-of, lists}
+use Rattle.shape.specs.Steps.{state-of}
 use Rattle.shape.specs.Laws.Reading.{plain-node-bound, plain-edge-bound, plain-node-flags, plain-edge-flags}
 use Rattle.validate.specs.Judging.{Judged}
-use Rattle.shape.specs.Steps.{state-of}
 use Rattle.compact.specs.Laws.Holding.{Holding, holding-shape, holding-state, holding-checked, holding-canonical, canonical-leaves}
 use Rattle.join.specs.Answers.{sizes-of}
-use Rattle.join.specs.Laws.Answers.{first-sound, second-sound, join-done, accepted}
 use Rattle.join.specs.Calls.{LentMaps, joining-of, JoinOf}
-use Rattle.join.proofs.Settling.{settled-holding, settled-renewed}
 use Rattle.join.specs.Settling.{Settleable, Settled}
+use Rattle.join.specs.Laws.Answers.{first-sound, second-sound, join-done, accepted}
+use Rattle.join.proofs.Settling.{settled-holding, settled-renewed}
 
 -- the sizes of a checked book are those of its plain lists
 nodes-left : {w : Words} → Checked w → live-nodes (lists w) ≡ w .counts .nodes .live

@@ -6,43 +6,43 @@
 --    base that is built is one of the joined survivors (`base-of`).
 -- 4. With the payloads of both, every slot live and in the base, that is `Holding` of crate compact: shape, check, plain lists and canonical words follow from it as for
 --    compaction and image reading.
-use Prim.Native.Nat.{_*_, _+_, _-_, _<_, _≤_, ℕ}
-use mathlib.Core.List.{List, _++_, map}
+use Prim.Native.Nat.{ℕ, _*_, _+_, _-_, _<_, _≤_}
 use mathlib.Core.Path.{_∙_, _≡_, ap, ap₂, refl, subst, subst₂, sym}
+use mathlib.Core.List.{List, _++_, map}
 use native.Mathlib.Omega.{arith}
 use lib.ListN.{List·getD-append, drop, getD, length, length-append, length-map}
 use lib.Seq.{getD-append-add, getD-drop, take-all}
-use Rattle.plain.specs.Compaction.{EdgeRecord, Survivors, source-of, survivors, target-of}
-use Rattle.plain.specs.Joining.{joined-survivors, raised, raised-edge}
-use Rattle.plain.specs.Laws.ImageBits.{record-high, record-low}
-use Rattle.plain.specs.Laws.Joining.{columns-of-both, ends-of-both, joined-raised, joined-sound, raised-none}
-use Rattle.plain.specs.Laws.ListLaws.{map-getD}
-use Rattle.plain.specs.Lists.{from, joined, written}
-use Rattle.plain.specs.Numbers.{LIMIT}
-use Rattle.plain.specs.WellFormed.{Fitted, Sound}
 use Rattle.plain.specs.declared.Counts.{Counts}
 use Rattle.plain.specs.declared.TraversalDirection.{TraversalDirection}
 use Rattle.plain.specs.declared.TraversalDirection.the-variants.{Incoming, Outgoing}
+use Rattle.plain.specs.Compaction.{EdgeRecord, Survivors, source-of, survivors, target-of}
+use Rattle.plain.specs.Joining.{joined-survivors, raised, raised-edge}
+use Rattle.plain.specs.Lists.{from, joined, written}
+use Rattle.plain.specs.Numbers.{LIMIT}
+use Rattle.plain.specs.WellFormed.{Fitted, Sound}
+use Rattle.plain.specs.Laws.ImageBits.{record-high, record-low}
+use Rattle.plain.specs.Laws.Joining.{columns-of-both, ends-of-both, joined-raised, joined-sound, raised-none}
+use Rattle.plain.specs.Laws.ListLaws.{map-getD}
 use Rattle.liveness.specs.Calls.{Reset}
 use Rattle.liveness.specs.Laws.Flags.{length-flags}
 use Rattle.shape.specs.Columns.{Sized}
 use Rattle.shape.specs.Index.{ends-of}
 use Rattle.shape.specs.Kept.{AxisRenewed, Renewed, same-axis, same-edges, same-highs, same-live-edges, same-live-nodes, same-nodes}
+use Rattle.shape.specs.Shape.{Words, axis-words, edge-capacity, edge-live, lists, node-capacity, node-live}
 use Rattle.shape.specs.Laws.Indexing.{joined-append, map-from-same}
 use Rattle.shape.specs.Laws.NewBase.{NewBase}
-use Rattle.shape.specs.Shape.{Words, axis-words, edge-capacity, edge-live, lists, node-capacity, node-live}
 use Rattle.compact.specs.Bases.{Rebuildable, based}
+use Rattle.compact.specs.Slots.{live-words-of}
 use Rattle.compact.specs.Laws.Bases.{rebuilt-base, rebuilt-renewed}
 use Rattle.compact.specs.Laws.Holding.{Holding, front, reset-same, reset-word, sized-as}
 use Rattle.compact.specs.Laws.Left.{end-in, highs-left, left-edges, left-nodes, left-sound, lows-left, nodes-left}
 use Rattle.compact.specs.Laws.Slots.{mapped-long, written-from, live-few, slots-there}
-use Rattle.compact.specs.Slots.{live-words-of}
-use Rattle.join.proofs.Books.{Mapped, book-ends, book-entries, edges-few, ends-readable, entries-readable, lists-in, nodes-few, slots-readable}
-use Rattle.join.proofs.Sides.{all-entries-long, compressible}
 use Rattle.join.specs.Calls.{LentMaps}
 use Rattle.join.specs.Settling.{Settleable, Settled}
 use Rattle.join.specs.Sides.{AxisJoinable, AxisJoined, Side, side-ends, side-entries, side-of}
 use Rattle.join.specs.Slots.{BothCopyable, MapsFit, MapsWritten}
+use Rattle.join.proofs.Books.{Mapped, book-ends, book-entries, edges-few, ends-readable, entries-readable, lists-in, nodes-few, slots-readable}
+use Rattle.join.proofs.Sides.{all-entries-long, compressible}
 
 -- ---- the maps
 

@@ -1,25 +1,25 @@
 -- One direction of two books, call by call: the ends of both are written, then the lists of both, and the base is built on them.
-use Prim.Native.Nat.{_*_, _+_, _<_, _≤_, ℕ}
-use mathlib.Core.List.{List, _++_}
+use Prim.Native.Nat.{ℕ, _*_, _+_, _<_, _≤_}
 use mathlib.Core.Path.{_∙_, _≡_, ap, subst, sym}
+use mathlib.Core.List.{List, _++_}
 use native.Mathlib.Omega.{arith}
 use lib.ListN.{List·getD-append, drop, getD, length, length-append, length-map}
-use Rattle.plain.specs.Laws.ListLaws.{member-source}
-use Rattle.plain.specs.Laws.Rank.{member-live-slots}
+use Rattle.plain.specs.declared.Counts.{Counts}
 use Rattle.plain.specs.Lists.{written}
 use Rattle.plain.specs.Numbers.{NONE}
 use Rattle.plain.specs.Reads.{live-slots}
-use Rattle.plain.specs.declared.Counts.{Counts}
+use Rattle.plain.specs.Laws.ListLaws.{member-source}
+use Rattle.plain.specs.Laws.Rank.{member-live-slots}
 use Rattle.liveness.specs.Flags.{live-flags}
 use Rattle.shape.specs.Chains.{In}
 use Rattle.shape.specs.Index.{Rewritten, before, ends-of}
 use Rattle.adjacency.specs.Index.{Compressible}
 use Rattle.compact.specs.Lists.{ListsFit, live-walks}
 use Rattle.compact.specs.Slots.{Translatable, live-words-of, translated-word}
-use Rattle.join.proofs.Copying.{length-live-words}
-use Rattle.join.proofs.Written.{length-rest, part-rewritten, rest, room-behind, through-fits, with-rest, written-behind, written-length, written-through}
 use Rattle.join.specs.Sides.{AxisJoinable, AxisJoined, BothEndsFit, BothEntriesFit, EndsFit, EndsReadable, EntriesFit, EntriesReadable, Side, both-edges, both-nodes, new-ends, new-entries, side-ends, side-entries}
 use Rattle.join.specs.Slots.{Copyable}
+use Rattle.join.proofs.Copying.{length-live-words}
+use Rattle.join.proofs.Written.{length-rest, part-rewritten, rest, room-behind, through-fits, with-rest, written-behind, written-length, written-through}
 
 -- ---- ends
 

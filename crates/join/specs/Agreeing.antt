@@ -5,8 +5,8 @@ use lib.Dec.{eqb}
 use borrow.Author.Tests.{eqb-true, eqb-false}
 use Rattle.plain.specs.declared.Answer.{Answer}
 use Rattle.plain.specs.Laws.Booleans.{by-test}
-use Rattle.shape.specs.Shape.{Words}
 use Rattle.shape.specs.Fields.{SameFields}
+use Rattle.shape.specs.Shape.{Words}
 use Rattle.shape.specs.Laws.Agreeing.{kept-both}
 use Rattle.compact.specs.Agreeing.{canonical-fields}
 use Rattle.join.specs.Calls.{LentMaps, JoinOf}

@@ -1,6 +1,6 @@
 -- The counts and lengths that the answer of joining is given by.
-use Rattle.plain.specs.Joining.{MapRooms, Sizes}
 use Rattle.plain.specs.declared.Counts.{Counts}
+use Rattle.plain.specs.Joining.{MapRooms, Sizes}
 use Rattle.join.specs.declared.MapRooms.{MapRooms as Rooms}
 
 -- the sizes of a book by its counts

@@ -5,18 +5,18 @@ use mathlib.Core.List.{List}
 use lib.ListN.{length}
 use Rattle.plain.specs.declared.Answer.{Answer}
 use Rattle.plain.specs.declared.Counts.{Counts}
-use Rattle.plain.specs.Lists.{written}
 use Rattle.plain.specs.Compaction.{survivors}
 use Rattle.plain.specs.Joining.{joined-survivors, joined-state, Joining, join}
-use Rattle.shape.specs.Shape.{Words, lengths-of, shape-of, lists}
+use Rattle.plain.specs.Lists.{written}
 use Rattle.shape.specs.Checked.{Checked}
-use Rattle.shape.specs.Kept.{Renewed, Spared, SameLengths}
 use Rattle.shape.specs.Fields.{RenewalLeaves}
+use Rattle.shape.specs.Kept.{Renewed, Spared, SameLengths}
 use Rattle.shape.specs.Rules.{broken}
+use Rattle.shape.specs.Shape.{Words, lengths-of, shape-of, lists}
 use Rattle.shape.specs.Steps.{state-of}
-use Rattle.compact.specs.Survivors.{shape-of-survivors}
 use Rattle.compact.specs.Bases.{based}
 use Rattle.compact.specs.Calls.{Canonical}
+use Rattle.compact.specs.Survivors.{shape-of-survivors}
 
 -- the counts of memory that is no store yet, and those beside a refusal
 abbrev pub no-counts : Counts

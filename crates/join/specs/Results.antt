@@ -7,27 +7,27 @@ use mathlib.Core.List.{List, map}
 use native.Mathlib.Omega.{arith}
 use lib.ListN.{length, getD}
 use borrow.Author.Tests.{eq-eqb}
+use Rattle.plain.specs.declared.Answer.{Answer}
 use Rattle.plain.specs.declared.TraversalDirection.{TraversalDirection}
 use Rattle.plain.specs.declared.TraversalDirection.the-variants.{Outgoing}
-use Rattle.plain.specs.declared.Answer.{Answer}
-use Rattle.plain.specs.Numbers.{LIMIT}
-use Rattle.plain.specs.Lists.{written}
-use Rattle.plain.specs.Plain.{Plain, node-flags, edge-flags, list-of}
-use Rattle.plain.specs.Step.{State}
-use Rattle.plain.specs.Reads.{live-nodes, live-edges}
 use Rattle.plain.specs.Compaction.{Survivors, rank, survivors, renumbering}
 use Rattle.plain.specs.Image.{image}
 use Rattle.plain.specs.Joining.{sizes, MapRooms, Maps, joined-survivors, joined-plain, join-maps, no-maps, join-answer, join}
+use Rattle.plain.specs.Lists.{written}
+use Rattle.plain.specs.Numbers.{LIMIT}
+use Rattle.plain.specs.Plain.{Plain, node-flags, edge-flags, list-of}
+use Rattle.plain.specs.Reads.{live-nodes, live-edges}
+use Rattle.plain.specs.Step.{State}
 use Rattle.plain.specs.Laws.Compacting.{length-surviving-nodes, length-surviving-edges}
 use Rattle.plain.specs.Laws.Joining.{survivors-joined, first-book, second-book, joined-associative, no-survivors, joined-with-none, none-joined-with, first-maps-compacted, second-maps-compacted}
-use Rattle.shape.specs.Shape.{Words, capacities, shape-of, lists, lengths-of}
 use Rattle.shape.specs.Checked.{Checked}
 use Rattle.shape.specs.Rules.{broken}
-use Rattle.compact.specs.Survivors.{shape-of-survivors}
+use Rattle.shape.specs.Shape.{Words, capacities, shape-of, lists, lengths-of}
 use Rattle.compact.specs.Calls.{CompactOf}
-use Rattle.join.specs.Laws.Answers.{Accepted, accepted, join-done}
+use Rattle.compact.specs.Survivors.{shape-of-survivors}
 use Rattle.compact.specs.Laws.Left.{left-sound}
 use Rattle.join.specs.Calls.{LentMaps, joining-of, JoinOf}
+use Rattle.join.specs.Laws.Answers.{Accepted, accepted, join-done}
 
 -- the survivors of a store
 abbrev left-of : Words → Survivors

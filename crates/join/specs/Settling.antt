@@ -1,8 +1,9 @@
 -- What joining two checked books asks and promises: the four maps, and the third memory with the survivors of both.
 use Prim.Native.Nat.{_+_, _≤_}
-use mathlib.Core.List.{_++_}
 use mathlib.Core.Path.{_≡_}
+use mathlib.Core.List.{_++_}
 use lib.ListN.{length}
+use Rattle.plain.specs.declared.TraversalDirection.the-variants.{Incoming, Outgoing}
 use Rattle.plain.specs.Devices.{Takes, box}
 use Rattle.plain.specs.Lists.{written}
 use Rattle.plain.specs.declared.TraversalDirection.the-variants.{Incoming, Outgoing}

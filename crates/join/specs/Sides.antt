@@ -1,13 +1,13 @@
 -- One direction of two books by new numbers: the ends and the lists of each, what writing them asks, and the axis that holds both.
-use Prim.Native.Nat.{_*_, _+_, _<_, _≤_, ℕ}
+use Prim.Native.Nat.{ℕ, _*_, _+_, _<_, _≤_}
+use mathlib.Core.Path.{_≡_}
 use mathlib.Core.Bool.{false, true}
 use mathlib.Core.List.{List, _++_, map}
-use mathlib.Core.Path.{_≡_}
 use lib.ListN.{getD, length}
-use Rattle.plain.specs.Lists.{written}
-use Rattle.plain.specs.Reads.{live-count}
 use Rattle.plain.specs.declared.Counts.{Counts}
 use Rattle.plain.specs.declared.TraversalDirection.{TraversalDirection}
+use Rattle.plain.specs.Lists.{written}
+use Rattle.plain.specs.Reads.{live-count}
 use Rattle.liveness.specs.Flags.{live-flags}
 use Rattle.shape.specs.Chains.{In}
 use Rattle.shape.specs.Columns.{Sized, end-at}

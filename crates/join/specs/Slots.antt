@@ -1,13 +1,13 @@
 -- What copying the words of live slots and writing a book's maps ask and promise.
-use Prim.Native.Nat.{_*_, _+_, _≤_, ℕ}
-use mathlib.Core.List.{List}
+use Prim.Native.Nat.{ℕ, _*_, _+_, _≤_}
 use mathlib.Core.Path.{_≡_}
+use mathlib.Core.List.{List}
 use lib.ListN.{length}
+use Rattle.plain.specs.declared.Counts.{Counts}
+use Rattle.plain.specs.declared.Slots.{Slots}
 use Rattle.plain.specs.Compaction.{renumbering-from}
 use Rattle.plain.specs.Lists.{written}
 use Rattle.plain.specs.Reads.{live-count}
-use Rattle.plain.specs.declared.Counts.{Counts}
-use Rattle.plain.specs.declared.Slots.{Slots}
 use Rattle.liveness.specs.Flags.{live-flags}
 use Rattle.compact.specs.Slots.{MapFits}
 

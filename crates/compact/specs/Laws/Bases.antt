@@ -1,12 +1,12 @@
 -- What an axis is once a new base was put into it.
-use Prim.Native.Nat.{_*_, _+_, _<_, _≤_, ℕ}
-use mathlib.Core.List.{List}
+use Prim.Native.Nat.{ℕ, _*_, _+_, _<_, _≤_}
 use mathlib.Core.Path.{_∙_, _≡_, sym}
+use mathlib.Core.List.{List}
 use native.Mathlib.Omega.{arith}
 use lib.ListN.{getD, take}
+use Rattle.plain.specs.declared.Counts.{Counts}
 use Rattle.plain.specs.Lists.{joined}
 use Rattle.plain.specs.WellFormed.{Fitted}
-use Rattle.plain.specs.declared.Counts.{Counts}
 use Rattle.shape.specs.Columns.{cell}
 use Rattle.shape.specs.Index.{ends-of}
 use Rattle.shape.specs.Kept.{AxisRenewed}

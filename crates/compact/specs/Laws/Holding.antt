@@ -9,32 +9,32 @@
 --    sound, since lists made of sound survivors are well formed (`holding-checked`).
 -- 5. Canonical words: offsets count the ends below each node, the entries are the lists of all nodes joined, rings are NONE and marks are 0, all by the new base
 --    (`holding-canonical`). That is what a second compaction meets (proofs/Again).
-use Prim.Native.Nat.{_%_, _*_, _+_, _-_, _/_, _^_, _≤_, ℕ}
+use Prim.Native.Nat.{ℕ, _%_, _*_, _+_, _-_, _/_, _^_, _≤_}
+use mathlib.Core.Path.{_∙_, _≡_, ap, ap₂, refl, subst, sym}
 use mathlib.Core.Bool.{Bool, cond, false, true}
 use mathlib.Core.List.{List, [], _++_, _∷_, map, map-map}
-use mathlib.Core.Path.{_∙_, _≡_, ap, ap₂, refl, subst, sym}
 use native.Mathlib.Omega.{arith}
 use lib.Dec.{eqb}
 use lib.ListN.{drop, getD, length, length-append, length-replicate, replicate}
 use lib.Seq.{drop-append-seam, getD-append-add, getD-drop}
 use borrow.Author.Tests.{eqb-false, lt-ltb, ltb-true}
+use Rattle.plain.specs.declared.Counts.{Counts}
+use Rattle.plain.specs.declared.EdgePayload.{EdgePayload}
+use Rattle.plain.specs.declared.Slots.{Slots}
+use Rattle.plain.specs.declared.TraversalDirection.{TraversalDirection}
+use Rattle.plain.specs.declared.TraversalDirection.the-variants.{Incoming, Outgoing}
 use Rattle.plain.specs.Compaction.{EdgeRecord, Survivors, kept-edge, kept-node, of-survivors, payload-of, source-of, target-of}
+use Rattle.plain.specs.Lists.{from, joined}
+use Rattle.plain.specs.Memory.{live-words}
+use Rattle.plain.specs.Plain.{EdgeSlot, NodeSlot, Plain, list-of}
+use Rattle.plain.specs.Reads.{live-count}
+use Rattle.plain.specs.WellFormed.{Sound, WellFormed}
 use Rattle.plain.specs.Laws.Booleans.{by-test}
 use Rattle.plain.specs.Laws.Compacting.{of-survivors-well-formed}
 use Rattle.plain.specs.Laws.Fitting.{fitted-many}
 use Rattle.plain.specs.Laws.ImageBits.{record-high, record-low}
 use Rattle.plain.specs.Laws.ListLaws.{map-getD, map-same, member-below}
 use Rattle.plain.specs.Laws.Rank.{live-all-live, live-count-all-live}
-use Rattle.plain.specs.Lists.{from, joined}
-use Rattle.plain.specs.Memory.{live-words}
-use Rattle.plain.specs.Plain.{EdgeSlot, NodeSlot, Plain, list-of}
-use Rattle.plain.specs.Reads.{live-count}
-use Rattle.plain.specs.WellFormed.{Sound, WellFormed}
-use Rattle.plain.specs.declared.Counts.{Counts}
-use Rattle.plain.specs.declared.EdgePayload.{EdgePayload}
-use Rattle.plain.specs.declared.Slots.{Slots}
-use Rattle.plain.specs.declared.TraversalDirection.{TraversalDirection}
-use Rattle.plain.specs.declared.TraversalDirection.the-variants.{Incoming, Outgoing}
 use Rattle.liveness.specs.Calls.{Reset, all-live}
 use Rattle.liveness.specs.Flags.{live-flags}
 use Rattle.shape.specs.Checked.{AxisChecked, Checked, SlotsChecked}
@@ -42,14 +42,14 @@ use Rattle.shape.specs.Columns.{Sized, cell}
 use Rattle.shape.specs.Fields.{RenewalLeaves}
 use Rattle.shape.specs.Index.{before, ends-of}
 use Rattle.shape.specs.Kept.{Renewed, SameLengths}
+use Rattle.shape.specs.Shape.{Words, axis-words, capacities, edge-capacity, edge-live, edge-payload-at, lists, node-capacity, node-live, plain-of, shape-of}
+use Rattle.shape.specs.Steps.{state-of}
 use Rattle.shape.specs.Laws.Indexing.{before-zero}
 use Rattle.shape.specs.Laws.NewBase.{NewBase, new-axis, new-checked}
 use Rattle.shape.specs.Laws.NoFields.{renewed-leaves}
 use Rattle.store.specs.Laws.Shapes.{shape-ext}
 use Rattle.compact.specs.Survivors.{shape-of-survivors}
 use Rattle.compact.specs.Laws.Survivors.{survivors-plain, survivors-state}
-use Rattle.shape.specs.Shape.{Words, axis-words, capacities, edge-capacity, edge-live, edge-payload-at, lists, node-capacity, node-live, plain-of, shape-of}
-use Rattle.shape.specs.Steps.{state-of}
 use Rattle.compact.specs.Bases.{based}
 use Rattle.compact.specs.Calls.{AxisCanonical, Canonical, SlotsCanonical}
 

@@ -1,31 +1,32 @@
 -- What is left of a checked store, read from its words: the payloads of its survivors, and their ends by a node map. For compaction, which moves them down in place, and for
 -- joining, which copies them to another memory.
-use Prim.Native.Nat.{_+_, _<_, ℕ}
+use Prim.Native.Nat.{ℕ, _+_, _<_}
+use mathlib.Core.Path.{_∙_, _≡_, ap, ap₂, sym, refl}
 use mathlib.Core.Bool.{Bool, false, true}
 use mathlib.Core.List.{List, map, map-map}
-use mathlib.Core.Path.{_∙_, _≡_, ap, ap₂, sym, refl}
 use native.Mathlib.Omega.{arith}
 use lib.ListN.{getD, length}
+use Rattle.plain.specs.declared.EdgePayload.{EdgePayload}
+use Rattle.plain.specs.declared.TraversalDirection.{TraversalDirection}
+use Rattle.plain.specs.declared.TraversalDirection.the-variants.{Incoming, Outgoing}
 use Rattle.plain.specs.Compaction.{EdgeRecord, Survivors, rank, source-of, surviving-edge, survivors, target-of}
 use Rattle.plain.specs.Joining.{raised}
+use Rattle.plain.specs.Plain.{edge-flags, end-of, high-of, low-of, no-edge, no-node, node-flags}
+use Rattle.plain.specs.Reads.{live-count, live-slots}
+use Rattle.plain.specs.WellFormed.{Sound}
 use Rattle.plain.specs.Laws.Compacting.{length-surviving-edges, length-surviving-nodes, survivors-sound}
 use Rattle.plain.specs.Laws.ImageBits.{record-high, record-low}
 use Rattle.plain.specs.Laws.ListLaws.{map-same}
 use Rattle.plain.specs.Laws.Rank.{live-below, member-live-slots}
-use Rattle.plain.specs.Plain.{edge-flags, end-of, high-of, low-of, no-edge, no-node, node-flags}
-use Rattle.plain.specs.Reads.{live-count, live-slots}
-use Rattle.plain.specs.WellFormed.{Sound}
-use Rattle.plain.specs.declared.TraversalDirection.{TraversalDirection}
 use Rattle.plain.specs.declared.TraversalDirection.the-variants.{Incoming, Outgoing}
 use Rattle.liveness.specs.Laws.Flags.{length-flags}
 use Rattle.liveness.specs.Flags.{live-flags}
 use Rattle.shape.specs.Checked.{Checked}
 use Rattle.shape.specs.Columns.{end-at}
-use Rattle.shape.specs.Laws.Reading.{edge-at, node-at, plain-edge-flags, plain-end, plain-node-flags}
 use Rattle.shape.specs.Shape.{Words, axis-words, capacities, edge-live, lists, node-live, plain-of, shape-of, edge-payload-at}
 use Rattle.relocate.specs.Laws.Stores.{checked-end}
 use Rattle.compact.specs.Slots.{live-words-of}
-use Rattle.plain.specs.declared.EdgePayload.{EdgePayload}
+use Rattle.shape.specs.Laws.Reading.{edge-at, node-at, plain-edge-flags, plain-end, plain-node-flags}
 
 -- the end of a record in a direction
 abbrev pub end-in : TraversalDirection → EdgeRecord → ℕ

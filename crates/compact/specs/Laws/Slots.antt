@@ -1,25 +1,25 @@
--- What a written map holds, and words rewritten at the front of a slice as lists.
-use Prim.Native.Nat.{_+_, _-_, _≤_, ℕ, _*_}
+-- The slots of a checked store, what a written map holds, and words rewritten at the front of a slice as lists.
+use Prim.Native.Nat.{ℕ, _+_, _-_, _≤_, _*_}
+use mathlib.Core.Path.{_∙_, _≡_, ap, ap₂, sym}
 use mathlib.Core.Bool.{Bool, cond, false, true}
 use mathlib.Core.List.{List, _++_, map}
-use mathlib.Core.Path.{_∙_, _≡_, ap, ap₂, sym}
 use native.Mathlib.Nat.{zero-add}
 use native.Mathlib.Omega.{arith}
 use lib.ListN.{List·getD-append, drop, getD, length, length-append, length-drop, take, take-append-drop}
 use lib.Seq.{ext-getD, getD-drop}
+use Rattle.plain.specs.declared.Slots.{Slots}
 use Rattle.plain.specs.Compaction.{rank, renumbering-from}
-use Rattle.plain.specs.Laws.ListLaws.{getD-default, map-getD, count-length}
-use Rattle.plain.specs.Laws.Rank.{live-below}
-use Rattle.plain.specs.Laws.Renumberings.{length-renumbering, lookup-from}
 use Rattle.plain.specs.Lists.{from, written}
 use Rattle.plain.specs.Numbers.{NONE}
 use Rattle.plain.specs.Renumbering.{lookup}
+use Rattle.plain.specs.Laws.ListLaws.{getD-default, map-getD, count-length}
+use Rattle.plain.specs.Laws.Rank.{live-below}
+use Rattle.plain.specs.Laws.Renumberings.{length-renumbering, lookup-from}
+use Rattle.liveness.specs.Laws.Flags.{length-flags}
+use Rattle.liveness.specs.Flags.{live-flags}
+use Rattle.shape.specs.Checked.{SlotsChecked}
 use Rattle.shape.specs.Index.{Rewritten}
 use Rattle.shape.specs.Laws.Indexing.{front-range, map-from-same}
-use Rattle.plain.specs.declared.Slots.{Slots}
-use Rattle.liveness.specs.Flags.{live-flags}
-use Rattle.liveness.specs.Laws.Flags.{length-flags}
-use Rattle.shape.specs.Checked.{SlotsChecked}
 
 -- ---- one kind of slot of a checked store
 

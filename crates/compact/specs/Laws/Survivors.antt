@@ -1,24 +1,24 @@
 -- The shape of survivors is compact, and its plain lists are the survivors'.
-use Prim.Native.Nat.{_<_, ℕ}
+use Prim.Native.Nat.{ℕ, _<_}
+use mathlib.Core.Path.{_∙_, _≡_, ap, ap₂, refl, sym}
 use mathlib.Core.Bool.{Bool, false, not, true}
 use mathlib.Core.List.{List, [], _∷_, append-nil, map}
-use mathlib.Core.Path.{_∙_, _≡_, ap, ap₂, refl, sym}
 use native.Mathlib.Omega.{arith}
 use lib.ListN.{List·getD-map, getD, length, length-map, replicate}
 use borrow.Author.Tests.{eq-eqb, lt-ltb, ltb-true}
 use Rattle.plain.specs.Compaction.{EdgeRecord, Survivors, kept-edge, kept-node, of-survivors, source-of, target-of}
+use Rattle.plain.specs.Lists.{all, from, member}
+use Rattle.plain.specs.Plain.{EdgeSlot, Incidence, NodeSlot, Plain, node-flags, edge-flags}
+use Rattle.plain.specs.Step.{State}
+use Rattle.plain.specs.WellFormed.{Fitted, Sound}
 use Rattle.plain.specs.Laws.Compacting.{edge-flags-of, node-flags-of}
 use Rattle.plain.specs.Laws.Fitting.{fitted-many, has-end-below, right-at}
 use Rattle.plain.specs.Laws.ListLaws.{map-getD, map-same, member-below}
 use Rattle.plain.specs.Laws.Rank.{live-all-live}
-use Rattle.plain.specs.Lists.{all, from, member}
-use Rattle.plain.specs.Plain.{EdgeSlot, Incidence, NodeSlot, Plain}
-use Rattle.plain.specs.Step.{State}
-use Rattle.plain.specs.WellFormed.{Fitted, Sound}
-use Rattle.shape.specs.Laws.NewBase.{in-base}
-use Rattle.shape.specs.Laws.Taking.{keep-passing}
 use Rattle.shape.specs.Shape.{has-run, is-compact, live-in, no-adjacency, plain-of, walk-of, walks-of}
 use Rattle.shape.specs.Steps.{state-of}
+use Rattle.shape.specs.Laws.NewBase.{in-base}
+use Rattle.shape.specs.Laws.Taking.{keep-passing}
 use Rattle.compact.specs.Survivors.{shape-of-survivors}
 
 -- ---- one direction
@@ -49,15 +49,11 @@ module _ {n : ℕ} {ends : List ℕ} {lists : List (List ℕ)} (f : Fitted n end
 
 -- ---- every slot is live, and no node has a run
 
-all-kept : (l : List ℕ) → all (λ f. f) (map (λ (n : NodeSlot). n .live) (map kept-node l)) ≡ true
+-- slots that are made live
+all-made : {A B : Type 0} (live : B → Bool) (make : A → B) → ((x : A) → live (make x) ≡ true) → (l : List A) → all (λ f. f) (map live (map make l)) ≡ true
 unfolding all
-all-kept [] = refl
-all-kept (x ∷ l) = all-kept l
-
-all-kept-edges : (l : List EdgeRecord) → all (λ f. f) (map (λ (e : EdgeSlot). e .live) (map kept-edge l)) ≡ true
-unfolding all
-all-kept-edges [] = refl
-all-kept-edges (x ∷ l) = all-kept-edges l
+all-made live make on [] = refl
+all-made live make on (x ∷ l) = rw (on x) (all-made live make on l)
 
 all-based : (l : List (List ℕ)) → all (λ a. not (has-run a)) (map in-base l) ≡ true
 unfolding all
@@ -67,30 +63,21 @@ all-based (x ∷ l) = all-based l
 -- ---- the whole
 
 module _ (s : Survivors) (sound : Sound s) where
-  sources : walks-of (replicate (length (s .edges)) true) (replicate (length (s .nodes)) true)
-      (record { ends = map source-of (s .edges); nodes = map in-base (s .outs) })
-      ≡ record { ends = map source-of (s .edges); lists = s .outs }
-  sources =
-      ap (λ (k : ℕ). walks-of (replicate k true) (replicate (length (s .nodes)) true) (record { ends = map source-of (s .edges); nodes = map in-base (s .outs) }))
-      (sym (length-map (s .edges) source-of)) ∙ based-incidence (sound .outs)
-
-  targets : walks-of (replicate (length (s .edges)) true) (replicate (length (s .nodes)) true)
-      (record { ends = map target-of (s .edges); nodes = map in-base (s .ins) })
-      ≡ record { ends = map target-of (s .edges); lists = s .ins }
-  targets =
-      ap (λ (k : ℕ). walks-of (replicate k true) (replicate (length (s .nodes)) true) (record { ends = map target-of (s .edges); nodes = map in-base (s .ins) }))
-      (sym (length-map (s .edges) target-of)) ∙ based-incidence (sound .ins)
+  -- a direction, by the function that gives an edge's end in it
+  direction : (end : EdgeRecord → ℕ) (lists : List (List ℕ)) → Fitted (length (s .nodes)) (map end (s .edges)) lists
+      → walks-of (edge-flags (of-survivors s)) (node-flags (of-survivors s)) (record { ends = map end (s .edges); nodes = map in-base lists })
+      ≡ record { ends = map end (s .edges); lists = lists }
+  direction end lists fitted =
+      ap₂ {C = Incidence} (λ (e n : List Bool). walks-of e n (record { ends = map end (s .edges); nodes = map in-base lists })) (edge-flags-of s) (node-flags-of s)
+      ∙ ap (λ (k : ℕ). walks-of (replicate k true) (replicate (length (s .nodes)) true) (record { ends = map end (s .edges); nodes = map in-base lists }))
+      (sym (length-map (s .edges) end)) ∙ based-incidence fitted
 
   -- its plain lists are the survivors'
   pub survivors-plain : plain-of (shape-of-survivors s) ≡ of-survivors s
   unfolding plain-of shape-of-survivors of-survivors
   survivors-plain =
-      let nodes = node-flags-of s in
-      let edges = edge-flags-of s in
-      let out = (ap₂ {C = Incidence}
-      (λ (e n : List Bool). walks-of e n (record { ends = map source-of (s .edges); nodes = map in-base (s .outs) })) edges nodes ∙ sources) in
-      let into = (ap₂ {C = Incidence}
-      (λ (e n : List Bool). walks-of e n (record { ends = map target-of (s .edges); nodes = map in-base (s .ins) })) edges nodes ∙ targets) in
+      let out = direction source-of (s .outs) (sound .outs) in
+      let into = direction target-of (s .ins) (sound .ins) in
       λ i. record { nodes = map kept-node (s .nodes); edges = map kept-edge (s .edges); outgoing = out i; incoming = into i }
 
   -- it is compact
@@ -100,8 +87,8 @@ module _ (s : Survivors) (sound : Sound s) where
       rw (
         eq-eqb (length (s .nodes)) (length (map kept-node (s .nodes))) (sym (length-map (s .nodes) kept-node)),
         eq-eqb (length (s .edges)) (length (map kept-edge (s .edges))) (sym (length-map (s .edges) kept-edge)),
-        all-kept (s .nodes),
-        all-kept-edges (s .edges),
+        all-made (λ (n : NodeSlot). n .live) kept-node (λ x. refl) (s .nodes),
+        all-made (λ (e : EdgeSlot). e .live) kept-edge (λ x. refl) (s .edges),
         all-based (s .outs),
         all-based (s .ins),
       )

@@ -1,15 +1,15 @@
 -- One turn of a loop over slots: what a live slot and a dead one do to the count of live slots. For compaction and for joining.
-use Prim.Native.Nat.{_+_, _<_, _≤_, suc, zero, ℕ}
+use Prim.Native.Nat.{ℕ, _+_, _<_, _≤_, suc, zero}
+use mathlib.Core.Path.{_∙_, _≡_, ap, refl, sym}
 use mathlib.Core.Bool.{Bool, cond, false, true}
 use mathlib.Core.List.{List, [], _∷_}
-use mathlib.Core.Path.{_∙_, _≡_, ap, refl, sym}
 use native.Mathlib.Nat.{add-zero, zero-add}
 use native.Mathlib.Numerals.{add-one}
 use native.Mathlib.Omega.{arith}
 use lib.ListN.{getD, length, set}
 use Rattle.plain.specs.Compaction.{rank}
-use Rattle.plain.specs.Laws.Rank.{live-slot-rank, rank-end}
 use Rattle.plain.specs.Reads.{live-count, live-slots}
+use Rattle.plain.specs.Laws.Rank.{live-slot-rank, rank-end}
 use Rattle.liveness.specs.Laws.Flags.{length-flags}
 use Rattle.liveness.specs.Flags.{live-flags}
 use Rattle.shape.specs.Index.{Rewritten}

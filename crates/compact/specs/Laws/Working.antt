@@ -1,23 +1,23 @@
 -- The joined lists of both directions: as many entries as the live edges twice, each a live edge, and by new numbers the adjacency of the survivors.
-use Prim.Native.Nat.{_*_, ℕ}
+use Prim.Native.Nat.{ℕ, _*_}
+use mathlib.Core.Path.{_∙_, _≡_, ap, ap₂, sym}
 use mathlib.Core.Bool.{Bool, false, true}
 use mathlib.Core.List.{List, _++_, map, map-append}
-use mathlib.Core.Path.{_∙_, _≡_, ap, ap₂, sym}
 use native.Mathlib.Omega.{arith}
 use lib.ListN.{getD, length, length-append}
+use Rattle.plain.specs.declared.TraversalDirection.{TraversalDirection}
+use Rattle.plain.specs.declared.TraversalDirection.the-variants.{Incoming, Outgoing}
 use Rattle.plain.specs.Compaction.{adjacency, rank, surviving-list, survivors}
-use Rattle.plain.specs.Laws.Booleans.{by-test, or-other}
-use Rattle.plain.specs.Laws.ListLaws.{member-append}
 use Rattle.plain.specs.Lists.{joined, member}
 use Rattle.plain.specs.Plain.{node-flags}
 use Rattle.plain.specs.Reads.{live-slots}
-use Rattle.plain.specs.declared.TraversalDirection.{TraversalDirection}
-use Rattle.plain.specs.declared.TraversalDirection.the-variants.{Incoming, Outgoing}
+use Rattle.plain.specs.Laws.Booleans.{by-test, or-other}
+use Rattle.plain.specs.Laws.ListLaws.{member-append}
 use Rattle.shape.specs.Checked.{Checked}
-use Rattle.shape.specs.Laws.Reading.{plain-node-flags}
 use Rattle.shape.specs.Shape.{Words, edge-live, lists}
-use Rattle.compact.specs.Laws.Lists.{lists-live, lists-renumbered, lists-total}
+use Rattle.shape.specs.Laws.Reading.{plain-node-flags}
 use Rattle.compact.specs.Working.{both-walks, walks-in}
+use Rattle.compact.specs.Laws.Lists.{lists-live, lists-renumbered, lists-total}
 
 module _ {w : Words} (k : Checked w) where
   pub walks-length : (d : TraversalDirection) → length (walks-in d w) ≡ w .counts .edges .live

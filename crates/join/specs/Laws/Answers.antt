@@ -1,19 +1,19 @@
 -- The answer of joining by numbers: each refusal as it is told, and what is at hand where the answer is 0.
-use Prim.Native.Nat.{_+_, _<_, _≤_, suc, zero, ℕ}
-use mathlib.Core.Logic.{⊎-elim}
+use Prim.Native.Nat.{ℕ, _+_, _<_, _≤_, suc, zero}
 use mathlib.Core.Path.{_∙_, _≡_, ap, refl, sym}
+use mathlib.Core.Logic.{⊎-elim}
 use native.Mathlib.Omega.{arith}
 use lib.Dec.{eqb}
 use borrow.Author.Tests.{eq-eqb, eqb-false, eqb-true, le-ltb, lt-ltb, ne-eqb}
+use Rattle.plain.specs.declared.Answer.{Answer}
 use Rattle.plain.specs.Calls.{fresh, judged, short-answer}
 use Rattle.plain.specs.Devices.{Takes, box}
 use Rattle.plain.specs.Joining.{MapRooms, Sizes, join-answer, map-slices}
+use Rattle.plain.specs.Memory.{Lengths, first-short}
+use Rattle.plain.specs.Numbers.{NONE}
 use Rattle.plain.specs.Laws.Booleans.{below-or-not, by-test}
 use Rattle.plain.specs.Laws.CallCases.{FirstShort, LongEnough, long-or-short, no-slice, one-short, slice-fits}
 use Rattle.plain.specs.Laws.Devices.{box-proper}
-use Rattle.plain.specs.Memory.{Lengths, first-short}
-use Rattle.plain.specs.Numbers.{NONE}
-use Rattle.plain.specs.declared.Answer.{Answer}
 use Rattle.memory.specs.Laws.{Roomy, fresh-roomy}
 
 -- ---- 1
