@@ -8,25 +8,14 @@
 // each, in the last four words), 16 and 17 total out and in, 18 and 19 fresh and reading an image on the skid (as 0 and 15), 20 nearest lot (two lots, words lent for the work and for
 // the chain), 22 the store joined with itself (words lent for each of the four maps).
 
-use plain::Answer;
 use plain::Changed;
 use plain::Counts;
-use plain::Record;
 use plain::Slots;
-use plain::Total;
-use plain::TraversalDirection;
+use replay::Call;
+use replay::print;
+use replay::reads;
 ghost use Prim.Native.Nat.{_+_, _≤_, _<_};
 ghost use lib.ListN.{length};
-ghost use Rattle.io.specs.Counts.{Counts as Front};
-
-// A call as it is recorded, or the five words of another line.
-struct Call {
-    kind: u32,
-    first: u32,
-    second: u32,
-    third: u32,
-    fourth: u32,
-}
 
 // The counts of the store and its capacities.
 struct Held {
@@ -67,98 +56,6 @@ fn decode(line: &[u8; 45]) -> Call {
         third: field(line, 27),
         fourth: field(line, 36),
     }
-}
-
-fn wide(x: u32) -> u64 {
-    x as u64
-}
-
-// A number and a space.
-fn number(x: u64) {
-    io::print_decimal(1, x);
-    io::write_all(1, b" ");
-}
-
-// The last number of a line.
-fn last(x: u64) {
-    io::print_decimal(1, x);
-    io::write_all(1, b"\n");
-}
-
-fn print_answer(a: Answer) {
-    number(wide(a.number));
-    last(a.value);
-}
-
-// The counts afterwards are answered.
-fn print_changed(c: Changed) -> Counts {
-    number(wide(c.number));
-    last(c.value);
-    let counts = c.counts;
-    counts
-}
-
-fn print_record(r: Record) {
-    number(wide(r.number));
-    number(r.value);
-    number(wide(r.source));
-    number(wide(r.target));
-    number(wide(r.payload.low));
-    last(wide(r.payload.high));
-}
-
-fn print_total(t: Total) {
-    number(wide(t.number));
-    number(t.value);
-    number(t.low);
-    last(t.high);
-}
-
-// A space and a number for each of the first entries.
-fn print_entries(slots: &[u32; 2048], count: u64) {
-    let mut i: usize = 0;
-    while i < 2048 {
-        if count <= i as u64 {
-            return;
-        }
-        io::write_all(1, b" ");
-        io::print_decimal(1, wide(slots[i]));
-        i += 1;
-    }
-}
-
-// A space and a number for each of the first bytes.
-fn print_bytes(bytes: &[u8], count: u64) {
-    let mut i: usize = 0;
-    while i < bytes.len() {
-        if count <= i as u64 {
-            return;
-        }
-        io::write_all(1, b" ");
-        io::print_decimal(1, bytes[i] as u64);
-        i += 1;
-    }
-}
-
-// Number and value of a call and, where it is done, the words that it wrote.
-fn print_written(number_of: u32, value: u64, words: &[u32; 2048], count: u64) {
-    number(wide(number_of));
-    io::print_decimal(1, value);
-    if number_of == 0 {
-        print_entries(words, count);
-    }
-    io::write_all(1, b"\n");
-}
-
-// A recorded length, cut where the words end.
-fn within(length: u32, words: &[u32]) -> usize
-    ensures { λ r. ⌜ Front r (now (words .entry)) ⌝ }
-{
-    let n = length as usize;
-    if n < words.len() {
-        return n;
-    }
-    words.len()
 }
 
 // A fresh store, on a box or on the skid.
@@ -205,8 +102,8 @@ fn fresh(
     outgoing: &[u32],
     incoming: &[u32],
 ) -> Held {
-    let n = within(call.first, nodes);
-    let e = within(call.second, lows);
+    let n = print::within(call.first, nodes);
+    let e = print::within(call.second, lows);
     let changed = made(
         call.kind,
         &nodes[..n],
@@ -218,7 +115,7 @@ fn fresh(
         incoming,
     );
     Held {
-        counts: print_changed(changed),
+        counts: print::print_changed(changed),
         nodes: call.first,
         edges: call.second,
     }
@@ -265,8 +162,8 @@ fn strip_of(
     let mut words: [u32; 4096] = [0; 4096];
     let mut answers: [u32; 2048] = [0; 2048];
     read_operations(&mut words, call.third);
-    let length = within(call.first, &words);
-    let room = within(call.second, &answers);
+    let length = print::within(call.first, &words);
+    let room = print::within(call.second, &answers);
     let changed = strip::strip(
         counts,
         nodes,
@@ -279,7 +176,12 @@ fn strip_of(
         &words[..length],
         &mut answers[..room],
     );
-    print_written(changed.number, changed.value, &answers, wide(call.second));
+    print::print_written(
+        changed.number,
+        changed.value,
+        &answers,
+        print::wide(call.second),
+    );
     let counts = changed.counts;
     counts
 }
@@ -299,9 +201,9 @@ fn compact(
     let mut node_map: [u32; 2048] = [0; 2048];
     let mut edge_map: [u32; 2048] = [0; 2048];
     let mut work: [u32; 2048] = [0; 2048];
-    let first = within(call.first, &node_map);
-    let second = within(call.second, &edge_map);
-    let third = within(call.third, &work);
+    let first = print::within(call.first, &node_map);
+    let second = print::within(call.second, &edge_map);
+    let third = print::within(call.third, &work);
     let changed = compact::compact(
         counts,
         nodes,
@@ -315,9 +217,24 @@ fn compact(
         &mut edge_map[..second],
         &mut work[..third],
     );
-    print_written(changed.number, changed.value, &node_map, wide(call.first));
-    print_written(changed.number, changed.value, &edge_map, wide(call.second));
-    print_written(changed.number, changed.value, &work, wide(call.third));
+    print::print_written(
+        changed.number,
+        changed.value,
+        &node_map,
+        print::wide(call.first),
+    );
+    print::print_written(
+        changed.number,
+        changed.value,
+        &edge_map,
+        print::wide(call.second),
+    );
+    print::print_written(
+        changed.number,
+        changed.value,
+        &work,
+        print::wide(call.third),
+    );
     let counts = changed.counts;
     counts
 }
@@ -350,17 +267,6 @@ fn read_bytes(bytes: &mut [u8], lines: u32) {
     }
 }
 
-// A recorded number of bytes, cut where they end.
-fn within_bytes(length: u32, bytes: &[u8]) -> usize
-    ensures { λ r. ⌜ Front r (now (bytes .entry)) ⌝ }
-{
-    let n = length as usize;
-    if n < bytes.len() {
-        return n;
-    }
-    bytes.len()
-}
-
 // An image read in place of all, on a box.
 fn read_image(
     counts: Counts,
@@ -375,7 +281,7 @@ fn read_image(
 ) -> Counts {
     let mut bytes: [u8; 4096] = [0; 4096];
     read_bytes(&mut bytes, call.second);
-    let length = within_bytes(call.first, &bytes);
+    let length = print::within_bytes(call.first, &bytes);
     let changed = image::read::read_image(
         counts,
         nodes,
@@ -387,7 +293,7 @@ fn read_image(
         incoming,
         &bytes[..length],
     );
-    print_changed(changed)
+    print::print_changed(changed)
 }
 
 // An image read in place of all, on the skid.
@@ -404,7 +310,7 @@ fn skid_read_image(
 ) -> Counts {
     let mut bytes: [u8; 4096] = [0; 4096];
     read_bytes(&mut bytes, call.second);
-    let length = within_bytes(call.first, &bytes);
+    let length = print::within_bytes(call.first, &bytes);
     let changed = image::read::skid_read_image(
         counts,
         nodes,
@@ -416,650 +322,7 @@ fn skid_read_image(
         incoming,
         &bytes[..length],
     );
-    print_changed(changed)
-}
-
-// The image into lent bytes, and those that were written.
-fn print_image(
-    counts: Counts,
-    nodes: &[u32],
-    lows: &[u32],
-    highs: &[u32],
-    live_nodes: &[u64],
-    live_edges: &[u64],
-    outgoing: &[u32],
-    incoming: &[u32],
-    work: &mut [u32],
-    bytes: &mut [u8],
-) {
-    let answered = image::write::write_image(
-        counts,
-        nodes,
-        lows,
-        highs,
-        live_nodes,
-        live_edges,
-        outgoing,
-        incoming,
-        work,
-        bytes,
-    );
-    number(wide(answered.number));
-    io::print_decimal(1, answered.value);
-    if answered.number == 0 {
-        print_bytes(bytes, answered.value);
-    }
-    io::write_all(1, b"\n");
-}
-
-// The store joined with itself in a memory with room for any two that are recorded; where it is done, the four maps and the image of what is there.
-fn join_with_itself(
-    counts: Counts,
-    nodes: &[u32],
-    lows: &[u32],
-    highs: &[u32],
-    live_nodes: &[u64],
-    live_edges: &[u64],
-    outgoing: &[u32],
-    incoming: &[u32],
-    call: Call,
-) {
-    let mut all_nodes: [u32; 1024] = [7; 1024];
-    let mut all_lows: [u32; 2048] = [7; 2048];
-    let mut all_highs: [u32; 2048] = [7; 2048];
-    let mut all_live_nodes: [u64; 16] = [7; 16];
-    let mut all_live_edges: [u64; 32] = [7; 32];
-    let mut all_outgoing: [u32; 14337] = [7; 14337];
-    let mut all_incoming: [u32; 14337] = [7; 14337];
-    let mut first_node_map: [u32; 2048] = [0; 2048];
-    let mut first_edge_map: [u32; 2048] = [0; 2048];
-    let mut second_node_map: [u32; 2048] = [0; 2048];
-    let mut second_edge_map: [u32; 2048] = [0; 2048];
-    let mut work: [u32; 4096] = [0; 4096];
-    let mut bytes: [u8; 32768] = [0; 32768];
-    let room = within(call.first, &first_node_map);
-    let changed = join::join(
-        counts,
-        nodes,
-        lows,
-        highs,
-        live_nodes,
-        live_edges,
-        outgoing,
-        incoming,
-        counts,
-        nodes,
-        lows,
-        highs,
-        live_nodes,
-        live_edges,
-        outgoing,
-        incoming,
-        &mut all_nodes,
-        &mut all_lows,
-        &mut all_highs,
-        &mut all_live_nodes,
-        &mut all_live_edges,
-        &mut all_outgoing,
-        &mut all_incoming,
-        &mut first_node_map[..room],
-        &mut first_edge_map[..room],
-        &mut second_node_map[..room],
-        &mut second_edge_map[..room],
-    );
-    let lent = wide(call.first);
-    print_written(changed.number, changed.value, &first_node_map, lent);
-    print_written(changed.number, changed.value, &first_edge_map, lent);
-    print_written(changed.number, changed.value, &second_node_map, lent);
-    print_written(changed.number, changed.value, &second_edge_map, lent);
-    if changed.number == 0 {
-        print_image(
-            changed.counts,
-            &all_nodes,
-            &all_lows,
-            &all_highs,
-            &all_live_nodes,
-            &all_live_edges,
-            &all_outgoing,
-            &all_incoming,
-            &mut work,
-            &mut bytes,
-        );
-    }
-}
-
-// The image with a work slice and into bytes of the recorded lengths.
-fn write_image(
-    counts: Counts,
-    nodes: &[u32],
-    lows: &[u32],
-    highs: &[u32],
-    live_nodes: &[u64],
-    live_edges: &[u64],
-    outgoing: &[u32],
-    incoming: &[u32],
-    call: Call,
-) {
-    let mut work: [u32; 2048] = [0; 2048];
-    let mut bytes: [u8; 4096] = [0; 4096];
-    let lent = within(call.first, &work);
-    let room = within_bytes(call.second, &bytes);
-    print_image(
-        counts,
-        nodes,
-        lows,
-        highs,
-        live_nodes,
-        live_edges,
-        outgoing,
-        incoming,
-        &mut work[..lent],
-        &mut bytes[..room],
-    );
-}
-
-// A list into a slice of the recorded length.
-fn read_list(
-    counts: Counts,
-    nodes: &[u32],
-    lows: &[u32],
-    highs: &[u32],
-    live_nodes: &[u64],
-    live_edges: &[u64],
-    outgoing: &[u32],
-    incoming: &[u32],
-    call: Call,
-) {
-    let mut slots: [u32; 2048] = [0; 2048];
-    let room = within(call.second, &slots);
-    let answered = list_answer(
-        counts,
-        nodes,
-        lows,
-        highs,
-        live_nodes,
-        live_edges,
-        outgoing,
-        incoming,
-        call,
-        &mut slots[..room],
-    );
-    print_written(answered.number, answered.value, &slots, answered.value);
-}
-
-fn list_answer(
-    counts: Counts,
-    nodes: &[u32],
-    lows: &[u32],
-    highs: &[u32],
-    live_nodes: &[u64],
-    live_edges: &[u64],
-    outgoing: &[u32],
-    incoming: &[u32],
-    call: Call,
-    slots: &mut [u32],
-) -> Answer {
-    if call.kind == 2 {
-        return view::walks::walk(
-            counts,
-            nodes,
-            lows,
-            highs,
-            live_nodes,
-            live_edges,
-            outgoing,
-            incoming,
-            TraversalDirection::Outgoing,
-            call.first,
-            slots,
-        );
-    }
-    if call.kind == 3 {
-        return view::walks::walk(
-            counts,
-            nodes,
-            lows,
-            highs,
-            live_nodes,
-            live_edges,
-            outgoing,
-            incoming,
-            TraversalDirection::Incoming,
-            call.first,
-            slots,
-        );
-    }
-    if call.kind == 4 {
-        return view::ids::node_ids(
-            counts,
-            nodes,
-            lows,
-            highs,
-            live_nodes,
-            live_edges,
-            outgoing,
-            incoming,
-            slots,
-        );
-    }
-    view::ids::edge_ids(
-        counts,
-        nodes,
-        lows,
-        highs,
-        live_nodes,
-        live_edges,
-        outgoing,
-        incoming,
-        slots,
-    )
-}
-
-// Bounds, counts, whether the store is empty and whether it is compact.
-fn read_whole(
-    counts: Counts,
-    nodes: &[u32],
-    lows: &[u32],
-    highs: &[u32],
-    live_nodes: &[u64],
-    live_edges: &[u64],
-    outgoing: &[u32],
-    incoming: &[u32],
-) {
-    number(
-        view::whole::node_bound(
-            counts,
-            nodes,
-            lows,
-            highs,
-            live_nodes,
-            live_edges,
-            outgoing,
-            incoming,
-        ).value,
-    );
-    number(
-        view::whole::edge_bound(
-            counts,
-            nodes,
-            lows,
-            highs,
-            live_nodes,
-            live_edges,
-            outgoing,
-            incoming,
-        ).value,
-    );
-    number(
-        view::whole::node_count(
-            counts,
-            nodes,
-            lows,
-            highs,
-            live_nodes,
-            live_edges,
-            outgoing,
-            incoming,
-        ).value,
-    );
-    number(
-        view::whole::edge_count(
-            counts,
-            nodes,
-            lows,
-            highs,
-            live_nodes,
-            live_edges,
-            outgoing,
-            incoming,
-        ).value,
-    );
-    number(
-        view::whole::is_empty(
-            counts,
-            nodes,
-            lows,
-            highs,
-            live_nodes,
-            live_edges,
-            outgoing,
-            incoming,
-        ).value,
-    );
-    last(
-        view::compactness::is_compact(
-            counts,
-            nodes,
-            lows,
-            highs,
-            live_nodes,
-            live_edges,
-            outgoing,
-            incoming,
-        ).value,
-    );
-}
-
-fn read_node(
-    counts: Counts,
-    nodes: &[u32],
-    lows: &[u32],
-    highs: &[u32],
-    live_nodes: &[u64],
-    live_edges: &[u64],
-    outgoing: &[u32],
-    incoming: &[u32],
-    call: Call,
-) {
-    if call.kind == 6 {
-        print_answer(view::slots::node_payload(
-            counts,
-            nodes,
-            lows,
-            highs,
-            live_nodes,
-            live_edges,
-            outgoing,
-            incoming,
-            call.first,
-        ));
-        return;
-    }
-    if call.kind == 10 {
-        print_answer(view::walks::degree(
-            counts,
-            nodes,
-            lows,
-            highs,
-            live_nodes,
-            live_edges,
-            outgoing,
-            incoming,
-            TraversalDirection::Outgoing,
-            call.first,
-        ));
-        return;
-    }
-    if call.kind == 11 {
-        print_answer(view::walks::degree(
-            counts,
-            nodes,
-            lows,
-            highs,
-            live_nodes,
-            live_edges,
-            outgoing,
-            incoming,
-            TraversalDirection::Incoming,
-            call.first,
-        ));
-        return;
-    }
-    print_answer(view::finding::find(
-        counts,
-        nodes,
-        lows,
-        highs,
-        live_nodes,
-        live_edges,
-        outgoing,
-        incoming,
-        call.first,
-        call.second,
-    ));
-}
-
-fn read_record(
-    counts: Counts,
-    nodes: &[u32],
-    lows: &[u32],
-    highs: &[u32],
-    live_nodes: &[u64],
-    live_edges: &[u64],
-    outgoing: &[u32],
-    incoming: &[u32],
-    call: Call,
-) {
-    if call.kind == 7 {
-        print_record(view::slots::edge_record(
-            counts,
-            nodes,
-            lows,
-            highs,
-            live_nodes,
-            live_edges,
-            outgoing,
-            incoming,
-            call.first,
-        ));
-        return;
-    }
-    print_record(view::slots::live_edge_record(
-        counts,
-        nodes,
-        lows,
-        highs,
-        live_nodes,
-        live_edges,
-        outgoing,
-        incoming,
-        call.first,
-    ));
-}
-
-fn read_total(
-    counts: Counts,
-    nodes: &[u32],
-    lows: &[u32],
-    highs: &[u32],
-    live_nodes: &[u64],
-    live_edges: &[u64],
-    outgoing: &[u32],
-    incoming: &[u32],
-    call: Call,
-) {
-    if call.kind == 16 {
-        print_total(view::walks::total(
-            counts,
-            nodes,
-            lows,
-            highs,
-            live_nodes,
-            live_edges,
-            outgoing,
-            incoming,
-            TraversalDirection::Outgoing,
-            call.first,
-        ));
-        return;
-    }
-    print_total(view::walks::total(
-        counts,
-        nodes,
-        lows,
-        highs,
-        live_nodes,
-        live_edges,
-        outgoing,
-        incoming,
-        TraversalDirection::Incoming,
-        call.first,
-    ));
-}
-
-// How many words are clear.
-fn clear_words(words: &[u32; 2048]) -> u64 {
-    let mut n: u64 = 0;
-    let mut i: usize = 0;
-    while i < 2048 {
-        let word = words[i];
-        i += 1;
-        if word == 0 {
-            n += 1;
-        }
-    }
-    n
-}
-
-// The nearest lot with slices of the recorded lengths. No word of the work slice is clear before; behind number and value, how many then are.
-fn read_nearest(
-    counts: Counts,
-    nodes: &[u32],
-    lows: &[u32],
-    highs: &[u32],
-    live_nodes: &[u64],
-    live_edges: &[u64],
-    outgoing: &[u32],
-    incoming: &[u32],
-    call: Call,
-) {
-    let mut work: [u32; 2048] = [1; 2048];
-    let mut chain: [u32; 2048] = [0; 2048];
-    let lent = within(call.third, &work);
-    let room = within(call.fourth, &chain);
-    let answered = nearest::nearest(
-        counts,
-        nodes,
-        lows,
-        highs,
-        live_nodes,
-        live_edges,
-        outgoing,
-        incoming,
-        call.first,
-        call.second,
-        &mut work[..lent],
-        &mut chain[..room],
-    );
-    number(wide(answered.number));
-    number(answered.value);
-    io::print_decimal(1, clear_words(&work));
-    if answered.number == 0 {
-        print_entries(&chain, answered.value);
-    }
-    io::write_all(1, b"\n");
-}
-
-fn read(
-    counts: Counts,
-    nodes: &[u32],
-    lows: &[u32],
-    highs: &[u32],
-    live_nodes: &[u64],
-    live_edges: &[u64],
-    outgoing: &[u32],
-    incoming: &[u32],
-    call: Call,
-) {
-    let kind = call.kind;
-    if kind <= 5 {
-        read_list(
-            counts,
-            nodes,
-            lows,
-            highs,
-            live_nodes,
-            live_edges,
-            outgoing,
-            incoming,
-            call,
-        );
-        return;
-    }
-    if kind == 9 {
-        read_whole(
-            counts,
-            nodes,
-            lows,
-            highs,
-            live_nodes,
-            live_edges,
-            outgoing,
-            incoming,
-        );
-        return;
-    }
-    if kind == 22 {
-        join_with_itself(
-            counts,
-            nodes,
-            lows,
-            highs,
-            live_nodes,
-            live_edges,
-            outgoing,
-            incoming,
-            call,
-        );
-        return;
-    }
-    if kind == 14 {
-        write_image(
-            counts,
-            nodes,
-            lows,
-            highs,
-            live_nodes,
-            live_edges,
-            outgoing,
-            incoming,
-            call,
-        );
-        return;
-    }
-    if kind == 7 || kind == 8 {
-        read_record(
-            counts,
-            nodes,
-            lows,
-            highs,
-            live_nodes,
-            live_edges,
-            outgoing,
-            incoming,
-            call,
-        );
-        return;
-    }
-    if kind == 16 || kind == 17 {
-        read_total(
-            counts,
-            nodes,
-            lows,
-            highs,
-            live_nodes,
-            live_edges,
-            outgoing,
-            incoming,
-            call,
-        );
-        return;
-    }
-    if kind == 20 {
-        read_nearest(
-            counts,
-            nodes,
-            lows,
-            highs,
-            live_nodes,
-            live_edges,
-            outgoing,
-            incoming,
-            call,
-        );
-        return;
-    }
-    read_node(
-        counts,
-        nodes,
-        lows,
-        highs,
-        live_nodes,
-        live_edges,
-        outgoing,
-        incoming,
-        call,
-    );
+    print::print_changed(changed)
 }
 
 // One call but a fresh store; the counts afterwards.
@@ -1126,7 +389,7 @@ fn change(
             call,
         );
     }
-    read(
+    reads::read(
         counts,
         nodes,
         lows,
@@ -1164,8 +427,8 @@ fn step(
             incoming,
         );
     }
-    let n = within(held.nodes, nodes);
-    let e = within(held.edges, lows);
+    let n = print::within(held.nodes, nodes);
+    let e = print::within(held.edges, lows);
     let counts = change(
         held.counts,
         &mut nodes[..n],

@@ -1,9 +1,9 @@
--- `replay_main::print_entries` is safe and ends. The measure is the number of words left; nothing has to hold from turn to turn.
+-- `replay::print::print_entries` is safe and ends. The measure is the number of words left; nothing has to hold from turn to turn.
 use Prim.Native.Nat.{_-_}
 use native.Mathlib.Omega.{arith}
 use borrow.Author.Needs.{needs}
-use Rattle.replay_main.proofs.print_entries.Statement.{statement}
-use Rattle.replay_main.proofs.print_entries.Tie as tie
+use Rattle.replay.proofs.print.print_entries.Statement.{statement}
+use Rattle.replay.proofs.print.print_entries.Tie as tie
 
 abbrev Inv-loop : tie.InvT-loop
 Inv-loop slots count i₀ t4 i = Unit {0}

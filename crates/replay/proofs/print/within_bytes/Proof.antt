@@ -1,8 +1,8 @@
--- `replay_main::within_bytes` meets its contract.
+-- `replay::print::within_bytes` meets its contract.
 use native.Mathlib.Omega.{arith}
 use Rattle.io.proofs.Counting.{counts}
-use Rattle.replay_main.proofs.within_bytes.Statement.{statement}
-use Rattle.replay_main.proofs.within_bytes.Tie as tie
+use Rattle.replay.proofs.print.within_bytes.Statement.{statement}
+use Rattle.replay.proofs.print.within_bytes.Tie as tie
 
 returns : tie.Need-returns
 returns c = counts _ _ (omega arith)

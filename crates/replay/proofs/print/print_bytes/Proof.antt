@@ -1,10 +1,10 @@
--- `replay_main::print_bytes` is safe and ends. The measure is the number of bytes left; nothing has to hold from turn to turn.
+-- `replay::print::print_bytes` is safe and ends. The measure is the number of bytes left; nothing has to hold from turn to turn.
 use Prim.Native.Nat.{_-_}
 use native.Mathlib.Omega.{arith}
 use lib.ListN.{length}
 use borrow.Author.Needs.{needs}
-use Rattle.replay_main.proofs.print_bytes.Statement.{statement}
-use Rattle.replay_main.proofs.print_bytes.Tie as tie
+use Rattle.replay.proofs.print.print_bytes.Statement.{statement}
+use Rattle.replay.proofs.print.print_bytes.Tie as tie
 
 abbrev Inv-loop : tie.InvT-loop
 Inv-loop bytes count i₀ t4 i = Unit {0}

@@ -1,9 +1,9 @@
--- `replay_main::clear_words` is safe and ends. The count is at most the number of words looked at; the measure is the number of words left.
+-- `replay::reads::clear_words` is safe and ends. The count is at most the number of words looked at; the measure is the number of words left.
 use Prim.Native.Nat.{_-_, _≤_}
 use native.Mathlib.Omega.{arith}
 use borrow.Author.Needs.{needs}
-use Rattle.replay_main.proofs.clear_words.Statement.{statement}
-use Rattle.replay_main.proofs.clear_words.Tie as tie
+use Rattle.replay.proofs.reads.clear_words.Statement.{statement}
+use Rattle.replay.proofs.reads.clear_words.Tie as tie
 
 abbrev Inv-loop : tie.InvT-loop
 Inv-loop words n₀ i₀ n i = n ≤ i

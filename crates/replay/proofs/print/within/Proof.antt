@@ -1,8 +1,8 @@
--- `replay_main::within` meets its contract.
+-- `replay::print::within` meets its contract.
 use native.Mathlib.Omega.{arith}
 use Rattle.io.proofs.Counting.{counts}
-use Rattle.replay_main.proofs.within.Statement.{statement}
-use Rattle.replay_main.proofs.within.Tie as tie
+use Rattle.replay.proofs.print.within.Statement.{statement}
+use Rattle.replay.proofs.print.within.Tie as tie
 
 returns : tie.Need-returns
 returns c = counts _ _ (omega arith)
