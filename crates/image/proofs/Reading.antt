@@ -28,8 +28,7 @@ use Rattle.shape.specs.Laws.NewBase.{NewBase}
 use Rattle.compact.specs.Laws.Slots.{rewritten-range}
 use Rattle.compact.specs.Laws.Bases.{rebuilt-renewed}
 use Rattle.compact.specs.Bases.{based}
-use Rattle.compact.specs.Laws.Holding.{front}
-use Rattle.compact.specs.Laws.Holding.{Holding, reset-same, reset-word, sized-as}
+use Rattle.compact.specs.Laws.Holding.{front, Holding, reset-same, reset-word, sized-as}
 use Rattle.bits.specs.Fields.{Room}
 use Rattle.image.specs.Spread.{spread, SpreadFits}
 use Rattle.image.specs.Directions.{AxisReadable, AxisRead}

@@ -7,9 +7,8 @@ use borrow.Author.Needs.{needs}
 use Rattle.liveness.specs.Flags.{live-flags}
 use Rattle.shape.specs.Index.{Rewritten}
 use Rattle.shape.specs.Laws.Indexing.{rewritten-none}
-use Rattle.compact.proofs.Turns.{kept-already}
+use Rattle.compact.proofs.Turns.{kept-already, kept-live, kept-all}
 use Rattle.compact.specs.Slots.{kept-word}
-use Rattle.compact.proofs.Turns.{kept-live, kept-all}
 use Rattle.compact.specs.Laws.Turns.{rewritten-next, Passed, passed-none, passed-live, passed-dead}
 use Rattle.compact.proofs.slots.keep_live.Statement.{statement}
 use Rattle.compact.proofs.slots.keep_live.Tie as tie

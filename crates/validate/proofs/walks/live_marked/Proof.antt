@@ -8,12 +8,11 @@ use lib.ListN.{getD}
 use borrow.Author.Tests.{ltb-true, eq-eqb, eqb-true}
 use Rattle.plain.specs.Laws.Booleans.{by-test, below-or-not}
 use Rattle.plain.specs.Laws.ListLaws.{all-of, member-below}
-use Rattle.liveness.specs.Flags.{bit, live-bit}
+use Rattle.liveness.specs.Flags.{bit, live-bit, live-flags}
 use Rattle.liveness.specs.Laws.Flags.{flag-at}
 use native.Mathlib.Omega.{arith}
 use borrow.Author.Needs.{needs}
 use Rattle.plain.specs.Lists.{all, from}
-use Rattle.liveness.specs.Flags.{live-flags}
 use Rattle.validate.specs.Laws.Passing.{refused, accepted, rest, rest-first, rest-more, rest-fails, rest-none}
 use Rattle.validate.specs.Walks.{Within, marked-if-live}
 use Rattle.validate.proofs.Marking.{within-and}
