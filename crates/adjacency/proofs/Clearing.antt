@@ -17,12 +17,12 @@ use Rattle.liveness.specs.Flags.{live-flags}
 use Rattle.liveness.specs.Laws.Flags.{length-flags}
 use Rattle.liveness.specs.Calls.{Cleared}
 use Rattle.shape.specs.Shape.{adjacency-in, live-in}
-use Rattle.adjacency.specs.declared.cursor.AdjacencyCursor.{AdjacencyCursor}
-use Rattle.adjacency.specs.declared.cursor.Found.the-variants.{Edge, Done}
-use Rattle.adjacency.specs.declared.cursor.Step.{Step}
-use Rattle.adjacency.specs.declared.cursor.Start.{Start}
-use Rattle.adjacency.specs.Cursor.{remaining, Ready, Sought}
-use Rattle.adjacency.specs.Laws.Reading.{before-first, before-fails, sought-whole, sought-over}
+use Rattle.cursor.specs.declared.AdjacencyCursor.{AdjacencyCursor}
+use Rattle.cursor.specs.declared.Found.the-variants.{Edge, Done}
+use Rattle.cursor.specs.declared.Step.{Step}
+use Rattle.cursor.specs.declared.Start.{Start}
+use Rattle.cursor.specs.Cursor.{remaining, Ready, Sought}
+use Rattle.cursor.specs.Laws.Reading.{before-first, before-fails, sought-whole, sought-over}
 use Rattle.adjacency.specs.Walk.{walk-in, entries-column, next-column, Started}
 use Rattle.adjacency.specs.Laws.Walk.{started-left, started-seekable}
 use Rattle.adjacency.specs.Axis.{Advanceable}

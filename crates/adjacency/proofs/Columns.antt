@@ -11,9 +11,9 @@ use borrow.Author.Tests.{ltb-true}
 use Rattle.plain.specs.Laws.Booleans.{by-test}
 use Rattle.shape.specs.Columns.{Sized}
 use Rattle.adjacency.specs.declared.axis.Axis.{Axis}
-use Rattle.adjacency.specs.declared.cursor.AdjacencyCursor.{AdjacencyCursor}
-use Rattle.adjacency.specs.declared.cursor.Step.{Step}
-use Rattle.adjacency.specs.Cursor.{Seekable, Sought}
+use Rattle.cursor.specs.declared.AdjacencyCursor.{AdjacencyCursor}
+use Rattle.cursor.specs.declared.Step.{Step}
+use Rattle.cursor.specs.Cursor.{Seekable, Sought}
 use Rattle.adjacency.specs.Index.{Based, base-bounds, bounds-at}
 use Rattle.adjacency.specs.Walk.{entries-column, next-column, ColumnsThere}
 use Rattle.adjacency.specs.Laws.Walk.{column-length, column-word}

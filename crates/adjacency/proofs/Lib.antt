@@ -1,9 +1,5 @@
 mod Appending
 mod Emptying
-mod Summing
 mod Columns
 mod Clearing
-mod Stepping
-mod Seeking
-mod Reading
 mod Starting

@@ -22,9 +22,9 @@ use Rattle.shape.specs.Chains.{chain, until, ring, In}
 use Rattle.shape.specs.Laws.Chains.{in-none, chain-agree, run-short, until-agree, ring-line, ring-last, ring-below, line-last}
 use Rattle.shape.specs.Laws.Frames.{between-agree}
 use Rattle.shape.specs.Laws.Walking.{between-none, until-wider, until-first}
-use Rattle.adjacency.specs.declared.cursor.AdjacencyCursor.{AdjacencyCursor}
+use Rattle.cursor.specs.declared.AdjacencyCursor.{AdjacencyCursor}
 use Rattle.adjacency.specs.Rings.{EndsReadable, ring-ends}
-use Rattle.adjacency.specs.Cursor.{word, part-left, ring-left, remaining, exhausted, PartWithin, Closed}
+use Rattle.cursor.specs.Cursor.{word, part-left, ring-left, remaining, exhausted, PartWithin, Closed}
 use Rattle.adjacency.specs.Walk.{entries-column, next-column, Readable, Started}
 use Rattle.adjacency.specs.Laws.Walk.{column-length, column-word, next-length, read-below}
 

@@ -7,10 +7,10 @@ use denote.Ref.{now}
 use Rattle.liveness.specs.Flags.{live-flags}
 use Rattle.shape.specs.Columns.{Sized}
 use Rattle.adjacency.specs.declared.axis.Axis.{Axis}
-use Rattle.adjacency.specs.declared.cursor.AdjacencyCursor.{AdjacencyCursor}
-use Rattle.adjacency.specs.declared.cursor.Found.{Found}
-use Rattle.adjacency.specs.declared.cursor.Step.{Step}
-use Rattle.adjacency.specs.Cursor.{listed, Seekable, Sought}
+use Rattle.cursor.specs.declared.AdjacencyCursor.{AdjacencyCursor}
+use Rattle.cursor.specs.declared.Found.{Found}
+use Rattle.cursor.specs.declared.Step.{Step}
+use Rattle.cursor.specs.Cursor.{listed, Seekable, Sought}
 use Rattle.adjacency.specs.Walk.{column, entries-column, next-column}
 
 -- the compressed index's offsets

@@ -11,7 +11,7 @@ use Rattle.plain.specs.Numbers.{LIMIT}
 use Rattle.plain.specs.Lists.{member}
 use Rattle.plain.specs.Reads.{live-count}
 use Rattle.liveness.specs.Flags.{live-flags, packed}
-use Rattle.adjacency.specs.declared.cursor.AdjacencyCursor.{AdjacencyCursor}
+use Rattle.cursor.specs.declared.AdjacencyCursor.{AdjacencyCursor}
 use Rattle.adjacency.specs.Walk.{Readable}
 use Rattle.adjacency.specs.Axis.{Advanceable}
 

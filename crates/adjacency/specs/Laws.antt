@@ -1,9 +1,6 @@
--- The laws of index, rings, cursor and walks, for the crates above to cite.
-pub mod Cursor
+-- The laws of index, rings and walks, for the crates above to cite.
 pub mod Walk
 pub mod Clear
-pub mod Reading
 pub mod StoreClears
 pub mod StoreWalks
 pub mod Rings
-pub mod Finding

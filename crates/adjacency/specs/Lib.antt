@@ -1,8 +1,5 @@
 pub mod Index
 pub mod Rings
-pub mod Cursor
-pub mod Finding
-pub mod Summing
 pub mod Walk
 pub mod Axis
 pub mod Clear

@@ -12,8 +12,8 @@ use Rattle.liveness.specs.Flags.{live-flags}
 use Rattle.shape.specs.Columns.{Sized}
 use Rattle.shape.specs.Shape.{adjacency-in, part, walk-of}
 use Rattle.shape.specs.Checked.{Bounded, LiveRight, Index, Rings, Runs}
-use Rattle.adjacency.specs.declared.cursor.Start.{Start}
-use Rattle.adjacency.specs.Cursor.{part-left, ring-left, Ready}
+use Rattle.cursor.specs.declared.Start.{Start}
+use Rattle.cursor.specs.Cursor.{part-left, ring-left, Ready}
 
 -- ---- what a walk reads
 

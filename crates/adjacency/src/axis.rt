@@ -6,15 +6,15 @@ ghost use Prim.Native.Nat.{_<_};
 ghost use lib.ListN.{length};
 ghost use Rattle.liveness.specs.Flags.{live-flags};
 ghost use Rattle.shape.specs.Columns.{Sized};
-ghost use Rattle.adjacency.specs.Cursor.{listed, Seekable, Sought};
+ghost use Rattle.cursor.specs.Cursor.{listed, Seekable, Sought};
 ghost use Rattle.adjacency.specs.Index.{bounds-at};
 ghost use Rattle.adjacency.specs.Axis.{offsets-column, Columns, stepped, Advanceable, Advanced};
-use crate::cursor::AdjacencyCursor;
-use crate::cursor::Found;
-use crate::cursor::Step;
 use crate::index;
 use crate::index::BaseBounds;
 use crate::walk;
+use cursor::AdjacencyCursor;
+use cursor::Found;
+use cursor::Step;
 
 // `entries` is what a walk reads before the ring: the compressed index's edge numbers, or in their place the run links, where the walk is linked. `next` is the
 // ring links.

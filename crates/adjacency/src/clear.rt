@@ -6,13 +6,13 @@ ghost use mathlib.Core.Bool.{true};
 ghost use mathlib.Core.List.{[], _∷_};
 ghost use Prim.Native.Nat.{_*_, _≤_};
 ghost use lib.ListN.{length};
-ghost use Rattle.adjacency.specs.Cursor.{remaining};
+ghost use Rattle.cursor.specs.Cursor.{remaining};
 ghost use Rattle.adjacency.specs.Walk.{walk-in, entries-column, next-column};
 ghost use Rattle.adjacency.specs.Clear.{Retired, LeftClearable, Clearable};
 use crate::axis::next_listed;
-use crate::cursor::AdjacencyCursor;
-use crate::cursor::Found;
 use crate::walk;
+use cursor::AdjacencyCursor;
+use cursor::Found;
 use plain::Counts;
 
 // Makes an edge dead. Answers 1 where it was live, else 0.

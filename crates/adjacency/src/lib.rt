@@ -3,7 +3,6 @@
 
 pub mod axis;
 pub mod clear;
-pub mod cursor;
 pub mod index;
 pub mod rings;
 pub mod walk;

@@ -8,15 +8,15 @@ ghost use Prim.Native.Nat.{_≤_};
 ghost use lib.ListN.{length};
 ghost use Rattle.plain.specs.Lists.{written};
 ghost use Rattle.shape.specs.Columns.{end-at};
-ghost use Rattle.adjacency.specs.Cursor.{ListWritten};
+ghost use Rattle.cursor.specs.Cursor.{ListWritten};
 ghost use Rattle.adjacency.specs.Walk.{walk-in, tombstoned-in, entries-column, next-column, ColumnsThere, Readable, Walkable, WalkFits, WalkSummable, Started};
-ghost use Rattle.adjacency.specs.Finding.{first-of, ends-at};
-ghost use Rattle.adjacency.specs.Summing.{sums-of};
-use crate::cursor::AdjacencyCursor;
-use crate::cursor::Start;
-use crate::cursor::Sums;
+ghost use Rattle.cursor.specs.Finding.{first-of, ends-at};
+ghost use Rattle.cursor.specs.Summing.{sums-of};
 use crate::index;
 use crate::rings;
+use cursor::AdjacencyCursor;
+use cursor::Start;
+use cursor::Sums;
 use plain::Counts;
 
 // Whether some edge is removed.

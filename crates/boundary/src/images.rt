@@ -5,7 +5,8 @@ use plain::Changed;
 use plain::Counts;
 ghost use Rattle.plain.specs.Devices.{box};
 ghost use Rattle.shape.specs.Lent.{at-entry, at-exit};
-ghost use Rattle.image.specs.Calls.{WriteOf, ReadOf};
+ghost use Rattle.image_write.specs.Calls.{WriteOf};
+ghost use Rattle.image_read.specs.Calls.{ReadOf};
 
 #[no_mangle]
 pub extern "C" fn lot_write_image(
@@ -24,7 +25,7 @@ pub extern "C" fn lot_write_image(
         (at-entry counts nodes lows highs «live_nodes» «live_edges» outgoing incoming)
         (now (work .entry)) (now (bytes .entry)) r (now (work .exit)) (now (bytes .exit)) ⌝ }
 {
-    image::write::write_image(
+    image_write::write_image(
         counts,
         nodes,
         lows,
@@ -55,7 +56,7 @@ pub extern "C" fn lot_read_image(
         (now (bytes .entry)) (r .number) (r .value)
         (at-exit (r .counts) nodes lows highs «live_nodes» «live_edges» outgoing incoming) ⌝ }
 {
-    image::read::read_image(
+    image_read::read_image(
         counts,
         nodes,
         lows,

@@ -2,11 +2,11 @@
 // The C header is lots.h beside this crate's src.
 
 pub mod chains; // crate nearest
-pub mod images; // crate image
+pub mod images; // crates image_write and image_read
 pub mod joins; // crate join
 pub mod maps; // crate renumbering
-pub mod skid; // crates strip and image
+pub mod skid; // crates strip and image_read
 pub mod slots; // crate view
 pub mod stores; // crates validate and strip
-pub mod walks; // crate view
+pub mod walks; // crate view_walks
 pub mod whole; // crate view

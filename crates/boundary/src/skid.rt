@@ -5,7 +5,7 @@ use plain::Counts;
 ghost use Rattle.plain.specs.Devices.{skid};
 ghost use Rattle.shape.specs.Lent.{at-entry, at-exit};
 ghost use Rattle.strip.specs.Fresh.{FreshOf};
-ghost use Rattle.image.specs.Calls.{ReadOf};
+ghost use Rattle.image_read.specs.Calls.{ReadOf};
 
 #[no_mangle]
 pub extern "C" fn lot_skid_fresh(
@@ -49,7 +49,7 @@ pub extern "C" fn lot_skid_read_image(
         (now (bytes .entry)) (r .number) (r .value)
         (at-exit (r .counts) nodes lows highs «live_nodes» «live_edges» outgoing incoming) ⌝ }
 {
-    image::read::skid_read_image(
+    image_read::skid_read_image(
         counts,
         nodes,
         lows,

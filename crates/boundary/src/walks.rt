@@ -26,7 +26,7 @@ pub extern "C" fn lot_out_degree(
         (at-entry counts nodes lows highs «live_nodes» «live_edges» outgoing incoming)
         (λ w. degree-of Outgoing (lists w) node) r ⌝ }
 {
-    view::walks::degree(
+    view_walks::degree(
         counts,
         nodes,
         lows,
@@ -56,7 +56,7 @@ pub extern "C" fn lot_in_degree(
         (at-entry counts nodes lows highs «live_nodes» «live_edges» outgoing incoming)
         (λ w. degree-of Incoming (lists w) node) r ⌝ }
 {
-    view::walks::degree(
+    view_walks::degree(
         counts,
         nodes,
         lows,
@@ -86,7 +86,7 @@ pub extern "C" fn lot_out_total(
         (at-entry counts nodes lows highs «live_nodes» «live_edges» outgoing incoming)
         (λ w. total-of Outgoing (lists w) node) r ⌝ }
 {
-    view::walks::total(
+    view_walks::total(
         counts,
         nodes,
         lows,
@@ -116,7 +116,7 @@ pub extern "C" fn lot_in_total(
         (at-entry counts nodes lows highs «live_nodes» «live_edges» outgoing incoming)
         (λ w. total-of Incoming (lists w) node) r ⌝ }
 {
-    view::walks::total(
+    view_walks::total(
         counts,
         nodes,
         lows,
@@ -147,7 +147,7 @@ pub extern "C" fn lot_outgoing(
         (at-entry counts nodes lows highs «live_nodes» «live_edges» outgoing incoming)
         (λ w room. walk-of Outgoing (lists w) node room) (now (slots .entry)) r (now (slots .exit)) ⌝ }
 {
-    view::walks::walk(
+    view_walks::walk(
         counts,
         nodes,
         lows,
@@ -179,7 +179,7 @@ pub extern "C" fn lot_incoming(
         (at-entry counts nodes lows highs «live_nodes» «live_edges» outgoing incoming)
         (λ w room. walk-of Incoming (lists w) node room) (now (slots .entry)) r (now (slots .exit)) ⌝ }
 {
-    view::walks::walk(
+    view_walks::walk(
         counts,
         nodes,
         lows,
@@ -211,7 +211,7 @@ pub extern "C" fn lot_successors(
         (at-entry counts nodes lows highs «live_nodes» «live_edges» outgoing incoming)
         (λ w room. neighbors-of Outgoing (lists w) node room) (now (slots .entry)) r (now (slots .exit)) ⌝ }
 {
-    view::walks::neighbors(
+    view_walks::neighbors(
         counts,
         nodes,
         lows,
@@ -243,7 +243,7 @@ pub extern "C" fn lot_predecessors(
         (at-entry counts nodes lows highs «live_nodes» «live_edges» outgoing incoming)
         (λ w room. neighbors-of Incoming (lists w) node room) (now (slots .entry)) r (now (slots .exit)) ⌝ }
 {
-    view::walks::neighbors(
+    view_walks::neighbors(
         counts,
         nodes,
         lows,
@@ -275,7 +275,7 @@ pub extern "C" fn lot_find(
         (at-entry counts nodes lows highs «live_nodes» «live_edges» outgoing incoming)
         (λ w. find-of (lists w) first second) r ⌝ }
 {
-    view::finding::find(
+    view_walks::finding::find(
         counts,
         nodes,
         lows,

@@ -33,10 +33,10 @@ use Rattle.shape.specs.Laws.Reading.{plain-node-bound, plain-edge-bound, plain-
 use Rattle.compact.specs.Bases.{Compactable, AxisCompacted, based}
 use Rattle.compact.specs.Calls.{AxisCanonical, Canonical}
 use Rattle.compact.specs.Dropping.{Droppable, Dropped}
-use Rattle.compact.specs.Slots.{kept-word}
+use Rattle.survivors.specs.Slots.{kept-word}
 use Rattle.compact.specs.Laws.Holding.{all-lists}
 use Rattle.compact.proofs.Dropping.{axis-compactable, first-half, drop-room}
-use Rattle.compact.proofs.Turns.{rewritten-same, kept-all-live}
+use Rattle.survivors.specs.Laws.Turns.{rewritten-same, kept-all-live}
 
 -- ---- a canonical store compacted
 

@@ -14,7 +14,7 @@ use Rattle.liveness.specs.Flags.{live-flags}
 use Rattle.shape.specs.Columns.{end-at}
 use Rattle.shape.specs.Index.{Rewritten}
 use Rattle.compact.specs.Bases.{AxisCompacted, Compactable, Rebuildable, Rebuilt}
-use Rattle.compact.specs.Slots.{Translatable, kept-word, translated-word}
+use Rattle.survivors.specs.Slots.{Translatable, kept-word, translated-word}
 
 module _ {ws : List ℕ} {ce cn : ℕ} {live : List ℕ} {bound : ℕ} {node-map : List ℕ} {n m : ℕ} {entries : List ℕ}
     (pre : Compactable ws ce cn live bound node-map n m entries) where

@@ -26,14 +26,14 @@ use Rattle.shape.specs.Shape.{Words, node-live, edge-live, axis-words, lists, n
 use Rattle.shape.specs.Laws.NewBase.{NewBase}
 use Rattle.compact.specs.Bases.{based, Compactable, AxisCompacted}
 use Rattle.compact.specs.Dropping.{Droppable, Dropped}
-use Rattle.compact.specs.Slots.{kept-word, live-words-of}
+use Rattle.survivors.specs.Slots.{kept-word, live-words-of}
 use Rattle.compact.specs.Laws.Bases.{rebuilt-base, rebuilt-renewed}
 use Rattle.compact.specs.Laws.Holding.{front, Holding, reset-same, reset-word, sized-as}
-use Rattle.compact.specs.Laws.Left.{end-in, left-sound, left-nodes, left-edges, nodes-left, lows-left, highs-left, ends-left}
-use Rattle.compact.specs.Laws.Slots.{live-few}
+use Rattle.survivors.specs.Laws.Left.{end-in, left-sound, left-nodes, left-edges, nodes-left, lows-left, highs-left, ends-left}
+use Rattle.survivors.specs.Laws.Slots.{live-few}
 use Rattle.compact.proofs.Bases.{rebuildable}
 use Rattle.compact.proofs.Dropping.{axis-compactable, first-half, drop-room}
-use Rattle.compact.proofs.Turns.{rewritten-through}
+use Rattle.survivors.specs.Laws.Turns.{rewritten-through}
 
 -- a function of the live slots, slot by slot
 slots-mapped : {A : Type 0} (f g : ℕ → A) (flags : List Bool) → ((i : ℕ) → i < live-count flags → f i ≡ g (getD (live-slots flags) i 0))

@@ -16,8 +16,8 @@ use Rattle.shape.specs.Shape.{Words, axis-words, edge-capacity, edge-live, node
 use Rattle.relocate.specs.Laws.Stores.{checked-end}
 use Rattle.compact.specs.Bases.{AxisCompacted, Compactable}
 use Rattle.compact.specs.Dropping.{Droppable}
-use Rattle.compact.specs.Slots.{Keepable, WeightsKeepable}
-use Rattle.compact.specs.Laws.Slots.{live-few, slots-there}
+use Rattle.survivors.specs.Slots.{Keepable, WeightsKeepable}
+use Rattle.survivors.specs.Laws.Slots.{live-few, slots-there}
 
 -- ---- a part of a slice up to its end
 

@@ -1,4 +1,4 @@
--- The ways that a compaction ends, each by what the program has tested.
+-- The ways that a compaction ends, by what it answers before it begins: refused, or the store settled.
 use Prim.Native.Nat.{ℕ, zero, suc, _*_, _≤_, _<_}
 use mathlib.Core.Path.{_≡_, refl, sym, ap, _∙_}
 use mathlib.Core.Bool.{Bool, true}
@@ -8,6 +8,8 @@ use native.Mathlib.Omega.{arith}
 use lib.ListN.{length, take, drop, length-map, length-append, length-drop}
 use lib.Seq.{take-at, drop-at}
 use borrow.Author.Tests.{le-leb, lt-leb}
+use Rattle.plain.specs.declared.Answer.{Answer}
+use Rattle.plain.specs.declared.Counts.{Counts}
 use Rattle.plain.specs.declared.TraversalDirection.the-variants.{Outgoing}
 use Rattle.plain.specs.Calls.{Compacted, compaction, judged-compaction}
 use Rattle.plain.specs.Compaction.{Survivors, survivors, source-of, target-of, renumbering, adjacency, compacted}
@@ -25,7 +27,7 @@ use Rattle.shape.specs.Laws.NewBase.{fitted-total}
 use Rattle.shape.specs.Laws.Reading.{plain-node-bound, plain-edge-bound, plain-node-flags, plain-edge-flags}
 use Rattle.validate.specs.Judging.{Judged}
 use Rattle.compact.specs.Calls.{compacting-of, CompactOf}
-use Rattle.compact.specs.Settling.{Settleable, Settling}
+use Rattle.compact.specs.Settling.{Settleable, Settling, Opening, unsound, nodes-short, edges-short, work-short, opens}
 use Rattle.compact.specs.Laws.Holding.{holding-shape, holding-state, holding-checked, holding-canonical, canonical-leaves}
 use Rattle.compact.proofs.Again.{dropped-again}
 use Rattle.compact.proofs.Compacted.{dropped-holding, dropped-renewed}
@@ -54,8 +56,8 @@ module _ (w : Words) (node-map edge-map work : List ℕ) where
   }
 
   -- "words are no store | 1 | rule 1 to 7 | everything"
-  pub compact-judged : {rule : ℕ} → Judged w rule → (rule ≡ 0 → ⊥) → CompactOf w node-map edge-map work 1 rule w node-map edge-map work
-  compact-judged {rule} j broke = by rule (j .first) broke
+  judged : {rule : ℕ} → Judged w rule → (rule ≡ 0 → ⊥) → CompactOf w node-map edge-map work 1 rule w node-map edge-map work
+  judged {rule} j broke = by rule (j .first) broke
     where
       by : (rule : ℕ) → rule ≡ broken w → (rule ≡ 0 → ⊥) → CompactOf w node-map edge-map work 1 rule w node-map edge-map work
       by zero is broke = absurd (broke refl)
@@ -75,15 +77,15 @@ module _ (w : Words) (node-map edge-map work : List ℕ) where
     abbrev short : ℕ → Compacted
     short needed = record { number = 2; value = needed; node-map = []; edge-map = []; work = []; after = state-of (shape-of w) }
 
-    pub nodes-short : length node-map < w .counts .nodes .bound → CompactOf w node-map edge-map work 2 (w .counts .nodes .bound) w node-map edge-map work
+    few-nodes : length node-map < w .counts .nodes .bound → CompactOf w node-map edge-map work 2 (w .counts .nodes .bound) w node-map edge-map work
     unfolding compaction first-short
-    nodes-short h =
+    few-nodes h =
         kept (short (w .counts .nodes .bound)) (told ∙ rw (plain-node-bound w, lt-leb (w .counts .nodes .bound) (length node-map) h)) refl refl refl refl (λ q. omega arith)
 
     module _ (nodes-room : w .counts .nodes .bound ≤ length node-map) where
-      pub edges-short : length edge-map < w .counts .edges .bound → CompactOf w node-map edge-map work 2 (w .counts .edges .bound) w node-map edge-map work
+      few-edges : length edge-map < w .counts .edges .bound → CompactOf w node-map edge-map work 2 (w .counts .edges .bound) w node-map edge-map work
       unfolding compaction first-short
-      edges-short h =
+      few-edges h =
           kept (short (w .counts .edges .bound))
           (told ∙ rw (
             plain-node-bound w,
@@ -94,9 +96,9 @@ module _ (w : Words) (node-map edge-map work : List ℕ) where
           refl refl refl refl (λ q. omega arith)
 
       module _ (edges-room : w .counts .edges .bound ≤ length edge-map) where
-        pub work-short : length work < 2 * w .counts .edges .live → CompactOf w node-map edge-map work 2 (2 * w .counts .edges .live) w node-map edge-map work
+        little-work : length work < 2 * w .counts .edges .live → CompactOf w node-map edge-map work 2 (2 * w .counts .edges .live) w node-map edge-map work
         unfolding compaction first-short
-        work-short h =
+        little-work h =
             kept (short (2 * w .counts .edges .live))
             (told ∙ rw (
               plain-node-bound w,
@@ -128,7 +130,7 @@ module _ (w : Words) (node-map edge-map work : List ℕ) where
         ins-long = fitted-total (sound-left .ins) ∙ length-map (left .edges) target-of ∙ edges-left
 
         module _ (work-room : 2 * w .counts .edges .live ≤ length work) where
-          pub settleable : Settleable w node-map edge-map work
+          settleable : Settleable w node-map edge-map work
           settleable = record { checked = j .checked sound; nodes-room = nodes-room; edges-room = edges-room; work-room = work-room }
 
           -- the work slice holds the out-lists, then the in-lists
@@ -157,10 +159,10 @@ module _ (w : Words) (node-map edge-map work : List ℕ) where
                 ap length worked ∙ length-append (adjacency left) (drop (length (adjacency left)) work)
                 ∙ rw (length-drop (length (adjacency left)) work) (omega arith)
 
-          pub compact-done : {v : Words} {node-map' edge-map' work' : List ℕ} → Settling w node-map edge-map work v node-map' edge-map' work'
+          settled : {v : Words} {node-map' edge-map' work' : List ℕ} → Settling w node-map edge-map work v node-map' edge-map' work'
               → CompactOf w node-map edge-map work 0 0 v node-map' edge-map' work'
           unfolding compaction compacted first-short
-          compact-done {v} {node-map'} {edge-map'} {work'} done =
+          settled {v} {node-map'} {edge-map'} {work'} done =
               let is : compacting-of w (length node-map) (length edge-map) (length work)
               ≡ record { number = 0; value = 0; node-map = renumbering (node-flags (lists w)); edge-map = renumbering (edge-flags (lists w)); work = adjacency (survivors (lists w)); after = record { lists = compacted (lists w); compact = true } } =
               told ∙ rw (
@@ -197,3 +199,29 @@ module _ (w : Words) (node-map edge-map work : List ℕ) where
                     (dropped-renewed pre r);
                 leaves = canonical-leaves w v (r .lengths) (holding-canonical holding) (dropped-renewed pre r);
               }
+
+-- what an answer of 0 says
+opened : {rule node-map edge-map work : ℕ} {counts : Counts} {r : Answer} → Opening rule counts node-map edge-map work r → r .number ≡ 0
+    → (rule ≡ 0) × (counts .nodes .bound ≤ node-map) × (counts .edges .bound ≤ edge-map) × (2 * counts .edges .live ≤ work)
+opened (unsound broke) none = absurd (omega arith)
+opened (nodes-short sound few) none = absurd (omega arith)
+opened (edges-short sound nodes few) none = absurd (omega arith)
+opened (work-short sound nodes edges little) none = absurd (omega arith)
+opened (opens sound nodes edges room) none = (sound, nodes, edges, room)
+
+-- by that answer
+module _ {w : Words} {node-map edge-map work : List ℕ} {rule : ℕ} (j : Judged w rule) where
+  pub compact-refused : {r : Answer} → Opening rule (w .counts) (length node-map) (length edge-map) (length work) r → (r .number ≡ 0 → ⊥)
+      → CompactOf w node-map edge-map work (r .number) (r .value) w node-map edge-map work
+  compact-refused (unsound broke) some = judged w node-map edge-map work j broke
+  compact-refused (nodes-short sound few) some = few-nodes w node-map edge-map work j sound few
+  compact-refused (edges-short sound nodes few) some = few-edges w node-map edge-map work j sound nodes few
+  compact-refused (work-short sound nodes edges little) some = little-work w node-map edge-map work j sound nodes edges little
+  compact-refused (opens sound nodes edges room) some = absurd (some refl)
+
+  pub compact-settleable : {r : Answer} → Opening rule (w .counts) (length node-map) (length edge-map) (length work) r → r .number ≡ 0 → Settleable w node-map edge-map work
+  compact-settleable o none = let p = opened o none in settleable w node-map edge-map work j (p .0) (p .1) (p .2) (p .3)
+
+  pub compact-settled : {r : Answer} {v : Words} {node-map' edge-map' work' : List ℕ} → Opening rule (w .counts) (length node-map) (length edge-map) (length work) r → r .number ≡ 0
+      → Settling w node-map edge-map work v node-map' edge-map' work' → CompactOf w node-map edge-map work 0 0 v node-map' edge-map' work'
+  compact-settled o none did = let p = opened o none in settled w node-map edge-map work j (p .0) (p .1) (p .2) (p .3) did

@@ -1,5 +1,3 @@
-mod Turns
-mod Working
 mod Bases
 mod Dropping
 mod Settling

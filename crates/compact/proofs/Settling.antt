@@ -14,9 +14,9 @@ use Rattle.liveness.specs.Laws.Flags.{length-flags}
 use Rattle.shape.specs.Shape.{Words, edge-live, node-live}
 use Rattle.compact.specs.Dropping.{Droppable}
 use Rattle.compact.specs.Settling.{Settleable}
-use Rattle.compact.specs.Slots.{MapFits}
-use Rattle.compact.specs.Working.{Workable}
-use Rattle.compact.specs.Laws.Slots.{mapped-long, written-from}
+use Rattle.survivors.specs.Slots.{MapFits}
+use Rattle.survivors.specs.Working.{Workable}
+use Rattle.survivors.specs.Laws.Slots.{mapped-long, written-from}
 
 pub written-at : (flags : List Bool) (entry : List ℕ) (x : ℕ) → getD flags x false ≡ true → getD (written (renumbering flags) entry) x 0 ≡ rank flags x
 written-at flags entry x live = written-from 0 flags entry x live ∙ zero-add (rank flags x)

@@ -12,7 +12,7 @@ use Rattle.shape.specs.Columns.{Sized, end-at}
 use Rattle.shape.specs.Index.{Rewritten, before, ends-of}
 use Rattle.shape.specs.Shape.{lists}
 use Rattle.adjacency.specs.Index.{Compressible}
-use Rattle.compact.specs.Slots.{kept-word, translated-word}
+use Rattle.survivors.specs.Slots.{kept-word, translated-word}
 
 -- The first m edges have their ends in place, each below n, and the entries are there.
 pub record Rebuildable (ws : List ℕ) (ce cn n m : ℕ) (entries : List ℕ) : Type 0 where

@@ -12,7 +12,7 @@ use Rattle.shape.specs.Index.{Rewritten}
 use Rattle.shape.specs.Kept.{SameLengths}
 use Rattle.shape.specs.Shape.{Words, edge-capacity, edge-live, node-capacity, node-live}
 use Rattle.compact.specs.Bases.{AxisCompacted, based}
-use Rattle.compact.specs.Slots.{WeightsKept, kept-word}
+use Rattle.survivors.specs.Slots.{WeightsKept, kept-word}
 
 -- A checked store, the number of every live node in the node map, and room for both directions' lists.
 pub record Droppable (w : Words) (node-map work : List ℕ) : Type 0 where

@@ -20,7 +20,7 @@ use Rattle.shape.specs.Chains.{chain, until, ring}
 use Rattle.shape.specs.Rules.{rule-1, rule-2, rule-3, rule-4, rule-5, rule-6, rule-7, index-right, ring-right, last-of, runs-right, walks-right, weights-right, broken}
 use Rattle.shape.specs.Shape.{Words, store, axis-words, base-of, run-list, run-of, ring-of, axis-of, shape-of, plain-of, lists}
 use Rattle.compact.specs.Calls.{compacting-of}
-use Rattle.compact.specs.Lists.{live-walks}
+use Rattle.survivors.specs.Lists.{live-walks}
 
 abbrev slots : ℕ → ℕ → ℕ → Slots
 slots bound base live = record { bound = bound; base = base; live = live }

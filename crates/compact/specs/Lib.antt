@@ -1,7 +1,4 @@
 pub mod Survivors
-pub mod Slots
-pub mod Lists
-pub mod Working
 pub mod Bases
 pub mod Dropping
 pub mod Settling

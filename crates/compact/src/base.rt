@@ -1,8 +1,8 @@
 // A new compressed base of one direction.
 
-use crate::slots;
 use adjacency::index;
 use plain::NONE;
+use survivors::slots;
 ghost use Rattle.compact.specs.Bases.{Rebuildable, Rebuilt, Compactable, AxisCompacted};
 
 // Puts a new base in place of base, runs and rings: the offsets counted from the ends of `count_edges` edges, the joined lists copied from lent words, every

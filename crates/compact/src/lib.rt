@@ -1,22 +1,19 @@
 // Compaction: the dead slots are dropped, the live ones numbered from 0 in slot order, and the delta folded back into the compressed base. Port of compact.rs.
 
 pub mod base;
-pub mod lists;
-pub mod slots;
 
 use liveness;
+use plain::Answer;
 use plain::Changed;
 use plain::Counts;
 use plain::Slots;
 use plain::numbers;
 ghost use mathlib.Core.Path.{_≡_};
-ghost use Rattle.plain.specs.Lists.{written};
-ghost use Rattle.plain.specs.Compaction.{survivors, adjacency};
+ghost use Rattle.plain.specs.Compaction.{survivors};
 ghost use Rattle.shape.specs.Shape.{lists};
 ghost use Rattle.shape.specs.Lent.{lent, at-entry, at-exit};
 ghost use Rattle.compact.specs.Bases.{based};
-ghost use Rattle.compact.specs.Working.{Workable};
-ghost use Rattle.compact.specs.Settling.{Settleable, Settling};
+ghost use Rattle.compact.specs.Settling.{Settleable, Settling, Opening};
 ghost use Rattle.compact.specs.Calls.{CompactOf};
 ghost use Rattle.compact.specs.Dropping.{Droppable, Dropped};
 
@@ -29,40 +26,6 @@ pub fn all_based(count: u32) -> Slots
         base: count,
         live: count,
     }
-}
-
-// Writes the lists of the live nodes of both directions, by the edges' new numbers, to the start of `work`: "the new out adjacency, then the in adjacency".
-fn write_work(
-    counts: Counts,
-    nodes: &[u32],
-    lows: &[u32],
-    highs: &[u32],
-    live_nodes: &[u64],
-    live_edges: &[u64],
-    outgoing: &[u32],
-    incoming: &[u32],
-    edge_map: &[u32],
-    work: &mut [u32],
-)
-    requires { ⌜ Workable (lent counts nodes lows highs «live_nodes» «live_edges» outgoing incoming) (now «edge_map») (now work) ⌝ }
-    ensures { λ _. ⌜ now (work .exit) ≡ written (adjacency (survivors (lists
-        (at-entry counts nodes lows highs «live_nodes» «live_edges» outgoing incoming))))
-        (now (work .entry)) ⌝ }
-{
-    lists::write_both(
-        counts,
-        nodes,
-        lows,
-        highs,
-        live_nodes,
-        live_edges,
-        outgoing,
-        incoming,
-        work,
-    );
-    let edge_slots = counts.edges;
-    let m = edge_slots.live as usize;
-    slots::translate(work, 2 * m, edge_map);
 }
 
 // Drops the dead slots of a store: both directions are compacted, the payloads move down, and every slot is live. The node map is there, and the work slice holds
@@ -112,8 +75,8 @@ fn drop_dead(
         m,
         &work[m..],
     );
-    slots::keep_live(nodes, live_nodes, node_slots.bound as usize, n);
-    slots::keep_weights(lows, highs, live_edges, bound, m);
+    survivors::slots::keep_live(nodes, live_nodes, node_slots.bound as usize, n);
+    survivors::slots::keep_weights(lows, highs, live_edges, bound, m);
     liveness::reset_all_live(live_nodes, n);
     liveness::reset_all_live(live_edges, m);
     Counts {
@@ -145,9 +108,9 @@ fn settle(
 {
     let node_slots = counts.nodes;
     let edge_slots = counts.edges;
-    slots::write_map(live_nodes, node_slots.bound as usize, 0, node_map);
-    slots::write_map(live_edges, edge_slots.bound as usize, 0, edge_map);
-    write_work(
+    survivors::slots::write_map(live_nodes, node_slots.bound as usize, 0, node_map);
+    survivors::slots::write_map(live_edges, edge_slots.bound as usize, 0, edge_map);
+    survivors::lists::write_work(
         counts,
         nodes,
         lows,
@@ -173,7 +136,44 @@ fn settle(
     )
 }
 
-// Compaction: "1, then 2 in that order" of the node map, the edge map and the work slice. Refused, nothing is written.
+// What a compaction answers before it begins: "1, then 2 in that order" of the node map, the edge map and the work slice, by the rule that its store breaks.
+fn opening(rule: u32, counts: Counts, node_map: usize, edge_map: usize, work: usize) -> Answer
+    ensures { λ r. ⌜ Opening rule counts «node_map» «edge_map» work r ⌝ }
+{
+    if rule != 0 {
+        return Answer {
+            number: numbers::NO_STORE,
+            value: rule as u64,
+        };
+    }
+    let node_slots = counts.nodes;
+    let edge_slots = counts.edges;
+    if node_map < node_slots.bound as usize {
+        return Answer {
+            number: numbers::TOO_SHORT,
+            value: node_slots.bound as u64,
+        };
+    }
+    if edge_map < edge_slots.bound as usize {
+        return Answer {
+            number: numbers::TOO_SHORT,
+            value: edge_slots.bound as u64,
+        };
+    }
+    let needed = 2 * edge_slots.live as usize;
+    if work < needed {
+        return Answer {
+            number: numbers::TOO_SHORT,
+            value: needed as u64,
+        };
+    }
+    Answer {
+        number: numbers::DONE,
+        value: 0,
+    }
+}
+
+// Compaction. Refused, nothing is written.
 pub fn compact(
     counts: Counts,
     nodes: &mut [u32],
@@ -203,34 +203,11 @@ pub fn compact(
         outgoing,
         incoming,
     );
-    if rule != 0 {
+    let told = opening(rule, counts, node_map.len(), edge_map.len(), work.len());
+    if told.number != 0 {
         return Changed {
-            number: numbers::NO_STORE,
-            value: rule as u64,
-            counts,
-        };
-    }
-    let node_slots = counts.nodes;
-    let edge_slots = counts.edges;
-    let needed = 2 * edge_slots.live as usize;
-    if node_map.len() < node_slots.bound as usize {
-        return Changed {
-            number: numbers::TOO_SHORT,
-            value: node_slots.bound as u64,
-            counts,
-        };
-    }
-    if edge_map.len() < edge_slots.bound as usize {
-        return Changed {
-            number: numbers::TOO_SHORT,
-            value: edge_slots.bound as u64,
-            counts,
-        };
-    }
-    if work.len() < needed {
-        return Changed {
-            number: numbers::TOO_SHORT,
-            value: needed as u64,
+            number: told.number,
+            value: told.value,
             counts,
         };
     }

@@ -17,7 +17,7 @@ use Rattle.plain.specs.History.{closing-image}
 use Rattle.shape.specs.Shape.{Words, shape-of}
 use Rattle.shape.specs.Steps.{state-of}
 use Rattle.compact.specs.Calls.{CompactOf}
-use Rattle.image.specs.Calls.{WriteOf}
+use Rattle.image_write.specs.Calls.{WriteOf}
 
 -- A compaction of store w, by the record of its entry's contract: the three slices lent, the answer, the store and the slices then.
 pub record Compacting (w : Words) : Type 0 where

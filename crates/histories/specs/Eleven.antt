@@ -40,7 +40,8 @@ use Rattle.strip.specs.Strip.{StripOf}
 use Rattle.view.specs.Calls.{Answered, Recorded, Totalled, Replied}
 use Rattle.compact.specs.Calls.{CompactOf}
 use Rattle.join.specs.Calls.{LentMaps, JoinOf}
-use Rattle.image.specs.Calls.{WriteOf, ReadOf}
+use Rattle.image_write.specs.Calls.{WriteOf}
+use Rattle.image_read.specs.Calls.{ReadOf}
 use Rattle.nearest.specs.Chains.{nearest as nearest-chain}
 use Rattle.nearest.specs.Calls.{Searched, judged-search, search-unless, work-needed, chain-answer, nearest-lot, NearestOf}
 

@@ -14,7 +14,7 @@ use Rattle.shape.specs.Steps.{state-of}
 use Rattle.strip.specs.Fresh.{FreshOf}
 use Rattle.strip.specs.Strip.{StripOf}
 use Rattle.compact.specs.Calls.{CompactOf}
-use Rattle.image.specs.Calls.{ReadOf}
+use Rattle.image_read.specs.Calls.{ReadOf}
 
 -- A call as it is made: a call of a history, and what the slices hold that are lent for its answers, which is arbitrary.
 pub data Request : Type 0 where

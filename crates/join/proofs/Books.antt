@@ -20,12 +20,12 @@ use Rattle.shape.specs.Columns.{end-at}
 use Rattle.shape.specs.Laws.Reading.{plain-node-flags}
 use Rattle.shape.specs.Shape.{Words, axis-words, edge-capacity, edge-live, lists, node-capacity, node-live}
 use Rattle.adjacency.specs.Laws.StoreWalks.{checked-walkable}
-use Rattle.compact.specs.Laws.Left.{end-in, ends-left, slot-low}
-use Rattle.compact.specs.Laws.Lists.{lists-live, lists-renumbered, lists-total}
-use Rattle.compact.specs.Lists.{live-walks}
-use Rattle.compact.specs.Laws.Slots.{slots-there}
-use Rattle.join.specs.Sides.{EndsReadable, EntriesReadable, side-ends, side-entries, side-of}
-use Rattle.join.specs.Slots.{LiveReadable}
+use Rattle.survivors.specs.Laws.Left.{end-in, ends-left, slot-low}
+use Rattle.survivors.specs.Laws.Lists.{lists-live, lists-renumbered, lists-total}
+use Rattle.survivors.specs.Lists.{live-walks}
+use Rattle.survivors.specs.Laws.Slots.{slots-there}
+use Rattle.join_columns.specs.Sides.{EndsReadable, EntriesReadable, side-ends, side-entries, side-of}
+use Rattle.join_columns.specs.Slots.{LiveReadable}
 
 -- the lists of survivors in a direction
 abbrev pub lists-in : TraversalDirection → Survivors → List (List ℕ)

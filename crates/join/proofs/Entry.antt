@@ -21,10 +21,10 @@ use Rattle.shape.specs.Steps.{state-of}
 use Rattle.shape.specs.Laws.Reading.{plain-node-bound, plain-edge-bound, plain-node-flags, plain-edge-flags}
 use Rattle.validate.specs.Judging.{Judged}
 use Rattle.compact.specs.Laws.Holding.{Holding, holding-shape, holding-state, holding-checked, holding-canonical, canonical-leaves}
-use Rattle.join.specs.Answers.{sizes-of}
+use Rattle.join_columns.specs.Answers.{sizes-of}
 use Rattle.join.specs.Calls.{LentMaps, joining-of, JoinOf}
 use Rattle.join.specs.Settling.{Settleable, Settled}
-use Rattle.join.specs.Laws.Answers.{first-sound, second-sound, join-done, accepted}
+use Rattle.join_columns.specs.Laws.Answers.{first-sound, second-sound, join-done, accepted}
 use Rattle.join.proofs.Settling.{settled-holding, settled-renewed}
 
 -- the sizes of a checked book are those of its plain lists

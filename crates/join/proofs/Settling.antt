@@ -32,17 +32,17 @@ use Rattle.shape.specs.Shape.{Words, axis-words, edge-capacity, edge-live, list
 use Rattle.shape.specs.Laws.Indexing.{joined-append, map-from-same}
 use Rattle.shape.specs.Laws.NewBase.{NewBase}
 use Rattle.compact.specs.Bases.{Rebuildable, based}
-use Rattle.compact.specs.Slots.{live-words-of}
+use Rattle.survivors.specs.Slots.{live-words-of}
 use Rattle.compact.specs.Laws.Bases.{rebuilt-base, rebuilt-renewed}
 use Rattle.compact.specs.Laws.Holding.{Holding, front, reset-same, reset-word, sized-as}
-use Rattle.compact.specs.Laws.Left.{end-in, highs-left, left-edges, left-nodes, left-sound, lows-left, nodes-left}
-use Rattle.compact.specs.Laws.Slots.{mapped-long, written-from, live-few, slots-there}
+use Rattle.survivors.specs.Laws.Left.{end-in, highs-left, left-edges, left-nodes, left-sound, lows-left, nodes-left}
+use Rattle.survivors.specs.Laws.Slots.{mapped-long, written-from, live-few, slots-there}
 use Rattle.join.specs.Calls.{LentMaps}
 use Rattle.join.specs.Settling.{Settleable, Settled}
-use Rattle.join.specs.Sides.{AxisJoinable, AxisJoined, Side, side-ends, side-entries, side-of}
-use Rattle.join.specs.Slots.{BothCopyable, MapsFit, MapsWritten}
+use Rattle.join_columns.specs.Sides.{AxisJoinable, AxisJoined, Side, side-ends, side-entries, side-of}
+use Rattle.join_columns.specs.Slots.{BothCopyable, MapsFit, MapsWritten}
 use Rattle.join.proofs.Books.{Mapped, book-ends, book-entries, edges-few, ends-readable, entries-readable, lists-in, nodes-few, slots-readable}
-use Rattle.join.proofs.Sides.{all-entries-long, compressible}
+use Rattle.join_columns.specs.Laws.Sides.{all-entries-long, compressible}
 
 -- ---- the maps
 

@@ -1,9 +1,5 @@
-pub mod Slots
-pub mod Sides
-pub mod Answers
 pub mod Calls
 pub mod Settling
-pub mod Laws
 pub mod Results
 pub mod Agreeing
 pub mod Refuted

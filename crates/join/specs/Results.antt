@@ -25,9 +25,9 @@ use Rattle.shape.specs.Rules.{broken}
 use Rattle.shape.specs.Shape.{Words, capacities, shape-of, lists, lengths-of}
 use Rattle.compact.specs.Calls.{CompactOf}
 use Rattle.compact.specs.Survivors.{shape-of-survivors}
-use Rattle.compact.specs.Laws.Left.{left-sound}
+use Rattle.survivors.specs.Laws.Left.{left-sound}
 use Rattle.join.specs.Calls.{LentMaps, joining-of, JoinOf}
-use Rattle.join.specs.Laws.Answers.{Accepted, accepted, join-done}
+use Rattle.join_columns.specs.Laws.Answers.{Accepted, accepted, join-done}
 
 -- the survivors of a store
 abbrev left-of : Words → Survivors

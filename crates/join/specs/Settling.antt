@@ -13,10 +13,10 @@ use Rattle.shape.specs.Checked.{Checked}
 use Rattle.shape.specs.Kept.{SameLengths}
 use Rattle.shape.specs.Shape.{Words, edge-capacity, edge-live, lengths-of, node-capacity, node-live}
 use Rattle.compact.specs.Bases.{based}
-use Rattle.compact.specs.Slots.{live-words-of}
+use Rattle.survivors.specs.Slots.{live-words-of}
 use Rattle.join.specs.Calls.{LentMaps}
-use Rattle.join.specs.Sides.{AxisJoined, side-of}
-use Rattle.join.specs.Slots.{MapsWritten}
+use Rattle.join_columns.specs.Sides.{AxisJoined, side-of}
+use Rattle.join_columns.specs.Slots.{MapsWritten}
 
 -- Two checked books, memory as a store's has to be, the survivors of both within its capacities, and maps "as long as the bounds before".
 pub record Settleable (first second w : Words) (maps : LentMaps) : Type 0 where

@@ -33,7 +33,7 @@ use Rattle.shape.specs.Steps.{state-of}
 use Rattle.shape.specs.Laws.Judging.{checked-sound}
 use Rattle.strip.specs.Fresh.{FreshOf}
 use Rattle.strip.specs.Strip.{StripOf, stripped}
-use Rattle.image.specs.Calls.{written-image, WriteOf}
+use Rattle.image_write.specs.Calls.{written-image, WriteOf}
 use Rattle.lotstrip_text.specs.Booking.{booked, booking-answers, node-width, edge-width, image-room, Bookable, Held, Booked, Printable, Printed, Closing}
 
 module _ {nodes lows highs live-nodes live-edges outgoing incoming words entry : List ℕ}

@@ -7,7 +7,7 @@ use crate::rooms::LIVE_EDGES;
 use crate::rooms::LIVE_NODES;
 use crate::rooms::NODES;
 use crate::rooms::WORK;
-use image;
+use image_write;
 use plain::Counts;
 use strip;
 ghost use Prim.Native.Nat.{_*_, _≤_, _%_, _/_};
@@ -76,7 +76,7 @@ fn print_image(
         (now (bytes .entry)) r (now (bytes .exit)) ⌝ }
 {
     let mut work: [u32; WORK] = [0; WORK];
-    let done = image::write::write_image(
+    let done = image_write::write_image(
         counts,
         nodes,
         lows,

@@ -1,8 +1,8 @@
 // How much memory the program lends, from document 01's numbers: "(512 nodes, 1,024 edges)" and "at most 65,536 bytes".
 
-use image::places::EDGE_PAYLOAD_WIDTH;
-use image::places::NODE_PAYLOAD_WIDTH;
-use image::places::NODES_START;
+use image_check::places::EDGE_PAYLOAD_WIDTH;
+use image_check::places::NODE_PAYLOAD_WIDTH;
+use image_check::places::NODES_START;
 use plain::OPERATION_WORDS;
 
 // The capacities of the store.

@@ -14,7 +14,7 @@ use Rattle.plain.specs.Reads.{first-or-none}
 use Rattle.plain.specs.Laws.Booleans.{by-test, true-false, or-other, refuted}
 use Rattle.plain.specs.Laws.ListLaws.{member-first, member-later}
 use Rattle.shape.specs.Laws.Taking.{keep-agree}
-use Rattle.adjacency.specs.Finding.{first-of}
+use Rattle.cursor.specs.Finding.{first-of}
 use Rattle.nearest.specs.Chains.{Chain, nearest}
 use Rattle.nearest.specs.Laws.Chains.{by-option, first-chain, first-chain-zero, first-chain-suc, first-chain-chain, first-step, onward, nearest-is, nearest-chain, Within, simple, simple-short}
 use Rattle.nearest.specs.Search.{Network, Consistent, Distance, Search}

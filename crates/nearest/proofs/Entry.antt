@@ -15,8 +15,8 @@ use Rattle.plain.specs.Laws.Operating.{length-node-flags}
 use Rattle.shape.specs.Shape.{Words, node-capacity, node-live, lists}
 use Rattle.shape.specs.Laws.Reading.{plain-node-bound, plain-node-flags}
 use Rattle.validate.specs.Judging.{Judged, refusal}
-use Rattle.strip.specs.Faults.{fault-of}
-use Rattle.strip.specs.Laws.Faults.{by-fault, no-node-fault}
+use Rattle.step.specs.Faults.{fault-of}
+use Rattle.step.specs.Laws.Faults.{by-fault, no-node-fault}
 use Rattle.nearest.specs.Calls.{Searched, unsearched, nearest-lot, judged-search, nearest-of, NearestOf}
 use Rattle.nearest.specs.Laws.Calls.{judged-refuses, first-refuses, second-refuses, work-refuses, none-refuses}
 use Rattle.nearest.specs.Stores.{LiveLot, Asked}

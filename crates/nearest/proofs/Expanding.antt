@@ -1,5 +1,5 @@
 -- One lot looked at and one lot's in-list gone through: what the loop keeps.
-use Prim.Native.Nat.{ℕ, _+_, _<_}
+use Prim.Native.Nat.{ℕ, _+_}
 use native.Mathlib.Omega.{arith}
 use mathlib.Core.Path.{_≡_, refl, sym, ap, _∙_, subst}
 use mathlib.Core.Bool.{Bool, true, false, cond}
@@ -13,12 +13,12 @@ use Rattle.plain.specs.Laws.Booleans.{by-test}
 use Rattle.plain.specs.Laws.ListLaws.{member-first, member-later}
 use Rattle.liveness.specs.Flags.{live-flags}
 use Rattle.shape.specs.Columns.{end-at}
-use Rattle.adjacency.specs.declared.cursor.AdjacencyCursor.{AdjacencyCursor}
-use Rattle.adjacency.specs.declared.cursor.Found.the-variants.{Edge, Done}
-use Rattle.adjacency.specs.declared.cursor.Step.{Step}
-use Rattle.adjacency.specs.declared.cursor.Start.{Start}
-use Rattle.adjacency.specs.Cursor.{listed, listed-left, remaining, step-of, Ready}
-use Rattle.adjacency.specs.Laws.Cursor.{step-edge, step-none, turn as stepped}
+use Rattle.cursor.specs.declared.AdjacencyCursor.{AdjacencyCursor}
+use Rattle.cursor.specs.declared.Found.the-variants.{Edge, Done}
+use Rattle.cursor.specs.declared.Step.{Step}
+use Rattle.cursor.specs.declared.Start.{Start}
+use Rattle.cursor.specs.Cursor.{listed, listed-left, remaining, step-of, Ready}
+use Rattle.cursor.specs.Laws.Cursor.{step-edge, step-none, turn as stepped}
 use Rattle.adjacency.specs.Walk.{walk-in, tombstoned-in, entries-column, next-column, Started}
 use Rattle.adjacency.specs.Laws.Walk.{given-walk, given-seekable, next-length}
 use Rattle.nearest.specs.Frontier.{Frontier, frontier, dist-in, turn, pushed, expanded}

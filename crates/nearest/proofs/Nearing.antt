@@ -16,15 +16,15 @@ use Rattle.plain.specs.Laws.ListLaws.{member-first, member-later}
 use Rattle.liveness.specs.Flags.{live-flags}
 use Rattle.shape.specs.Columns.{end-at}
 use Rattle.shape.specs.Shape.{Words, node-capacity, edge-capacity, lists}
-use Rattle.adjacency.specs.declared.cursor.AdjacencyCursor.{AdjacencyCursor}
-use Rattle.adjacency.specs.declared.cursor.Found.the-variants.{Edge}
-use Rattle.adjacency.specs.declared.cursor.Step.{Step}
-use Rattle.adjacency.specs.declared.cursor.Start.{Start}
-use Rattle.adjacency.specs.Cursor.{listed, listed-left, remaining, step-of}
-use Rattle.adjacency.specs.Laws.Cursor.{step-edge}
-use Rattle.adjacency.specs.Laws.Reading.{write-one}
-use Rattle.adjacency.specs.Finding.{first-of}
-use Rattle.adjacency.specs.Laws.Finding.{Searching, search-start, search-skip, search-on}
+use Rattle.cursor.specs.declared.AdjacencyCursor.{AdjacencyCursor}
+use Rattle.cursor.specs.declared.Found.the-variants.{Edge}
+use Rattle.cursor.specs.declared.Step.{Step}
+use Rattle.cursor.specs.declared.Start.{Start}
+use Rattle.cursor.specs.Cursor.{listed, listed-left, remaining, step-of}
+use Rattle.cursor.specs.Laws.Cursor.{step-edge}
+use Rattle.cursor.specs.Laws.Reading.{write-one}
+use Rattle.cursor.specs.Finding.{first-of}
+use Rattle.cursor.specs.Laws.Finding.{Searching, search-start, search-skip, search-on}
 use Rattle.adjacency.specs.Walk.{walk-in, tombstoned-in, entries-column, next-column, Started}
 use Rattle.adjacency.specs.Laws.Walk.{given-walk, given-seekable, next-length}
 use Rattle.nearest.specs.Search.{Distance}

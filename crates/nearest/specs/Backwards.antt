@@ -10,8 +10,8 @@ use Rattle.plain.specs.Numbers.{LIMIT}
 use Rattle.plain.specs.Lists.{member, keep}
 use Rattle.shape.specs.Columns.{end-at}
 use Rattle.shape.specs.Shape.{Words, node-capacity}
-use Rattle.adjacency.specs.declared.cursor.AdjacencyCursor.{AdjacencyCursor}
-use Rattle.adjacency.specs.Cursor.{remaining, Ready}
+use Rattle.cursor.specs.declared.AdjacencyCursor.{AdjacencyCursor}
+use Rattle.cursor.specs.Cursor.{remaining, Ready}
 use Rattle.adjacency.specs.Walk.{walk-in, Walkable}
 use Rattle.nearest.specs.Search.{Consistent}
 use Rattle.nearest.specs.Frontier.{Frontier, frontier, Held, Standing}

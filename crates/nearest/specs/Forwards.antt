@@ -13,9 +13,9 @@ use Rattle.plain.specs.Plain.{list-of}
 use Rattle.shape.specs.Columns.{end-at}
 use Rattle.shape.specs.Shape.{Words, node-capacity, lists}
 use Rattle.shape.specs.Checked.{Checked}
-use Rattle.adjacency.specs.declared.cursor.AdjacencyCursor.{AdjacencyCursor}
-use Rattle.adjacency.specs.Cursor.{remaining, Ready}
-use Rattle.adjacency.specs.Finding.{first-of}
+use Rattle.cursor.specs.declared.AdjacencyCursor.{AdjacencyCursor}
+use Rattle.cursor.specs.Cursor.{remaining, Ready}
+use Rattle.cursor.specs.Finding.{first-of}
 use Rattle.adjacency.specs.Walk.{walk-in, Walkable}
 use Rattle.nearest.specs.Search.{Distance}
 use Rattle.nearest.specs.Frontier.{dist-in}

@@ -9,16 +9,16 @@ ghost use lib.ListN.{getD, set};
 ghost use Rattle.liveness.specs.Flags.{live-flags};
 ghost use Rattle.shape.specs.Columns.{end-at};
 ghost use Rattle.shape.specs.Lent.{lent, at-entry};
-ghost use Rattle.adjacency.specs.Cursor.{listed, listed-left};
+ghost use Rattle.cursor.specs.Cursor.{listed, listed-left};
 ghost use Rattle.adjacency.specs.Walk.{walk-in};
 ghost use Rattle.nearest.specs.Frontier.{frontier, turn, expanded};
 ghost use Rattle.nearest.specs.Stores.{Asked};
 ghost use Rattle.nearest.specs.Backwards.{Seeable, Expand, ExpandLot, Drain, Drained, Seedable, Sought};
-use adjacency::cursor::AdjacencyCursor;
-use adjacency::cursor::Found;
-use adjacency::cursor::is_listed;
 use adjacency::index;
 use adjacency::walk;
+use cursor::AdjacencyCursor;
+use cursor::Found;
+use cursor::is_listed;
 use plain::Counts;
 
 // Looks at a lot: one that is new gets its word and goes to the end of the queue. Answers the queue's length.

@@ -14,7 +14,7 @@ use plain::numbers::OUT_OF_RANGE_NODE;
 use plain::numbers::REMOVED_NODE;
 use plain::numbers::TOO_SHORT;
 use plain::numbers::UNREACHABLE;
-use strip::step::fault;
+use step::fault;
 use validate::judging::judge;
 use validate::judging::no_store;
 ghost use Rattle.shape.specs.Lent.{lent, at-entry};

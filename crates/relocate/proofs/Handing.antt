@@ -20,10 +20,10 @@ use Rattle.shape.specs.Shape.{run-list}
 use Rattle.shape.specs.Laws.Chains.{in-front, in-none, seg-append, seg-agree, line-last, line-agree, run-empty, run-line, run-short}
 use Rattle.shape.specs.Laws.Frames.{run-list-below}
 use Rattle.shape.specs.Laws.Keeping.{in-either}
-use Rattle.relocate.specs.Runs.{Editable, Edited}
-use Rattle.relocate.proofs.Editing.{edited, edited-none, edited-list, edited-other}
+use Rattle.runs.specs.Runs.{Editable, Edited}
+use Rattle.runs.specs.Laws.Editing.{edited, edited-none, edited-list, edited-other}
 use Rattle.relocate.specs.Moves.{HandableOver, HandedOver}
-use Rattle.relocate.proofs.Pushing.{run-before}
+use Rattle.runs.specs.Laws.Pushing.{run-before}
 
 -- one line after another, to whose first entry the last one now points
 line-join : {nx : ℕ → ℕ} (mx : ℕ → ℕ) {lo hi f t g u : ℕ} {xs ys : List ℕ} → mx t ≡ g → ((x : ℕ) → In x xs → x ≢ t → mx x ≡ nx x)

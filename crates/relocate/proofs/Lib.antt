@@ -1,14 +1,4 @@
-mod Pushing
-mod Scanning
-mod Sweeping
-mod Draining
-mod Starting
-mod Searching
-mod Unlinking
-mod Preparing
 mod Redirecting
 mod Handing
 mod Moving
-mod Remaking
 mod Relinking
-mod Editing

@@ -23,14 +23,14 @@ use Rattle.shape.specs.Laws.Frames.{run-list-below}
 use Rattle.shape.specs.Laws.Taking.{live-taken, swept-live}
 use Rattle.shape.specs.Laws.Keeping.{in-either, in-edited, in-second}
 use Rattle.shape.specs.Laws.Reading.{axis-adjacency}
-use Rattle.relocate.specs.Runs.{Editable, Cuttable}
-use Rattle.relocate.proofs.Editing.{list-of-run, mark-of-run}
-use Rattle.relocate.specs.Overlay.{flags-of, Remade, Preparable, Prepared}
-use Rattle.relocate.proofs.Remaking.{remade-run}
+use Rattle.runs.specs.Runs.{Editable, Cuttable}
+use Rattle.runs.specs.Laws.Editing.{list-of-run, mark-of-run}
+use Rattle.runs.specs.Overlay.{flags-of, Remade, Preparable, Prepared}
+use Rattle.runs.specs.Laws.Remaking.{remade-run}
 use Rattle.relocate.specs.Redirects.{Linked, Relabelled, Relocated}
 use Rattle.relocate.proofs.Relinking.{placed-ready, remade-linked, remade-axis, remade-placed, relocated-axis, relocated-checked, relabelled-node, relabelled-linked, relabelled-kept}
 use Rattle.relocate.specs.Moves.{RunRelabelled, HandableOver, HandedOver, Movable, Met, Moved}
-use Rattle.relocate.proofs.Pushing.{run-before}
+use Rattle.runs.specs.Laws.Pushing.{run-before}
 
 -- ---- relabelling
 

@@ -23,9 +23,9 @@ use Rattle.shape.specs.Laws.Chains.{in-none}
 use Rattle.shape.specs.Laws.Taking.{swept-live}
 use Rattle.shape.specs.Laws.Keeping.{in-either, in-edited, in-one, in-without}
 use Rattle.shape.specs.Laws.Reading.{axis-end, axis-adjacency}
-use Rattle.relocate.specs.Runs.{Cuttable, TakenOut, Pushable, Grown}
-use Rattle.relocate.specs.Overlay.{flags-of, Preparable, Prepared}
-use Rattle.relocate.proofs.Remaking.{remade-edited, remade-list, remade-mark, remade-new}
+use Rattle.runs.specs.Runs.{Cuttable, TakenOut, Pushable, Grown}
+use Rattle.runs.specs.Overlay.{flags-of, Preparable, Prepared}
+use Rattle.runs.specs.Laws.Remaking.{remade-edited, remade-list, remade-mark, remade-new}
 use Rattle.relocate.specs.Redirects.{Relocatable, Placed, Relabelled, Relocated, Left, Arrivable, Arrived, Redirectable, Redirected}
 use Rattle.relocate.proofs.Relinking.{placed-ready, remade-axis, remade-placed, relocated-axis, relocated-checked, remade-linked, relabelled-node, relabelled-linked, relabelled-kept}
 

@@ -23,11 +23,11 @@ use Rattle.shape.specs.Checked.{AxisChecked}
 use Rattle.shape.specs.Kept.{AxisKept}
 use Rattle.shape.specs.Laws.Frames.{run-list-below, run-of-agree, base-of-agree, ring-of-agree, index-kept, runs-kept, rings-agree}
 use Rattle.shape.specs.Laws.Reading.{made-at}
-use Rattle.relocate.proofs.Editing.{same-entries}
-use Rattle.relocate.specs.Overlay.{flags-of, Ready, Remade}
-use Rattle.relocate.proofs.Remaking.{node-same, remade-list, remade-other}
+use Rattle.runs.specs.Laws.Editing.{same-entries}
+use Rattle.runs.specs.Overlay.{flags-of, Ready, Remade}
+use Rattle.runs.specs.Laws.Remaking.{node-same, remade-list, remade-other}
 use Rattle.relocate.specs.Redirects.{Linked, Relocatable, Placed, Relabelled, Relocated}
-use Rattle.relocate.specs.Laws.Runs.{alive-below}
+use Rattle.runs.specs.Laws.Runs.{alive-below}
 
 -- a node of such an axis can be edited
 pub placed-ready : {ws : List ℕ} {ce cn : ℕ} {counts : Counts} {live : List ℕ} {node : ℕ} → Relocatable ws ce cn counts live → Placed ws ce cn counts live node

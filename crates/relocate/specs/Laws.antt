@@ -1,3 +1,2 @@
 -- The laws of runs, redirections and moves, for the crates above to cite.
-pub mod Runs
 pub mod Stores

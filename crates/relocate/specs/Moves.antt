@@ -13,8 +13,8 @@ use Rattle.shape.specs.Steps.{live-entries, taken, swept, LiveRun, moved-axis}
 use Rattle.shape.specs.Checked.{AxisChecked}
 use Rattle.shape.specs.Kept.{AxisKept}
 use Rattle.shape.specs.Writes.{OfLinks, OfNode}
-use Rattle.relocate.specs.Runs.{Editable, Edited}
-use Rattle.relocate.specs.Overlay.{flags-of, Prepared}
+use Rattle.runs.specs.Runs.{Editable, Edited}
+use Rattle.runs.specs.Overlay.{flags-of, Prepared}
 use Rattle.relocate.specs.Redirects.{Relocatable, Placed, Relabelled}
 
 -- The edges of the node's run end at `new`; r is how many they are.

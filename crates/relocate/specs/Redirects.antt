@@ -14,7 +14,7 @@ use Rattle.shape.specs.Steps.{live-entries, taken, swept, with-run, LiveRun, re
 use Rattle.shape.specs.Checked.{Index, Rings, Runs, AxisChecked}
 use Rattle.shape.specs.Kept.{AxisKept}
 use Rattle.shape.specs.Writes.{OfLinks, OfNode}
-use Rattle.relocate.specs.Overlay.{flags-of, Remade, Preparable}
+use Rattle.runs.specs.Overlay.{flags-of, Remade, Preparable}
 
 -- Rules 4 to 6 of an axis, and its counts in order.
 pub record Linked (ws : List ℕ) (ce cn : ℕ) (counts : Counts) : Type 0 where

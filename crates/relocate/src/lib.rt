@@ -1,5 +1,5 @@
-// Redirections and moves on one axis: a node whose edges have moved is read from a run of its own in place of its base part. Port of relocate.rs and
-// relocate/runs.rs. All functions are internal: they require the part of a checked store that they need, by its name in crate `shape`.
+// Redirections and moves on one axis: a node whose edges have moved is read from a run of its own in place of its base part. Port of relocate.rs; runs
+// themselves are crate `runs`. All functions are internal: they require the part of a checked store that they need, by its name in crate `shape`.
 //
 // Why an overlay. An edge keeps its slot when an end of it moves. The compressed index cannot tell of the move: an entry's place in it is what makes it the
 // node's, and to shift one would shift all that come later. A bit beside the live bit for "has moved", and a list of arrivals, would add a test to each step of
@@ -14,6 +14,4 @@
 // run back into the index.
 
 pub mod moves;
-pub mod overlay;
 pub mod redirects;
-pub mod runs;

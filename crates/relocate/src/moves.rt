@@ -1,9 +1,9 @@
 // Moving all live edges of a node to another node on one axis: they are gathered in the node's run, which holds no other once it is prepared, end at the other
 // node from then on, and their run is handed over whole. What a call asks and promises of the words is a record of specs/Moves.antt.
 
-use crate::overlay::prepare;
 use plain::Counts;
-ghost use Rattle.relocate.specs.Runs.{Cuttable};
+use runs::overlay::prepare;
+ghost use Rattle.runs.specs.Runs.{Cuttable};
 ghost use Rattle.relocate.specs.Moves.{RunRelabelled, HandableOver, HandedOver, Movable, Met, Moved};
 
 // Makes `new` the end of the edges in the run of a node, and answers how many they are. The link is read before the end is stored: the two words' addresses often
@@ -44,22 +44,26 @@ fn hand_over(
     requires { ⌜ HandableOver (now axis) «edge_capacity» «node_capacity» counts old new ⌝ }
     ensures { λ _. ⌜ HandedOver (now (axis .entry)) (now (axis .exit)) «edge_capacity» «node_capacity» counts old new ⌝ }
 {
-    let gone = 4 * edge_capacity + 3 * node_capacity + old;
-    let count = 4 * edge_capacity + 3 * node_capacity + new;
-    let tail = 4 * edge_capacity + 2 * node_capacity + new;
+    let lasts = 4 * edge_capacity;
+    let firsts = lasts + node_capacity;
+    let tails = lasts + 2 * node_capacity;
+    let lengths = lasts + 3 * node_capacity;
+    let gone = lengths + old;
+    let count = lengths + new;
+    let tail = tails + new;
     let moved = axis[gone];
     if moved == 0 {
         return;
     }
-    let first = axis[4 * edge_capacity + node_capacity + old];
-    let last = axis[4 * edge_capacity + 2 * node_capacity + old];
+    let first = axis[firsts + old];
+    let last = axis[tails + old];
     let present = axis[count];
     let before = axis[tail];
     axis[gone] = 0;
     axis[count] = present + moved;
     axis[tail] = last;
     if present == 0 {
-        axis[4 * edge_capacity + node_capacity + new] = first;
+        axis[firsts + new] = first;
         return;
     }
     axis[3 * edge_capacity + before as usize] = first;

@@ -1,11 +1,11 @@
 // Redirecting one edge on one axis: it leaves the run of its end, joins the run of another node at its end, and ends there. What a call asks and promises of the
 // words is a record of specs/Redirects.antt.
 
-use crate::overlay::prepare;
-use crate::runs::push;
-use crate::runs::take_out;
 use plain::Counts;
-ghost use Rattle.relocate.specs.Overlay.{Preparable};
+use runs::overlay::prepare;
+use runs::push;
+use runs::take_out;
+ghost use Rattle.runs.specs.Overlay.{Preparable};
 ghost use Rattle.relocate.specs.Redirects.{Left, Arrivable, Arrived, Redirectable, Redirected};
 
 // Takes an edge out of the prepared run of a node.

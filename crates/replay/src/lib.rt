@@ -1,7 +1,7 @@
-// Recorded calls and what is printed of them, for the program replay_main: the calls that leave the store as it is. Each prints a line, or some.
+// Recorded calls: how they are read from standard input, and how an answer is printed. For the program replay_main and the two crates with its calls.
 
+pub mod input;
 pub mod print;
-pub mod reads;
 
 // A call as it is recorded, or the five words of another line.
 pub struct Call {

@@ -12,50 +12,14 @@ use plain::Changed;
 use plain::Counts;
 use plain::Slots;
 use replay::Call;
+use replay::input;
 use replay::print;
-use replay::reads;
-ghost use Prim.Native.Nat.{_+_, _≤_, _<_};
-ghost use lib.ListN.{length};
 
 // The counts of the store and its capacities.
 struct Held {
     counts: Counts,
     nodes: u32,
     edges: u32,
-}
-
-// What a hexadecimal digit stands for, of which the letters are small; any other byte gives some number too.
-fn digit(byte: u8) -> u64
-    ensures { λ r. ⌜ r < 16 ⌝ }
-{
-    let code = byte as u64;
-    (code % 16 + 9 * (code / 64)) % 16
-}
-
-// Four digits.
-fn half(a: u8, b: u8, c: u8, d: u8) -> u64
-    ensures { λ r. ⌜ r < 65536 ⌝ }
-{
-    digit(a) * 4096 + digit(b) * 256 + digit(c) * 16 + digit(d)
-}
-
-// The word that begins there.
-fn field(line: &[u8; 45], at: usize) -> u32
-    requires { ⌜ at ≤ 37 ⌝ }
-{
-    let high = half(line[at], line[at + 1], line[at + 2], line[at + 3]);
-    let low = half(line[at + 4], line[at + 5], line[at + 6], line[at + 7]);
-    (high * 65536 + low) as u32
-}
-
-fn decode(line: &[u8; 45]) -> Call {
-    Call {
-        kind: field(line, 0),
-        first: field(line, 9),
-        second: field(line, 18),
-        third: field(line, 27),
-        fourth: field(line, 36),
-    }
 }
 
 // A fresh store, on a box or on the skid.
@@ -121,210 +85,6 @@ fn fresh(
     }
 }
 
-// Puts the five words of an operation at `at`.
-fn put_operation(words: &mut [u32], at: usize, operation: Call)
-    requires { ⌜ at + 5 ≤ length (now words) ⌝ }
-{
-    words[at] = operation.kind;
-    words[at + 1] = operation.first;
-    words[at + 2] = operation.second;
-    words[at + 3] = operation.third;
-    words[at + 4] = operation.fourth;
-}
-
-// Reads the operations of a strip, a line each, to the start of `words`; what is left of a shorter input is 0.
-fn read_operations(words: &mut [u32], lines: u32) {
-    let mut left = lines;
-    let mut at: usize = 0;
-    while left > 0 {
-        let operation = next();
-        if words.len() < at + 5 {
-            return;
-        }
-        put_operation(words, at, operation);
-        at += 5;
-        left -= 1;
-    }
-}
-
-// A strip, whole.
-fn strip_of(
-    counts: Counts,
-    nodes: &mut [u32],
-    lows: &mut [u32],
-    highs: &mut [u32],
-    live_nodes: &mut [u64],
-    live_edges: &mut [u64],
-    outgoing: &mut [u32],
-    incoming: &mut [u32],
-    call: Call,
-) -> Counts {
-    let mut words: [u32; 4096] = [0; 4096];
-    let mut answers: [u32; 2048] = [0; 2048];
-    read_operations(&mut words, call.third);
-    let length = print::within(call.first, &words);
-    let room = print::within(call.second, &answers);
-    let changed = strip::strip(
-        counts,
-        nodes,
-        lows,
-        highs,
-        live_nodes,
-        live_edges,
-        outgoing,
-        incoming,
-        &words[..length],
-        &mut answers[..room],
-    );
-    print::print_written(
-        changed.number,
-        changed.value,
-        &answers,
-        print::wide(call.second),
-    );
-    let counts = changed.counts;
-    counts
-}
-
-// A compaction with slices of the recorded lengths; where it is done, maps and work.
-fn compact(
-    counts: Counts,
-    nodes: &mut [u32],
-    lows: &mut [u32],
-    highs: &mut [u32],
-    live_nodes: &mut [u64],
-    live_edges: &mut [u64],
-    outgoing: &mut [u32],
-    incoming: &mut [u32],
-    call: Call,
-) -> Counts {
-    let mut node_map: [u32; 2048] = [0; 2048];
-    let mut edge_map: [u32; 2048] = [0; 2048];
-    let mut work: [u32; 2048] = [0; 2048];
-    let first = print::within(call.first, &node_map);
-    let second = print::within(call.second, &edge_map);
-    let third = print::within(call.third, &work);
-    let changed = compact::compact(
-        counts,
-        nodes,
-        lows,
-        highs,
-        live_nodes,
-        live_edges,
-        outgoing,
-        incoming,
-        &mut node_map[..first],
-        &mut edge_map[..second],
-        &mut work[..third],
-    );
-    print::print_written(
-        changed.number,
-        changed.value,
-        &node_map,
-        print::wide(call.first),
-    );
-    print::print_written(
-        changed.number,
-        changed.value,
-        &edge_map,
-        print::wide(call.second),
-    );
-    print::print_written(
-        changed.number,
-        changed.value,
-        &work,
-        print::wide(call.third),
-    );
-    let counts = changed.counts;
-    counts
-}
-
-// Puts the four bytes of a word at `at`, most significant first.
-fn put_word(bytes: &mut [u8], at: usize, word: u32)
-    requires { ⌜ at + 4 ≤ length (now bytes) ⌝ }
-{
-    bytes[at] = (word >> 24) as u8;
-    bytes[at + 1] = ((word >> 16) % 256) as u8;
-    bytes[at + 2] = ((word >> 8) % 256) as u8;
-    bytes[at + 3] = (word % 256) as u8;
-}
-
-// Reads bytes, sixteen a line, to the start of `bytes`; what is left of a shorter input is 0.
-fn read_bytes(bytes: &mut [u8], lines: u32) {
-    let mut left = lines;
-    let mut at: usize = 0;
-    while left > 0 {
-        let line = next();
-        if bytes.len() < at + 16 {
-            return;
-        }
-        put_word(bytes, at, line.first);
-        put_word(bytes, at + 4, line.second);
-        put_word(bytes, at + 8, line.third);
-        put_word(bytes, at + 12, line.fourth);
-        at += 16;
-        left -= 1;
-    }
-}
-
-// An image read in place of all, on a box.
-fn read_image(
-    counts: Counts,
-    nodes: &mut [u32],
-    lows: &mut [u32],
-    highs: &mut [u32],
-    live_nodes: &mut [u64],
-    live_edges: &mut [u64],
-    outgoing: &mut [u32],
-    incoming: &mut [u32],
-    call: Call,
-) -> Counts {
-    let mut bytes: [u8; 4096] = [0; 4096];
-    read_bytes(&mut bytes, call.second);
-    let length = print::within_bytes(call.first, &bytes);
-    let changed = image::read::read_image(
-        counts,
-        nodes,
-        lows,
-        highs,
-        live_nodes,
-        live_edges,
-        outgoing,
-        incoming,
-        &bytes[..length],
-    );
-    print::print_changed(changed)
-}
-
-// An image read in place of all, on the skid.
-fn skid_read_image(
-    counts: Counts,
-    nodes: &mut [u32],
-    lows: &mut [u32],
-    highs: &mut [u32],
-    live_nodes: &mut [u64],
-    live_edges: &mut [u64],
-    outgoing: &mut [u32],
-    incoming: &mut [u32],
-    call: Call,
-) -> Counts {
-    let mut bytes: [u8; 4096] = [0; 4096];
-    read_bytes(&mut bytes, call.second);
-    let length = print::within_bytes(call.first, &bytes);
-    let changed = image::read::skid_read_image(
-        counts,
-        nodes,
-        lows,
-        highs,
-        live_nodes,
-        live_edges,
-        outgoing,
-        incoming,
-        &bytes[..length],
-    );
-    print::print_changed(changed)
-}
-
 // One call but a fresh store; the counts afterwards.
 fn change(
     counts: Counts,
@@ -338,7 +98,7 @@ fn change(
     call: Call,
 ) -> Counts {
     if call.kind == 1 {
-        return strip_of(
+        return replay_changes::strip_of(
             counts,
             nodes,
             lows,
@@ -351,7 +111,7 @@ fn change(
         );
     }
     if call.kind == 12 {
-        return compact(
+        return replay_changes::compact(
             counts,
             nodes,
             lows,
@@ -363,8 +123,8 @@ fn change(
             call,
         );
     }
-    if call.kind == 15 {
-        return read_image(
+    if call.kind == 15 || call.kind == 19 {
+        return replay_changes::read_image(
             counts,
             nodes,
             lows,
@@ -376,20 +136,7 @@ fn change(
             call,
         );
     }
-    if call.kind == 19 {
-        return skid_read_image(
-            counts,
-            nodes,
-            lows,
-            highs,
-            live_nodes,
-            live_edges,
-            outgoing,
-            incoming,
-            call,
-        );
-    }
-    reads::read(
+    replay_reads::read(
         counts,
         nodes,
         lows,
@@ -447,24 +194,6 @@ fn step(
     }
 }
 
-// The kind that stands for the end of the input.
-const END: u32 = 4294967295;
-
-// The next call of the input.
-fn next() -> Call {
-    let mut line: [u8; 45] = [0; 45];
-    if io::read_full(0, &mut line) < 45 {
-        return Call {
-            kind: END,
-            first: 0,
-            second: 0,
-            third: 0,
-            fourth: 0,
-        };
-    }
-    decode(&line)
-}
-
 // The calls of the input in turn. A proved loop has to end, and nothing says that the input does: it counts from a number that no input uses up.
 fn run(
     held: Held,
@@ -479,8 +208,8 @@ fn run(
     let mut held = held;
     let mut calls: u64 = 18446744073709551615;
     while calls > 0 {
-        let call = next();
-        if call.kind == END {
+        let call = input::next();
+        if call.kind == input::END {
             return;
         }
         held = step(

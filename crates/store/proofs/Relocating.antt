@@ -32,7 +32,7 @@ use Rattle.shape.specs.Laws.Taking.{live-taken}
 use Rattle.adjacency.specs.Walk.{tombstoned-in}
 use Rattle.adjacency.specs.Laws.StoreWalks.{list-is-walk}
 use Rattle.relocate.specs.Redirects.{Redirectable, Redirected}
-use Rattle.relocate.specs.Laws.Runs.{alive-below}
+use Rattle.runs.specs.Laws.Runs.{alive-below}
 use Rattle.relocate.specs.Moves.{Movable, Moved}
 use Rattle.relocate.specs.Laws.Stores.{checked-redirectable, checked-movable, checked-end, checked-all-live}
 use Rattle.store.specs.Operations.{Acted, RedirectedEdge, MovedEdges, EdgeRedirectable, EdgesMovable}

@@ -15,8 +15,8 @@ use Rattle.shape.specs.Chains.{In}
 use Rattle.shape.specs.Shape.{Words, node-capacity, edge-capacity, node-live, edge-payload-at, axis-words, plain-of, lists}
 use Rattle.shape.specs.Checked.{Checked}
 use Rattle.shape.specs.Laws.Reading.{edge-at}
-use Rattle.adjacency.specs.declared.cursor.Sums.{Sums}
-use Rattle.adjacency.specs.Summing.{sums-of}
+use Rattle.cursor.specs.declared.Sums.{Sums}
+use Rattle.cursor.specs.Summing.{sums-of}
 use Rattle.adjacency.specs.Walk.{walk-in, WalkSummable}
 use Rattle.adjacency.specs.Laws.Walk.{walk-below}
 use Rattle.adjacency.specs.Laws.StoreWalks.{checked-walkable, list-is-walk}

@@ -5,7 +5,7 @@ use Rattle.plain.specs.declared.TraversalDirection.{TraversalDirection}
 use Rattle.plain.specs.Lists.{sum}
 use Rattle.plain.specs.Plain.{low-of, high-of, Plain}
 use Rattle.plain.specs.Reads.{payloads-of}
-use Rattle.adjacency.specs.declared.cursor.Sums.{Sums}
+use Rattle.cursor.specs.declared.Sums.{Sums}
 
 -- both sums of a node's list
 abbrev pub sums-in : TraversalDirection → Plain → ℕ → Sums

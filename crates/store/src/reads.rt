@@ -1,7 +1,7 @@
 // The degree and the total of a node, by the plain lists of a checked store (crate `plain`, Reads.antt).
 
-use adjacency::cursor::Sums;
 use adjacency::walk;
+use cursor::Sums;
 use liveness;
 use plain::Counts;
 use plain::TraversalDirection;

@@ -16,7 +16,7 @@ use Rattle.shape.specs.Kept.{kept-none, kept-spared, nothing-spared, same-nodes
 use Rattle.shape.specs.Steps.{state-of}
 use Rattle.shape.specs.Laws.NoFields.{kept-leaves}
 use Rattle.validate.specs.Judging.{Judged}
-use Rattle.strip.specs.Strip.{Runnable, Ran, Opening, no-store, ragged, short, opens, stripped, StripOf}
+use Rattle.strip.specs.Strip.{Runnable, Ran, Opening, unsound, uneven, short, opens, stripped, StripOf}
 
 module _ (w : Words) (words entry : List ℕ) where
   -- refused: not a word changes
@@ -89,23 +89,25 @@ module _ (w : Words) (words entry : List ℕ) where
               leaves = kept-leaves w v (ran .lengths) (ran .kept);
             }
 
+-- what an answer of 0 says
+opened : {rule words room : ℕ} {r : Answer} → Opening rule words room r → r .number ≡ 0
+    → (rule ≡ 0) × (words % operation-words ≡ 0) × (2 * (words / operation-words) ≤ room)
+opened (unsound broke) none = absurd (omega arith)
+opened (uneven sound rest) none = absurd (omega arith)
+opened (short sound whole little) none = absurd (omega arith)
+opened (opens sound whole room) none = (sound, whole, room)
+
 -- by the answer before the first operation
 module _ {w : Words} {words entry : List ℕ} {rule : ℕ} (j : Judged w rule) where
   pub strip-refused : {r : Answer} → Opening rule (length words) (length entry) r → (r .number ≡ 0 → ⊥) → StripOf w words entry (r .number) (r .value) w entry
-  strip-refused (no-store broke) some = judged w words entry j broke
-  strip-refused (ragged sound rest) some = not-whole w words entry j sound rest
+  strip-refused (unsound broke) some = judged w words entry j broke
+  strip-refused (uneven sound rest) some = not-whole w words entry j sound rest
   strip-refused (short sound whole little) some = no-room w words entry j sound whole little
   strip-refused (opens sound whole room) some = absurd (some refl)
 
   pub strip-runnable : {r : Answer} → Opening rule (length words) (length entry) r → r .number ≡ 0 → Runnable w words entry
-  strip-runnable (no-store broke) none = absurd (omega arith)
-  strip-runnable (ragged sound rest) none = absurd (omega arith)
-  strip-runnable (short sound whole little) none = absurd (omega arith)
-  strip-runnable (opens sound whole room) none = runnable w words entry j sound whole room
+  strip-runnable o none = let p = opened o none in runnable w words entry j (p .0) (p .1) (p .2)
 
   pub strip-run : {r : Answer} {v : Words} {exit : List ℕ} → Opening rule (length words) (length entry) r → r .number ≡ 0
       → Ran w (operations words) entry v exit → StripOf w words entry 0 0 v exit
-  strip-run (no-store broke) none ran = absurd (omega arith)
-  strip-run (ragged sound rest) none ran = absurd (omega arith)
-  strip-run (short sound whole little) none ran = absurd (omega arith)
-  strip-run (opens sound whole room) none ran = ran-through w words entry j sound whole room ran
+  strip-run o none ran = let p = opened o none in ran-through w words entry j (p .0) (p .1) (p .2) ran

@@ -1,7 +1,3 @@
 mod Making
-mod Told
-mod Stepping
-mod Additions
-mod Relocations
 mod Running
 mod Ending

@@ -17,11 +17,16 @@ use Rattle.shape.specs.Shape.{Words, Shape, capacities, shape-of}
 use Rattle.shape.specs.Checked.{Checked}
 use Rattle.shape.specs.Kept.{kept-none, kept-through, same-capacities}
 use Rattle.shape.specs.Steps.{shape-step, shape-run, state-of}
-use Rattle.shape.specs.Laws.Running.{shape-run-snoc}
-use Rattle.adjacency.specs.Laws.Reading.{write-one}
-use Rattle.strip.specs.Step.{StepOf, outcome}
+use Rattle.shape.specs.Laws.CheckedShape.{checked-proper, checked-based}
+use Rattle.shape.specs.Laws.Running.{shape-run-snoc, step-state}
+use Rattle.cursor.specs.Laws.Reading.{write-one}
+use Rattle.step.specs.Step.{StepOf, outcome}
 use Rattle.strip.specs.Strip.{Runnable, Steps, no-step, one-step, Ran}
-use Rattle.strip.proofs.Stepping.{step-lists}
+
+-- the plain lists and the compact flag afterwards are document 01's
+step-lists : {operation : Operation} {w v : Words} {number value : ℕ} → Checked w → StepOf operation w v number value
+    → state-of (shape-of v) ≡ stepped (capacities w) (state-of (shape-of w)) operation
+step-lists {operation} {w} c does = ap state-of (does .shaped) ∙ step-state (checked-proper w c) (checked-based w c) operation
 
 -- ---- the words
 

@@ -1,3 +1,2 @@
--- The laws of making a store and of a slot's fault, for the crates above to cite.
-pub mod Faults
+-- The laws of making a store, for the crates above to cite.
 pub mod Fresh

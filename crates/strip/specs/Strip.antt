@@ -5,6 +5,7 @@ use mathlib.Core.List.{List, [], _∷_}
 use lib.ListN.{length}
 use Rattle.plain.specs.declared.Answer.{Answer}
 use Rattle.plain.specs.declared.Operation.{Operation}
+use Rattle.plain.specs.Numbers.{done, no-store, too-short, ragged}
 use Rattle.plain.specs.Lists.{written}
 use Rattle.plain.specs.Operations.{operation-words, operations}
 use Rattle.plain.specs.Step.{run, answers}
@@ -15,7 +16,7 @@ use Rattle.shape.specs.Rules.{broken}
 use Rattle.shape.specs.Kept.{Kept, Spared, SameLengths}
 use Rattle.shape.specs.Fields.{StripLeaves}
 use Rattle.shape.specs.Steps.{shape-run, state-of}
-use Rattle.strip.specs.Step.{StepOf}
+use Rattle.step.specs.Step.{StepOf}
 
 -- What it takes to run a strip: a checked store, and two words of answer for every operation.
 pub record Runnable (w : Words) (words answers : List ℕ) : Type 0 where
@@ -41,13 +42,13 @@ pub record Ran (w : Words) (ops : List Operation) (entry : List ℕ) (v : Words)
 -- What a strip answers before its first operation, by the rule that its store breaks, its length and the room for its answers: "1, 3, 2", else 0.
 pub data Opening (rule length room : ℕ) : Answer → Type 0 where
   -- "words are no store | 1 | rule 1 to 7 | everything"
-  no-store : (rule ≡ 0 → ⊥) → Opening rule length room (record { number = 1; value = rule })
+  unsound : (rule ≡ 0 → ⊥) → Opening rule length room (record { number = no-store; value = rule })
   -- "Number 3 now concerns multiples of five": 3, its length, everything
-  ragged : rule ≡ 0 → (length % operation-words ≡ 0 → ⊥) → Opening rule length room (record { number = 3; value = length })
+  uneven : rule ≡ 0 → (length % operation-words ≡ 0 → ⊥) → Opening rule length room (record { number = ragged; value = length })
   -- "a lent slice too short | 2 | length needed | everything"
   short : rule ≡ 0 → length % operation-words ≡ 0 → room < 2 * (length / operation-words)
-      → Opening rule length room (record { number = 2; value = 2 * (length / operation-words) })
-  opens : rule ≡ 0 → length % operation-words ≡ 0 → 2 * (length / operation-words) ≤ room → Opening rule length room (record { number = 0; value = 0 })
+      → Opening rule length room (record { number = too-short; value = 2 * (length / operation-words) })
+  opens : rule ≡ 0 → length % operation-words ≡ 0 → 2 * (length / operation-words) ≤ room → Opening rule length room (record { number = done; value = 0 })
 
 -- what document 01 says of a strip on a store, number 1 included
 abbrev pub stripped : Words → List ℕ → ℕ → Stripped

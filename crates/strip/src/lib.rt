@@ -1,7 +1,5 @@
 // A fresh store, and the strip: document 01's list of operations on a store, behind the check. Port of what store.rs offers to its callers.
 
-pub mod step;
-
 use memory::Lengths;
 use memory::Limits;
 use plain::Answer;
@@ -124,7 +122,7 @@ fn operation_at(words: &[u32], i: usize) -> Operation
     ensures { λ r. ⌜ r ≡ getD (operations (now (words .entry))) i Unknown ⌝ }
 {
     let at = OPERATION_WORDS * i;
-    Operation::decode(
+    operation::decode(
         words[at],
         words[at + 1],
         words[at + 2],

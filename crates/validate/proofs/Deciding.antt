@@ -17,20 +17,20 @@ use Rattle.plain.specs.Plain.{Plain, node-bound, edge-bound, node-flags, edge-f
 use Rattle.shape.specs.Columns.{end-at}
 use Rattle.shape.specs.Shape.{Words, node-capacity, edge-capacity, node-live, edge-live, axis-words, shape-of, plain-of}
 use Rattle.plain.specs.Laws.Booleans.{and-left, and-right}
-use Rattle.shape.specs.Rules.{both-axes, ends-right, weights-right, index-right, ring-right, walks-right, rule-1, rule-2, rule-3, rule-4, rule-5, rule-6, rule-7, broken}
+use Rattle.shape.specs.Rules.{both-axes, ends-right, weights-right, index-right, ring-right, walks-right, rule-1, rule-2, rule-3, rule-4, rule-5, rule-6, broken}
 use Rattle.shape.specs.Laws.Checking.{all-below, ring-sound, ring-own, index-sound}
 use Rattle.shape.specs.Laws.Judging.{Structured, SlotsRight, unbroken-checked, sizes-sound, nodes-live-sound, edges-live-sound, axis-sound}
 use Rattle.shape.specs.Laws.Reading.{plain-node-bound, plain-edge-bound, plain-node-flags, plain-edge-flags, plain-end}
 use Rattle.adjacency.specs.Walk.{Walkable}
 use Rattle.adjacency.specs.Laws.Walk.{walk-below}
 use Rattle.adjacency.specs.Laws.StoreWalks.{list-is-walk}
-use Rattle.validate.specs.Laws.Passing.{entries-agree, slots-agree}
-use Rattle.validate.specs.Sizes.{sizes-test, AxisSized}
-use Rattle.validate.specs.Broken.{Counted, Threaded, broken-lists, broken-axes}
+use Rattle.validate_words.specs.Laws.Passing.{entries-agree, slots-agree}
+use Rattle.validate_words.specs.Sizes.{sizes-test, AxisSized}
+use Rattle.validate.specs.Broken.{Threaded, broken-lists, broken-axes}
 use Rattle.validate.specs.Judging.{Judged}
-use Rattle.validate.specs.Runs.{RunsReadable}
+use Rattle.validate_lists.specs.Runs.{RunsReadable}
 use Rattle.validate.specs.Flat.{ListsReadable}
-use Rattle.validate.specs.Walks.{WalksReadable, node-walk, walk-test, listed-test, walks-test}
+use Rattle.validate_lists.specs.Walks.{WalksReadable, node-walk, walk-test, listed-test, walks-test}
 
 -- ---- rule 1
 

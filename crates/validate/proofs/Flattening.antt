@@ -28,11 +28,11 @@ use Rattle.shape.specs.Laws.Walking.{between-member}
 use Rattle.shape.specs.Laws.Frames.{offset-within}
 use Rattle.shape.specs.Laws.Indexing.{from-append}
 use Rattle.shape.specs.Laws.Taking.{keep-append, keep-passing}
-use Rattle.validate.specs.Laws.Passing.{slots-from, slots-more, slots-none}
-use Rattle.validate.specs.Marks.{Entered, Followed, Adds}
-use Rattle.validate.specs.Climbs.{Linked, Picked}
+use Rattle.validate_words.specs.Laws.Passing.{slots-from, slots-more, slots-none}
+use Rattle.marks.specs.Marks.{Entered, Followed, Adds}
+use Rattle.validate_words.specs.Climbs.{Linked, Picked}
 use Rattle.validate.specs.Flat.{at-base, places, place-shown, base-entries, delta-links, PlaceReadable, EntryPlaced, Looked, CountReadable, BaseFlat, DeltaFlat, FlatReadable}
-use Rattle.validate.proofs.Following.{Following, follow-start, follow-done, follow-more, followed-once, followed-adds}
+use Rattle.marks.specs.Laws.Following.{Following, follow-start, follow-done, follow-more, followed-once, followed-adds}
 
 -- a bit that is not above another is set only where that is
 pub bit-above : (a w : ℕ) → leb a (w % 2) ≡ true → eqb a 1 ≡ true → eqb (w % 2) 1 ≡ true

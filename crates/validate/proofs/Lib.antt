@@ -1,11 +1,3 @@
-pub mod Counting
-pub mod Indexing
-pub mod Ringing
-pub mod Climbing
-pub mod Marking
-pub mod Following
-pub mod Running
-pub mod Walking
 pub mod Flattening
 pub mod Listing
 pub mod Deciding

@@ -12,10 +12,10 @@ use Rattle.plain.specs.Lists.{distinct, from, keep, count}
 use Rattle.shape.specs.Columns.{Sized, end-at, adjacency-at, next-at, mark-at, offset-at}
 use Rattle.shape.specs.Chains.{In}
 use Rattle.shape.specs.Checked.{LiveRight, Index, Rings}
-use Rattle.validate.specs.Sizes.{AxisSized}
-use Rattle.validate.specs.Marks.{marked}
-use Rattle.validate.specs.Climbs.{Linked}
-use Rattle.validate.specs.Runs.{taken, NodeOnce}
+use Rattle.validate_words.specs.Sizes.{AxisSized}
+use Rattle.marks.specs.Marks.{marked}
+use Rattle.validate_words.specs.Climbs.{Linked}
+use Rattle.validate_lists.specs.Runs.{taken, NodeOnce}
 
 -- the end of an edge has no run, so that its base part is read
 abbrev pub at-base : List ℕ → ℕ → ℕ → ℕ → Bool

@@ -3,6 +3,7 @@ use Prim.Native.Nat.{ℕ}
 use mathlib.Core.Path.{_≡_}
 use mathlib.Core.List.{[]}
 use Rattle.plain.specs.declared.Answer.{Answer}
+use Rattle.plain.specs.Numbers.{no-store}
 use Rattle.plain.specs.Reads.{Reply}
 use Rattle.shape.specs.Shape.{Words}
 use Rattle.shape.specs.Rules.{broken}
@@ -15,7 +16,7 @@ pub record Judged (w : Words) (rule : ℕ) : Type 0 where
 
 -- "words are no store | 1 | rule 1 to 7 | everything"
 abbrev pub refusal : ℕ → Answer
-refusal rule = record { number = 1; value = rule }
+refusal rule = record { number = no-store; value = rule }
 
 abbrev pub reply-refusal : ℕ → Reply
-reply-refusal rule = record { number = 1; value = rule; words = [] }
+reply-refusal rule = record { number = no-store; value = rule; words = [] }

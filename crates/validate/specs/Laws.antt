@@ -1,4 +1,2 @@
 -- The laws of the check, for the crates above to cite.
-pub mod Passing
-pub mod Fresh
 pub mod Judging

@@ -2,24 +2,24 @@
 // edges of the delta. Each marks what it finds in one map, so that nothing is found twice, and in the end every live edge is marked. Runs are followed once, and
 // with them the rings of their nodes; what has no run is looked at entry by entry, not node by node, since a walk of unknown length is what a check is slow at.
 
-use crate::axes::words_below;
-use crate::marks::mark_step;
-use crate::rings::edge_linked;
-use crate::rings::pick;
-use crate::runs::runs_once;
-use crate::walks::live_marked;
+use marks::mark_step;
 use plain::Counts;
+use validate_lists::runs::runs_once;
+use validate_lists::walks::live_marked;
+use validate_words::axes::words_below;
+use validate_words::rings::edge_linked;
+use validate_words::rings::pick;
 ghost use mathlib.Core.Path.{_≡_};
 ghost use mathlib.Core.Bool.{true, false, not};
-ghost use Prim.Native.Nat.{ℕ, _*_, _≤_, _<_};
+ghost use Prim.Native.Nat.{ℕ, _*_, _<_};
 ghost use lib.ListN.{length, getD};
 ghost use lib.Dec.{eqb};
 ghost use Rattle.liveness.specs.Flags.{live-bit, live-flags};
 ghost use Rattle.shape.specs.Columns.{Sized, end-at, mark-at};
 ghost use Rattle.shape.specs.Rules.{runs-right as runs-test};
-ghost use Rattle.validate.specs.Marks.{marked, Adds};
-ghost use Rattle.validate.specs.Climbs.{Linked, LinkReadable};
-ghost use Rattle.validate.specs.Walks.{walks-test};
+ghost use Rattle.marks.specs.Marks.{marked, Adds};
+ghost use Rattle.validate_words.specs.Climbs.{Linked, LinkReadable};
+ghost use Rattle.validate_lists.specs.Walks.{walks-test};
 ghost use Rattle.validate.specs.Flat.{at-base, base-entries, delta-links, places, PlaceReadable, EntryPlaced, Looked, CountReadable, BaseFlat, DeltaFlat, ListsOnce, FlatReadable, ListsReadable};
 
 // Whether a node has a run; where none has, `runless` says so, and its mark is not read.

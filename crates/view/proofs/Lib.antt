@@ -1,6 +1,4 @@
 mod Reading
 mod Counting
-mod Walking
 mod Listing
-mod Seeking
 mod Marks

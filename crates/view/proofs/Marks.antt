@@ -19,7 +19,7 @@ use Rattle.shape.specs.Columns.{mark-at}
 use Rattle.shape.specs.Shape.{Words, node-capacity, edge-capacity, axis-words, adjacency-in, axis-of, run-of, has-run, shape-of, is-compact}
 use Rattle.shape.specs.Checked.{Checked}
 use Rattle.shape.specs.Laws.Reading.{node-bound-is, edge-bound-is, node-flags-are, edge-flags-are, axis-is}
-use Rattle.validate.specs.Laws.Passing.{slots-agree}
+use Rattle.validate_words.specs.Laws.Passing.{slots-agree}
 use Rattle.view.specs.Compact.{unmarked, MarksThere}
 
 -- ---- flags: all are live where as many are live as there are

@@ -1,6 +1,5 @@
 pub mod Calls
 pub mod Slots
-pub mod Walks
 pub mod Ids
 pub mod Compact
 pub mod Laws

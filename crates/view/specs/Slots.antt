@@ -4,7 +4,7 @@ use mathlib.Core.List.{List}
 use lib.ListN.{length, getD}
 use Rattle.plain.specs.declared.Answer.{Answer}
 use Rattle.plain.specs.declared.Record.{Record}
-use Rattle.plain.specs.Numbers.{NONE}
+use Rattle.plain.specs.Numbers.{NONE, done}
 
 -- a number with no value
 abbrev pub refused : ℕ → Answer
@@ -13,7 +13,7 @@ refused number = record { number = number; value = NONE }
 -- an edge's record by its words
 abbrev pub record-words : List ℕ → List ℕ → List ℕ → List ℕ → ℕ → Record
 record-words lows highs outgoing incoming e = record {
-  number = 0;
+  number = done;
   value = 0;
   source = getD outgoing e 0;
   target = getD incoming e 0;

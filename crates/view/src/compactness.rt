@@ -3,9 +3,9 @@
 use crate::answers::yes_or_no;
 use plain::Answer;
 use plain::Counts;
-use validate::axes::words_below;
 use validate::judging::judge;
 use validate::judging::no_store;
+use validate_words::axes::words_below;
 ghost use mathlib.Core.Path.{_≡_};
 ghost use Rattle.plain.specs.Reads.{is-compact as compact-answer};
 ghost use Rattle.shape.specs.Checked.{Checked};

@@ -3,8 +3,6 @@
 
 pub mod answers;
 pub mod compactness;
-pub mod finding;
 pub mod ids;
 pub mod slots;
-pub mod walks;
 pub mod whole;

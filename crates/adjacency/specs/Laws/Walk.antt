@@ -24,11 +24,11 @@ use Rattle.shape.specs.Columns.{cell}
 use Rattle.shape.specs.Chains.{ring, In}
 use Rattle.shape.specs.Shape.{adjacency-in, part, raw, live-in}
 use Rattle.shape.specs.Laws.Chains.{in-none}
-use Rattle.adjacency.specs.declared.cursor.AdjacencyCursor.{AdjacencyCursor}
-use Rattle.adjacency.specs.declared.cursor.Start.{Start}
-use Rattle.adjacency.specs.Cursor.{word, part-left, part-count, ring-left, remaining, base-at, listed, listed-left, Seekable, Writable}
-use Rattle.adjacency.specs.Laws.Cursor.{part-counted, ring-remaining}
-use Rattle.adjacency.specs.Laws.Reading.{kept-short}
+use Rattle.cursor.specs.declared.AdjacencyCursor.{AdjacencyCursor}
+use Rattle.cursor.specs.declared.Start.{Start}
+use Rattle.cursor.specs.Cursor.{word, part-left, part-count, ring-left, remaining, base-at, listed, listed-left, Seekable, Writable}
+use Rattle.cursor.specs.Laws.Cursor.{part-counted, ring-remaining}
+use Rattle.cursor.specs.Laws.Reading.{kept-short}
 use Rattle.adjacency.specs.Walk.{walk-in, tombstoned-in, column, entries-column, next-column, Readable, Walkable, Started}
 
 -- ---- columns

@@ -1,4 +1,4 @@
--- `drop_dead` meets its contract: call by call.
+-- `compact::drop_dead` meets its contract: call by call.
 use mathlib.Core.Path.{ap₂}
 use native.Mathlib.Omega.{arith}
 use borrow.Author.Needs.{needs}

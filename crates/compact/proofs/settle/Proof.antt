@@ -1,4 +1,4 @@
--- `settle` meets its contract: the maps, the work slice, then the store.
+-- `compact::settle` meets its contract: the maps, the work slice, then the store.
 use borrow.Author.Needs.{needs}
 use Rattle.compact.proofs.Settling.{nodes-map-fits, edges-map-fits, workable, droppable}
 use Rattle.compact.proofs.settle.Statement.{statement}
@@ -85,13 +85,13 @@ settle-spec =
     write-map-requires-2
     write-work-requires
     drop-dead-requires
-    (λ c. search needs)
-    (λ c. search needs)
-    (λ c. search needs)
-    (λ c. search needs)
-    (λ c. search needs)
-    (λ c. search needs)
-    (λ c. search needs)
+    (λ c. at-drop-dead c .drop-dead .kept .1 .0)
+    (λ c. at-drop-dead c .drop-dead .kept .1 .1 .0)
+    (λ c. at-drop-dead c .drop-dead .kept .1 .1 .1 .0)
+    (λ c. at-drop-dead c .drop-dead .kept .1 .1 .1 .1 .0)
+    (λ c. at-drop-dead c .drop-dead .kept .1 .1 .1 .1 .1 .0)
+    (λ c. at-drop-dead c .drop-dead .kept .1 .1 .1 .1 .1 .1 .0)
+    (λ c. at-drop-dead c .drop-dead .kept .1 .1 .1 .1 .1 .1 .1 .0)
     same-length-8
     same-length-9
     same-length-10

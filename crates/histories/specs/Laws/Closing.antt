@@ -26,7 +26,7 @@ use Rattle.shape.specs.Laws.Judging.{checked-sound}
 use Rattle.shape.specs.Steps.{state-of}
 use Rattle.shape.specs.Laws.Reading.{plain-node-flags, plain-edge-flags}
 use Rattle.compact.specs.Calls.{Canonical, compacting-of}
-use Rattle.image.specs.Calls.{written-image}
+use Rattle.image_write.specs.Calls.{written-image}
 use Rattle.histories.specs.Closing.{Compacting, Writing, image-in, Closing, NothingMore, compaction-of, writing-of, written-of, Compacts, Writes, Images, Closes}
 use Rattle.histories.specs.Laws.Following.{checked-within, compacting-is}
 

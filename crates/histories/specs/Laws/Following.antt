@@ -24,7 +24,7 @@ use Rattle.memory.specs.Laws.{read-roomy}
 use Rattle.strip.specs.Laws.Fresh.{fresh-takes}
 use Rattle.strip.specs.Strip.{StripOf, stripped}
 use Rattle.compact.specs.Calls.{compacting-of, CompactOf}
-use Rattle.image.specs.Calls.{ReadOf}
+use Rattle.image_read.specs.Calls.{ReadOf}
 use Rattle.histories.specs.Runs.{Request, StripInto, CompactionInto, ReadingOf, call-of, Heard, Turn, Turned, stripped as by-strip, compacted as by-compaction, read as by-reading, Turns, no-turn, turn, Origin, StoreOf, first-state, Made, made-fresh, made-by-reading, made-elsewhere, Ran}
 use Rattle.histories.specs.Follows.{told, CanAnswer, no-answer, one-answer, RefusalKeeps, no-refusal, one-kept, Follows}
 use Rattle.histories.specs.Laws.Calling.{roomy-read, checked-long, call-numbers}

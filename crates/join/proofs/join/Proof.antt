@@ -1,4 +1,4 @@
--- `join` meets its contract: the check of both books, the answer by numbers, then the third memory.
+-- `join::join` meets its contract: the check of both books, the answer by numbers, then the third memory.
 use mathlib.Core.Path.{ap₂}
 use borrow.Author.Needs.{needs}
 use Rattle.plain.specs.declared.Slots.{Slots}

@@ -1,4 +1,4 @@
--- `settle` meets its contract: the maps, both directions, the payloads, the live words, call by call.
+-- `join::settle` meets its contract: the maps, both directions, the payloads, the live words, call by call.
 use mathlib.Core.Path.{ap₂}
 use native.Mathlib.Omega.{arith}
 use borrow.Author.Needs.{needs}

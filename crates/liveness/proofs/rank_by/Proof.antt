@@ -1,4 +1,4 @@
--- `rank_by` meets its contract: the slots of the words before, and those of its own word before it.
+-- `liveness::rank_by` meets its contract: the slots of the words before, and those of its own word before it.
 use Prim.Native.Nat.{_+_, _/_, _%_, _^_}
 use mathlib.Core.Path.{_≡_, sym, _∙_}
 use native.Mathlib.Omega.{arith}

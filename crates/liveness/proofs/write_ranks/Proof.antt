@@ -1,4 +1,4 @@
--- `write_ranks` meets its contract: the counts before the words passed are there.
+-- `liveness::write_ranks` meets its contract: the counts before the words passed are there.
 use Prim.Native.Nat.{_-_, _*_, _≤_}
 use mathlib.Core.Path.{_≡_, refl, sym, subst}
 use native.Mathlib.Omega.{arith}

@@ -1,7 +1,6 @@
 -- `lotstrip::read_input` meets its contract: the bytes that are there are a part of what was lent. The measure is how much room is left.
 use Prim.Native.Nat.{_-_, _≤_}
 use mathlib.Core.Path.{_≡_}
-use native.Mathlib.Omega.{arith}
 use borrow.Author.Needs.{needs}
 use lib.ListN.{length}
 use Rattle.lotstrip.proofs.read_input.Statement.{statement}

@@ -28,7 +28,7 @@ use Rattle.shape.specs.Checked.{Checked}
 use Rattle.shape.specs.Laws.Chains.{in-none, in-front}
 use Rattle.shape.specs.Laws.Refining.{list-is-walk}
 use Rattle.shape.specs.Laws.Reading.{edge-flags-are, node-flags-are, shape-adjacency, plain-end}
-use Rattle.relocate.specs.Laws.Runs.{entries-are, entries-of, alive-below}
+use Rattle.runs.specs.Laws.Runs.{entries-are, entries-of, alive-below}
 use Rattle.relocate.specs.Redirects.{Linked, Relocatable, Placed, Redirectable}
 use Rattle.relocate.specs.Moves.{Movable}
 

@@ -1,4 +1,4 @@
--- `operation_at` meets its contract: the operation is decoded from its five words.
+-- `strip::operation_at` meets its contract: the operation is decoded from its five words.
 use mathlib.Core.Path.{sym, _∙_}
 use borrow.Author.Needs.{needs}
 use Rattle.plain.specs.Laws.Strips.{operation-at}

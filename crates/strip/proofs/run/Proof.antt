@@ -1,4 +1,4 @@
--- `run` meets its contract. The loop's invariant: the first `i` operations are done and answered. The measure is the number of operations left.
+-- `strip::run` meets its contract. The loop's invariant: the first `i` operations are done and answered. The measure is the number of operations left.
 use Prim.Native.Nat.{_-_}
 use mathlib.Core.Path.{ap}
 use native.Mathlib.Omega.{arith}

@@ -1,4 +1,4 @@
--- `strip` meets its contract: the check and the answer before the first operation, then the operations. A slice is as long as it was, by `refl` where the strip is
+-- `strip::strip` meets its contract: the check and the answer before the first operation, then the operations. A slice is as long as it was, by `refl` where the strip is
 -- refused and else by the word of `run`.
 use mathlib.Core.Path.{refl}
 use borrow.Author.Needs.{needs}

@@ -1,4 +1,4 @@
--- `write_answer` meets its contract.
+-- `strip::write_answer` meets its contract.
 use native.Mathlib.Omega.{arith}
 use lib.ListN.{length-set}
 use borrow.Author.Needs.{needs}

@@ -8,8 +8,8 @@ use Rattle.plain.specs.Lists.{all, from}
 use Rattle.plain.specs.Laws.Booleans.{both-true}
 use Rattle.shape.specs.Shape.{Words, node-capacity, edge-capacity, axis-words, store}
 use Rattle.shape.specs.Rules.{both-axes, ends-right, rule-3, index-right, rule-4, ring-right, rule-5}
-use Rattle.validate.specs.Laws.Passing.{refused, accepted}
-use Rattle.validate.specs.Sizes.{AxisSized}
+use Rattle.validate_words.specs.Laws.Passing.{refused, accepted}
+use Rattle.validate_words.specs.Sizes.{AxisSized}
 use Rattle.validate.specs.Broken.{Threaded, broken-axes}
 use Rattle.validate.proofs.Deciding.{axis-sized, weights-there}
 use Rattle.validate.proofs.broken_axes.Statement.{statement}

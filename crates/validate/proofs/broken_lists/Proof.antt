@@ -6,7 +6,7 @@ use Rattle.plain.specs.Laws.Booleans.{both-true}
 use Rattle.shape.specs.Shape.{Words, node-capacity, edge-capacity, node-live, edge-live, shape-of, plain-of, store}
 use Rattle.shape.specs.Rules.{runs-right, rule-6, walks-right, rule-7}
 use Rattle.shape.specs.Laws.Judging.{Structured}
-use Rattle.validate.specs.Laws.Passing.{refused, accepted}
+use Rattle.validate_words.specs.Laws.Passing.{refused, accepted}
 use Rattle.validate.specs.Broken.{broken-lists}
 use Rattle.validate.proofs.Deciding.{structured, lists-readable, runs-readable, walks-readable, walks-rule}
 use Rattle.validate.proofs.broken_lists.Statement.{statement}

@@ -56,22 +56,22 @@ use denote.Triple.Table.{entered, cited}
 use denote.Triple.Walked.{says, needs, Stays, stay-ref, stay-none, stay-none-slice, walkOf, goes-none, goes-none-slice, goes-ref, Walks, ends-at, walked, walk-meets}
 use denote.Exit.{yes}
 use Rattle.liveness.specs.Flags.{live-flags}
-use Rattle.adjacency.specs.Cursor.{listed, Seekable, Sought}
+use Rattle.cursor.specs.Cursor.{listed, Seekable, Sought}
 use Rattle.adjacency.specs.declared.axis.Axis.{Axis}
-use Rattle.adjacency.specs.declared.cursor.AdjacencyCursor.{AdjacencyCursor}
-use Rattle.adjacency.specs.declared.cursor.Step.{Step}
-use Rattle.adjacency.proofs.cursor.AdjacencyCursor as T
-use Rattle.adjacency.proofs.cursor.AdjacencyCursor.Laws as T′
+use Rattle.cursor.specs.declared.AdjacencyCursor.{AdjacencyCursor}
+use Rattle.cursor.specs.declared.Step.{Step}
+use Rattle.cursor.proofs.AdjacencyCursor as T
+use Rattle.cursor.proofs.AdjacencyCursor.Laws as T′
 use Rattle.adjacency.proofs.axis.Axis as X
 use Rattle.adjacency.proofs.axis.Axis.Laws as X′
-use Rattle.adjacency.proofs.cursor.Found as F
-use Rattle.adjacency.proofs.cursor.Found.Laws as F′
-use Rattle.adjacency.proofs.cursor.Step as S
-use Rattle.adjacency.proofs.cursor.Step.Laws as S′
-use Rattle.adjacency.proofs.cursor.AdjacencyCursor.seek as seek
-use Rattle.adjacency.proofs.cursor.AdjacencyCursor.seek.Symbol as seek-def
-use Rattle.adjacency.proofs.cursor.AdjacencyCursor.seek.Symbol.{name as #seek}
-use Rattle.adjacency.proofs.cursor.AdjacencyCursor.seek.Met as seek-thm
+use Rattle.cursor.proofs.Found as F
+use Rattle.cursor.proofs.Found.Laws as F′
+use Rattle.cursor.proofs.Step as S
+use Rattle.cursor.proofs.Step.Laws as S′
+use Rattle.cursor.proofs.AdjacencyCursor.seek as seek
+use Rattle.cursor.proofs.AdjacencyCursor.seek.Symbol as seek-def
+use Rattle.cursor.proofs.AdjacencyCursor.seek.Symbol.{name as #seek}
+use Rattle.cursor.proofs.AdjacencyCursor.seek.Met as seek-thm
 use Rattle.adjacency.proofs.axis.advance.Key.{name as #advance}
 use Rattle.adjacency.proofs.axis.advance as advance
 use Rattle.adjacency.proofs.axis.advance.Statement as stated
@@ -258,4 +258,4 @@ advance-spec 𝓤 H 𝓜 𝓖 𝓡 =
     entered 𝓤 H (tripleOf 𝓤 H (𝓖 .A) advance.signature (advance.spec 𝓤 H (𝓖 .A) (𝓜 .mem) (𝓡 .run)))
     (tables 𝓤 H 𝓜 𝓡 code.env .C) (tables 𝓤 H 𝓜 𝓡 code.env .Λ) #advance code.function (code.unfolded 𝓤 H 𝓜 𝓡)
     (advance-meets 𝓤 H (𝓖 .A) (givenOf 𝓤 H 𝓜 𝓖) (𝓜 .mem) (𝓡 .run) (tablesOf 𝓤 H 𝓜 (tables 𝓤 H 𝓜 𝓡 code.env))
-    (cited 𝓤 H (Seek 𝓤 H (𝓖 .A) (𝓜 .mem) (𝓡 .run)) 𝓜 𝓡 code.env #seek seek-def.routine code.calls-adjacency·cursor·AdjacencyCursor·seek (seek-thm.met 𝓤 H 𝓜 𝓖 𝓡)))
+    (cited 𝓤 H (Seek 𝓤 H (𝓖 .A) (𝓜 .mem) (𝓡 .run)) 𝓜 𝓡 code.env #seek seek-def.routine code.calls-cursor·AdjacencyCursor·seek (seek-thm.met 𝓤 H 𝓜 𝓖 𝓡)))

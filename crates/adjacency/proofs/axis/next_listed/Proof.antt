@@ -57,21 +57,21 @@ use denote.Triple.Walked.{says, needs, Stays, stay-none, stay-none-slice, walkOf
 use denote.Exit.{yes}
 use Rattle.liveness.specs.Flags.{live-flags}
 use Rattle.shape.specs.Columns.{Sized}
-use Rattle.adjacency.specs.Cursor.{listed, Seekable, Sought}
+use Rattle.cursor.specs.Cursor.{listed, Seekable, Sought}
 use Rattle.adjacency.specs.Axis.{Columns, Advanceable, Advanced, stepped}
 use Rattle.adjacency.proofs.Columns.{seekable-along, sought-along}
 use Rattle.adjacency.specs.declared.axis.Axis.{Axis}
-use Rattle.adjacency.specs.declared.cursor.AdjacencyCursor.{AdjacencyCursor}
-use Rattle.adjacency.specs.declared.cursor.Found.{Found}
-use Rattle.adjacency.specs.declared.cursor.Step.{Step}
+use Rattle.cursor.specs.declared.AdjacencyCursor.{AdjacencyCursor}
+use Rattle.cursor.specs.declared.Found.{Found}
+use Rattle.cursor.specs.declared.Step.{Step}
 use Rattle.adjacency.proofs.axis.Axis as X
 use Rattle.adjacency.proofs.axis.Axis.Laws as X′
-use Rattle.adjacency.proofs.cursor.AdjacencyCursor as T
-use Rattle.adjacency.proofs.cursor.AdjacencyCursor.Laws as T′
-use Rattle.adjacency.proofs.cursor.Found as F
-use Rattle.adjacency.proofs.cursor.Found.Laws as F′
-use Rattle.adjacency.proofs.cursor.Step as S
-use Rattle.adjacency.proofs.cursor.Step.Laws as S′
+use Rattle.cursor.proofs.AdjacencyCursor as T
+use Rattle.cursor.proofs.AdjacencyCursor.Laws as T′
+use Rattle.cursor.proofs.Found as F
+use Rattle.cursor.proofs.Found.Laws as F′
+use Rattle.cursor.proofs.Step as S
+use Rattle.cursor.proofs.Step.Laws as S′
 use Rattle.adjacency.proofs.axis.Axis.of as axis-of
 use Rattle.adjacency.proofs.axis.Axis.of.Symbol as axis-of-def
 use Rattle.adjacency.proofs.axis.Axis.of.Symbol.{name as #of}

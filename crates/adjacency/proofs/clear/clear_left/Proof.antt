@@ -2,9 +2,9 @@
 use native.Mathlib.Omega.{arith}
 use borrow.Author.Needs.{needs}
 use lib.ListN.{length}
-use Rattle.adjacency.specs.Cursor.{remaining}
+use Rattle.cursor.specs.Cursor.{remaining}
 use Rattle.adjacency.specs.Walk.{entries-column, next-column}
-use Rattle.adjacency.specs.Laws.Reading.{sought-less}
+use Rattle.cursor.specs.Laws.Reading.{sought-less}
 use Rattle.adjacency.specs.Laws.Clear.{retired-then}
 use Rattle.adjacency.proofs.Clearing.{Clearing, clearing-start, clearing-next, clearing-on, clearing-end, retired-few}
 use Rattle.adjacency.proofs.clear.clear_left.Statement.{statement}

@@ -1,4 +1,4 @@
--- `rings::append` meets its contract: the stores of its two ways are those of `append-first` and `append-more`.
+-- `adjacency::rings::append` meets its contract: the stores of its two ways are those of `append-first` and `append-more`.
 use Prim.Native.Nat.{_<_}
 use native.Mathlib.Omega.{arith}
 use borrow.Author.Needs.{needs}

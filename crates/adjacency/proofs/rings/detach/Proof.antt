@@ -1,4 +1,4 @@
--- `rings::detach` meets its contract: its store is that of `detached`.
+-- `adjacency::rings::detach` meets its contract: its store is that of `detached`.
 use borrow.Author.Needs.{needs}
 use Rattle.adjacency.proofs.Emptying.{detached}
 use Rattle.adjacency.proofs.rings.detach.Statement.{statement}

@@ -1,4 +1,4 @@
--- `rings::open_node` meets its contract: its stores are those of `opened`.
+-- `adjacency::rings::open_node` meets its contract: its stores are those of `opened`.
 use native.Mathlib.Omega.{arith}
 use borrow.Author.Needs.{needs}
 use lib.ListN.{length-set}

@@ -1,4 +1,4 @@
--- `rings::ring_ends` meets its contract, by `ends-none` and `ends-some`.
+-- `adjacency::rings::ring_ends` meets its contract, by `ends-none` and `ends-some`.
 use mathlib.Core.Path.{sym}
 use native.Mathlib.Omega.{arith}
 use borrow.Author.Needs.{needs}

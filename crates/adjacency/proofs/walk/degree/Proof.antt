@@ -2,8 +2,8 @@
 use mathlib.Core.Path.{sym, _∙_}
 use native.Mathlib.Omega.{arith}
 use borrow.Author.Needs.{needs}
-use Rattle.adjacency.specs.Laws.Cursor.{ring-ready}
-use Rattle.adjacency.proofs.Stepping.{base-within}
+use Rattle.cursor.specs.Laws.Cursor.{ring-ready}
+use Rattle.cursor.specs.Laws.Stepping.{base-within}
 use Rattle.adjacency.specs.Laws.Walk.{given-degree, walk-short}
 use Rattle.adjacency.proofs.walk.degree.Statement.{statement}
 use Rattle.adjacency.proofs.walk.degree.Tie as tie

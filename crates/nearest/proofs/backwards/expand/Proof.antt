@@ -7,8 +7,8 @@ use native.Mathlib.Nat.{lt-of-lt-of-le}
 use borrow.Author.Needs.{needs}
 use lib.ListN.{length, getD}
 use Rattle.liveness.specs.Flags.{live-flags}
-use Rattle.adjacency.specs.Cursor.{remaining, listed}
-use Rattle.adjacency.specs.Laws.Cursor.{turn-less, step-below}
+use Rattle.cursor.specs.Cursor.{remaining, listed}
+use Rattle.cursor.specs.Laws.Cursor.{turn-less, step-below}
 use Rattle.nearest.proofs.Expanding.{Expanding, expanding-start, expanding-see, expanding-on, expanding-skip, expanding-end, length-turn}
 use Rattle.nearest.specs.Frontier.{Frontier, frontier}
 use Rattle.nearest.proofs.backwards.expand.Statement.{statement}

@@ -7,9 +7,9 @@ use borrow.Author.Needs.{needs}
 use borrow.Author.Tests.{eq-eqb, ne-eqb}
 use lib.ListN.{length, getD}
 use Rattle.liveness.specs.Flags.{live-flags}
-use Rattle.adjacency.specs.Cursor.{remaining, listed}
-use Rattle.adjacency.specs.Laws.Cursor.{turn-less, step-below}
-use Rattle.adjacency.specs.Laws.Finding.{search-found, search-none}
+use Rattle.cursor.specs.Cursor.{remaining, listed}
+use Rattle.cursor.specs.Laws.Cursor.{turn-less, step-below}
+use Rattle.cursor.specs.Laws.Finding.{search-found, search-none}
 use Rattle.nearest.specs.Forwards.{leads}
 use Rattle.nearest.proofs.Nearing.{Nearing, nearing-start, nearing-word, nearing-on, nearing-skip}
 use Rattle.nearest.proofs.forwards.nearer.Statement.{statement}

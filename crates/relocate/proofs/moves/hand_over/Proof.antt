@@ -1,4 +1,4 @@
--- `moves::hand_over` meets its contract: the stores of its ways are those of `hand-first` and `hand-more`.
+-- `relocate::moves::hand_over` meets its contract: the stores of its ways are those of `hand-first` and `hand-more`.
 use Prim.Native.Nat.{_<_}
 use native.Mathlib.Omega.{arith}
 use mathlib.Core.Logic.{_≢_}
@@ -36,15 +36,7 @@ hand-over-spec =
     (λ c. search needs)
     (λ c. search needs)
     (λ c. search needs)
-    (λ c. search needs)
-    (λ c. search needs)
-    (λ c. search needs)
     (λ c. hand-none (c .before .before .pre) (c .if1 .taken))
-    (λ c. search needs)
-    (λ c. search needs)
-    (λ c. search needs)
-    (λ c. search needs)
-    (λ c. search needs)
     (λ c. search needs)
     (λ c. search needs)
     (λ c. search needs)
@@ -62,8 +54,6 @@ hand-over-spec =
     (λ c. simp length-set (omega arith))
     (λ c. search needs)
     (λ c. simp length-set (omega arith))
-    (λ c. search needs)
-    (λ c. search needs)
     (λ c. search needs)
     (λ c. search needs)
     (λ c. simp length-set (omega arith))

@@ -1,4 +1,4 @@
--- `moves::meet` meets its contract, from what `prepare` ensures of each run.
+-- `relocate::moves::meet` meets its contract, from what `prepare` ensures of each run.
 use borrow.Author.Needs.{needs}
 use Rattle.relocate.proofs.Moving.{move-prepare-old, move-prepare-new}
 use Rattle.relocate.proofs.moves.meet.Statement.{statement}

@@ -1,4 +1,4 @@
--- `moves::move_adjacency` meets its contract, from what `meet`, `relabel` and `hand_over` ensure.
+-- `relocate::moves::move_adjacency` meets its contract, from what `meet`, `relabel` and `hand_over` ensure.
 use borrow.Author.Needs.{needs}
 use Rattle.relocate.proofs.Moving.{move-relabel, move-hand, move-done}
 use Rattle.relocate.proofs.moves.move_adjacency.Statement.{statement}

@@ -1,4 +1,4 @@
--- `moves::relabel` meets its contract. The invariant is `Relabelling`; the measure is how many entries are left.
+-- `relocate::moves::relabel` meets its contract. The invariant is `Relabelling`; the measure is how many entries are left.
 use Prim.Native.Nat.{_*_, _≤_, _<_}
 use native.Mathlib.Omega.{arith}
 use borrow.Author.Needs.{needs}

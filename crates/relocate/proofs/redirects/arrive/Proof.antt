@@ -1,4 +1,4 @@
--- `redirects::arrive` meets its contract, from what `prepare` and `push` ensure.
+-- `relocate::redirects::arrive` meets its contract, from what `prepare` and `push` ensure.
 use borrow.Author.Needs.{needs}
 use Rattle.relocate.proofs.Redirecting.{arrive-push, arrive-end}
 use Rattle.relocate.proofs.redirects.arrive.Statement.{statement}

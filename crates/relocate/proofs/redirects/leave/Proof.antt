@@ -1,4 +1,4 @@
--- `redirects::leave` meets its contract, from what `prepare` and `take_out` ensure.
+-- `relocate::redirects::leave` meets its contract, from what `prepare` and `take_out` ensure.
 use borrow.Author.Needs.{needs}
 use Rattle.relocate.proofs.Redirecting.{leave-out, leave-end}
 use Rattle.relocate.proofs.redirects.leave.Statement.{statement}

@@ -1,4 +1,4 @@
--- `redirects::redirect` meets its contract, from what `leave` and `arrive` ensure; its store is that of `redirect-done`.
+-- `relocate::redirects::redirect` meets its contract, from what `leave` and `arrive` ensure; its store is that of `redirect-done`.
 use mathlib.Core.Path.{_∙_}
 use borrow.Author.Needs.{needs}
 use lib.ListN.{length-set}

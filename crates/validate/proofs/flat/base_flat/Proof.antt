@@ -9,7 +9,7 @@ use Rattle.plain.specs.Lists.{from, count}
 use Rattle.plain.specs.Laws.Booleans.{true-false}
 use Rattle.shape.specs.Columns.{adjacency-at}
 use Rattle.validate.specs.Flat.{place-shown, EntryPlaced}
-use Rattle.validate.proofs.Climbing.{Counting, count-start, count-on, count-done}
+use Rattle.validate_words.specs.Laws.Passing.{Counting, count-start, count-on, count-done}
 use Rattle.validate.proofs.Flattening.{Marking, marking-start, marking-on, entry-readable, count-readable, base-done}
 use Rattle.validate.proofs.flat.base_flat.Statement.{statement}
 use Rattle.validate.proofs.flat.base_flat.Tie as tie

@@ -6,7 +6,7 @@ use native.Mathlib.Omega.{arith}
 use borrow.Author.Tests.{not-false}
 use Rattle.plain.specs.Laws.Booleans.{true-false}
 use Rattle.shape.specs.Columns.{next-at}
-use Rattle.validate.specs.Climbs.{Linked}
+use Rattle.validate_words.specs.Climbs.{Linked}
 use Rattle.validate.specs.Flat.{at-base}
 use Rattle.validate.proofs.Flattening.{Marking, marking-start, marking-on, looked-some, delta-done}
 use Rattle.validate.proofs.flat.delta_flat.Statement.{statement}

@@ -3,7 +3,7 @@ use mathlib.Core.Path.{refl, sym, _∙_}
 use native.Mathlib.Omega.{arith}
 use borrow.Author.Tests.{not-false}
 use Rattle.plain.specs.Laws.Booleans.{true-false}
-use Rattle.validate.specs.Laws.Fresh.{clear-map}
+use Rattle.marks.specs.Laws.Fresh.{clear-map}
 use Rattle.validate.proofs.Listing.{flat-readable, map-long, runs-hold, walks-hold}
 use Rattle.validate.proofs.flat.lists_flat.Statement.{statement}
 use Rattle.validate.proofs.flat.lists_flat.Tie as tie

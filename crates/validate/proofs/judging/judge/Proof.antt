@@ -9,7 +9,7 @@ use Rattle.plain.specs.Laws.Booleans.{both-true}
 use Rattle.shape.specs.Shape.{Words, store}
 use Rattle.shape.specs.Rules.{broken, rule-1, live-agrees, rule-2}
 use Rattle.shape.specs.Laws.Judging.{sizes-sound}
-use Rattle.validate.specs.Laws.Passing.{refused, accepted}
+use Rattle.validate_words.specs.Laws.Passing.{refused, accepted}
 use Rattle.validate.specs.Broken.{Counted}
 use Rattle.validate.specs.Judging.{Judged}
 use Rattle.validate.proofs.Deciding.{sizes-rule, live-there, broken-parts, judges}

@@ -1,4 +1,4 @@
--- `answers::judged` meets its contract: by whether a rule is broken.
+-- `view::answers::judged` meets its contract: by whether a rule is broken.
 use mathlib.Core.Path.{_∙_}
 use borrow.Author.Needs.{needs}
 use Rattle.view.proofs.Counting.{judged-none, judged-one}

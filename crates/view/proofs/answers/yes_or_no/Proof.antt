@@ -1,4 +1,4 @@
--- `answers::yes_or_no` meets its contract, by its test.
+-- `view::answers::yes_or_no` meets its contract, by its test.
 use mathlib.Core.Path.{_∙_}
 use borrow.Author.Needs.{needs}
 use Rattle.view.proofs.answers.yes_or_no.Statement.{statement}

@@ -1,4 +1,4 @@
--- `compactness::is_compact` meets its contract: the check, and then the test of a checked store.
+-- `view::compactness::is_compact` meets its contract: the check, and then the test of a checked store.
 use mathlib.Core.Path.{ap, _∙_}
 use borrow.Author.Needs.{needs}
 use Rattle.plain.specs.Reads.{yes-or-no, is-compact}

@@ -1,8 +1,8 @@
--- `compactness::is_compact_checked` meets its contract: the parts of the test one after the other, up to the first that fails.
+-- `view::compactness::is_compact_checked` meets its contract: the parts of the test one after the other, up to the first that fails.
 use mathlib.Core.Path.{sym, _∙_}
 use borrow.Author.Tests.{eq-eqb, ne-eqb}
 use Rattle.plain.specs.declared.TraversalDirection.the-variants.{Outgoing, Incoming}
-use Rattle.validate.specs.Laws.Passing.{refused, accepted}
+use Rattle.validate_words.specs.Laws.Passing.{refused, accepted}
 use Rattle.view.proofs.Marks.{marks-there, compact-parts}
 use Rattle.view.proofs.compactness.is_compact_checked.Statement.{statement}
 use Rattle.view.proofs.compactness.is_compact_checked.Tie as tie

@@ -1,4 +1,4 @@
--- `ids::list_live` meets its contract: a law for each way out.
+-- `view::ids::list_live` meets its contract: a law for each way out.
 use borrow.Author.Needs.{needs}
 use Rattle.view.specs.Laws.Calls.{listed-short, listed-done}
 use Rattle.view.proofs.Listing.{told-fits, told-size}

@@ -1,4 +1,4 @@
--- `ids::write_live` meets its contract. The loop's invariant is `Listing`, the measure the slots that are left.
+-- `view::ids::write_live` meets its contract. The loop's invariant is `Listing`, the measure the slots that are left.
 use Prim.Native.Nat.{_-_, _≤_}
 use native.Mathlib.Omega.{arith}
 use borrow.Author.Needs.{needs}

@@ -1,4 +1,4 @@
--- `slots::contains_node` meets its contract: the check, and then the flag of the slot.
+-- `view::slots::contains_node` meets its contract: the check, and then the flag of the slot.
 use mathlib.Core.Path.{sym, ap, _∙_}
 use borrow.Author.Needs.{needs}
 use Rattle.plain.specs.Reads.{yes-or-no}

@@ -1,4 +1,4 @@
--- `slots::edge_record` meets its contract: the check, and then the laws of the record past the bound and below it.
+-- `view::slots::edge_record` meets its contract: the check, and then the laws of the record past the bound and below it.
 use mathlib.Core.Path.{sym, _∙_}
 use borrow.Author.Needs.{needs}
 use Rattle.view.specs.Laws.Calls.{record-refuses, record-done}

@@ -1,4 +1,4 @@
--- `slots::live_edge_record` meets its contract: the check, and then the laws of the live record past the bound, of a live edge and of a removed one.
+-- `view::slots::live_edge_record` meets its contract: the check, and then the laws of the live record past the bound, of a live edge and of a removed one.
 use mathlib.Core.Path.{sym, _∙_}
 use borrow.Author.Needs.{needs}
 use Rattle.view.specs.Laws.Calls.{record-refuses, record-done}

@@ -1,4 +1,4 @@
--- `slots::node_payload` meets its contract: the check, and then the laws of the payload past the bound and below it.
+-- `view::slots::node_payload` meets its contract: the check, and then the laws of the payload past the bound and below it.
 use mathlib.Core.Path.{sym, _∙_}
 use borrow.Author.Needs.{needs}
 use Rattle.view.specs.Laws.Calls.{answer-refuses, answer-done}

@@ -1,0 +1,3 @@
+mod Summing
+mod Seeking
+mod Reading

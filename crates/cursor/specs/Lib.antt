@@ -1,0 +1,4 @@
+pub mod Cursor
+pub mod Finding
+pub mod Summing
+pub mod Laws

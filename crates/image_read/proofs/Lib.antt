@@ -1,0 +1,4 @@
+mod Directions
+mod Reading
+mod Answering
+mod ReadCases

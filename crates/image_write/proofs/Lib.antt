@@ -1,0 +1,4 @@
+mod Strung
+mod Writing
+mod Surviving
+mod WriteCases

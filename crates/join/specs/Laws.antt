@@ -1,2 +1,0 @@
--- The laws of joining, for the crates above to cite.
-pub mod Answers

@@ -1,0 +1,2 @@
+mod Copying
+mod Rooms

@@ -1,0 +1,4 @@
+mod Told
+mod Stepping
+mod Additions
+mod Relocations

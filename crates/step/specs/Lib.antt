@@ -1,0 +1,4 @@
+pub mod Step
+pub mod Faults
+pub mod Laws
+pub mod Refuted

@@ -1,0 +1,4 @@
+pub mod Within
+pub mod Running
+pub mod Walking
+pub mod Once

@@ -1,0 +1,4 @@
+pub mod Counting
+pub mod Indexing
+pub mod Ringing
+pub mod Climbing
