@@ -8,6 +8,8 @@
 // each, in the last four words), 16 and 17 total out and in, 18 and 19 fresh and reading an image on the skid (as 0 and 15), 20 nearest lot (two lots, words lent for the work and for
 // the chain), 22 the store joined with itself (words lent for each of the four maps).
 
+mod joins;
+
 use plain::Changed;
 use plain::Counts;
 use plain::Slots;
@@ -85,6 +87,45 @@ fn fresh(
     }
 }
 
+// One call that leaves the store as it is.
+fn read(
+    counts: Counts,
+    nodes: &[u32],
+    lows: &[u32],
+    highs: &[u32],
+    live_nodes: &[u64],
+    live_edges: &[u64],
+    outgoing: &[u32],
+    incoming: &[u32],
+    call: Call,
+) {
+    if call.kind == 22 {
+        joins::join_with_itself(
+            counts,
+            nodes,
+            lows,
+            highs,
+            live_nodes,
+            live_edges,
+            outgoing,
+            incoming,
+            call,
+        );
+        return;
+    }
+    replay_reads::read(
+        counts,
+        nodes,
+        lows,
+        highs,
+        live_nodes,
+        live_edges,
+        outgoing,
+        incoming,
+        call,
+    );
+}
+
 // One call but a fresh store; the counts afterwards.
 fn change(
     counts: Counts,
@@ -136,7 +177,7 @@ fn change(
             call,
         );
     }
-    replay_reads::read(
+    read(
         counts,
         nodes,
         lows,
