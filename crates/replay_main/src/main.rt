@@ -13,16 +13,10 @@ mod joins;
 use plain::Changed;
 use plain::Counts;
 use plain::Slots;
+use replay::Book;
 use replay::Call;
 use replay::input;
 use replay::print;
-
-// The counts of the store and its capacities.
-struct Held {
-    counts: Counts,
-    nodes: u32,
-    edges: u32,
-}
 
 // A fresh store, on a box or on the skid.
 fn made(
@@ -58,245 +52,139 @@ fn made(
 }
 
 // A fresh store of other capacities in the same memory.
-fn fresh(
-    call: Call,
-    nodes: &[u32],
-    lows: &[u32],
-    highs: &[u32],
-    live_nodes: &[u64],
-    live_edges: &[u64],
-    outgoing: &[u32],
-    incoming: &[u32],
-) -> Held {
-    let n = print::within(call.first, nodes);
-    let e = print::within(call.second, lows);
+fn fresh(book: Book, call: Call) -> Book {
+    let nodes = book.nodes;
+    let lows = book.lows;
+    let highs = book.highs;
+    let live_nodes = book.live_nodes;
+    let live_edges = book.live_edges;
+    let outgoing = book.outgoing;
+    let incoming = book.incoming;
+    let n = print::within(call.first, &nodes);
+    let e = print::within(call.second, &lows);
     let changed = made(
         call.kind,
         &nodes[..n],
         &lows[..e],
+        &highs,
+        &live_nodes,
+        &live_edges,
+        &outgoing,
+        &incoming,
+    );
+    let counts = print::print_changed(changed);
+    Book {
+        counts,
+        node_capacity: call.first,
+        edge_capacity: call.second,
+        nodes,
+        lows,
         highs,
         live_nodes,
         live_edges,
         outgoing,
         incoming,
-    );
-    Held {
-        counts: print::print_changed(changed),
-        nodes: call.first,
-        edges: call.second,
     }
 }
 
-// One call that leaves the store as it is.
-fn read(
-    counts: Counts,
-    nodes: &[u32],
-    lows: &[u32],
-    highs: &[u32],
-    live_nodes: &[u64],
-    live_edges: &[u64],
-    outgoing: &[u32],
-    incoming: &[u32],
-    call: Call,
-) {
+// One call that leaves the store as it is, on slices of its capacities.
+fn read(book: Book, call: Call) {
+    let nodes = book.nodes;
+    let lows = book.lows;
+    let highs = book.highs;
+    let live_nodes = book.live_nodes;
+    let live_edges = book.live_edges;
+    let outgoing = book.outgoing;
+    let incoming = book.incoming;
+    let n = print::within(book.node_capacity, &nodes);
+    let e = print::within(book.edge_capacity, &lows);
     if call.kind == 22 {
         joins::join_with_itself(
-            counts,
-            nodes,
-            lows,
-            highs,
-            live_nodes,
-            live_edges,
-            outgoing,
-            incoming,
+            book.counts,
+            &nodes[..n],
+            &lows[..e],
+            &highs,
+            &live_nodes,
+            &live_edges,
+            &outgoing,
+            &incoming,
             call,
         );
         return;
     }
     replay_reads::read(
-        counts,
-        nodes,
-        lows,
-        highs,
-        live_nodes,
-        live_edges,
-        outgoing,
-        incoming,
+        book.counts,
+        &nodes[..n],
+        &lows[..e],
+        &highs,
+        &live_nodes,
+        &live_edges,
+        &outgoing,
+        &incoming,
         call,
     );
 }
 
-// One call but a fresh store; the counts afterwards.
-fn change(
-    counts: Counts,
-    nodes: &mut [u32],
-    lows: &mut [u32],
-    highs: &mut [u32],
-    live_nodes: &mut [u64],
-    live_edges: &mut [u64],
-    outgoing: &mut [u32],
-    incoming: &mut [u32],
-    call: Call,
-) -> Counts {
-    if call.kind == 1 {
-        return replay_changes::strip_of(
-            counts,
-            nodes,
-            lows,
-            highs,
-            live_nodes,
-            live_edges,
-            outgoing,
-            incoming,
-            call,
-        );
+// One call on the store; the store afterwards.
+fn step(book: Book, call: Call) -> Book {
+    let kind = call.kind;
+    if kind == 0 || kind == 18 {
+        return fresh(book, call);
     }
-    if call.kind == 12 {
-        return replay_changes::compact(
-            counts,
-            nodes,
-            lows,
-            highs,
-            live_nodes,
-            live_edges,
-            outgoing,
-            incoming,
-            call,
-        );
+    if kind == 1 {
+        return replay_changes::strip_of(book, call);
     }
-    if call.kind == 15 || call.kind == 19 {
-        return replay_changes::read_image(
-            counts,
-            nodes,
-            lows,
-            highs,
-            live_nodes,
-            live_edges,
-            outgoing,
-            incoming,
-            call,
-        );
+    if kind == 12 {
+        return replay_changes::compact(book, call);
     }
-    read(
-        counts,
-        nodes,
-        lows,
-        highs,
-        live_nodes,
-        live_edges,
-        outgoing,
-        incoming,
-        call,
-    );
-    counts
-}
-
-// One call on the store; the store afterwards. All but a fresh store are made on slices of its own capacities.
-fn step(
-    held: Held,
-    nodes: &mut [u32],
-    lows: &mut [u32],
-    highs: &mut [u32],
-    live_nodes: &mut [u64],
-    live_edges: &mut [u64],
-    outgoing: &mut [u32],
-    incoming: &mut [u32],
-    call: Call,
-) -> Held {
-    if call.kind == 0 || call.kind == 18 {
-        return fresh(
-            call,
-            nodes,
-            lows,
-            highs,
-            live_nodes,
-            live_edges,
-            outgoing,
-            incoming,
-        );
+    if kind == 15 || kind == 19 {
+        return replay_changes::read_image(book, call);
     }
-    let n = print::within(held.nodes, nodes);
-    let e = print::within(held.edges, lows);
-    let counts = change(
-        held.counts,
-        &mut nodes[..n],
-        &mut lows[..e],
-        highs,
-        live_nodes,
-        live_edges,
-        outgoing,
-        incoming,
-        call,
-    );
-    Held {
-        counts,
-        nodes: held.nodes,
-        edges: held.edges,
-    }
+    read(book, call);
+    book
 }
 
 // The calls of the input in turn. A proved loop has to end, and nothing says that the input does: it counts from a number that no input uses up.
-fn run(
-    held: Held,
-    nodes: &mut [u32],
-    lows: &mut [u32],
-    highs: &mut [u32],
-    live_nodes: &mut [u64],
-    live_edges: &mut [u64],
-    outgoing: &mut [u32],
-    incoming: &mut [u32],
-) {
-    let mut held = held;
+fn run(book: Book) {
+    let mut book = book;
     let mut calls: u64 = 18446744073709551615;
     while calls > 0 {
         let call = input::next();
         if call.kind == input::END {
             return;
         }
-        held = step(
-            held,
-            nodes,
-            lows,
-            highs,
-            live_nodes,
-            live_edges,
-            outgoing,
-            incoming,
-            call,
-        );
+        book = step(book, call);
         calls -= 1;
     }
 }
 
 fn main() {
-    let mut nodes: [u32; 512] = [0; 512];
-    let mut lows: [u32; 1024] = [0; 1024];
-    let mut highs: [u32; 1024] = [0; 1024];
-    let mut live_nodes: [u64; 8] = [0; 8];
-    let mut live_edges: [u64; 16] = [0; 16];
-    let mut outgoing: [u32; 7169] = [0; 7169];
-    let mut incoming: [u32; 7169] = [0; 7169];
     let none = Slots {
         bound: 0,
         base: 0,
         live: 0,
     };
-    let held = Held {
-        counts: Counts {
-            nodes: none,
-            edges: none,
-        },
-        nodes: 0,
-        edges: 0,
+    let counts = Counts {
+        nodes: none,
+        edges: none,
     };
-    run(
-        held,
-        &mut nodes,
-        &mut lows,
-        &mut highs,
-        &mut live_nodes,
-        &mut live_edges,
-        &mut outgoing,
-        &mut incoming,
-    );
+    let nodes: [u32; 512] = [0; 512];
+    let lows: [u32; 1024] = [0; 1024];
+    let highs: [u32; 1024] = [0; 1024];
+    let live_nodes: [u64; 8] = [0; 8];
+    let live_edges: [u64; 16] = [0; 16];
+    let outgoing: [u32; 7169] = [0; 7169];
+    let incoming: [u32; 7169] = [0; 7169];
+    run(Book {
+        counts,
+        node_capacity: 0,
+        edge_capacity: 0,
+        nodes,
+        lows,
+        highs,
+        live_nodes,
+        live_edges,
+        outgoing,
+        incoming,
+    });
 }

@@ -1,0 +1,29 @@
+-- `replay_main::fresh` is safe and ends. That an array of the book is as long as its type says stands in what the function is handed of its arguments, too far off for the search.
+use borrow.Author.Needs.{needs}
+use Rattle.replay_main.proofs.fresh.Statement.{statement}
+use Rattle.replay_main.proofs.fresh.Tie as tie
+
+-- the arguments, from the highs on
+abbrev start : tie.After-highs2 → tie.Start
+start c = c .before .before .before .before .before .before .before .before .before .before .before .before .before .before
+
+pub fresh-spec : {M : Type 1} → statement M
+fresh-spec =
+    tie.close
+    (tie.spec
+    (λ c. search needs)
+    (λ c κs. search needs)
+    (λ c. search needs)
+    (λ c κs. search needs)
+    (λ c. search needs)
+    (λ c. search needs)
+    (λ c. search needs)
+    (λ c. search needs)
+    (λ c. search needs)
+    (λ c. search (needs, start (c .before) .good .0 .1 .1 .1 .1 .1 .1 .1 .1 .0))
+    (λ c. search (needs, start (c .before .before) .good .0 .1 .1 .1 .1 .1 .1 .1 .1 .1 .0))
+    (λ c. search (needs, start (c .before .before .before) .good .0 .1 .1 .1 .1 .1 .1 .1 .1 .1 .1 .0))
+    (λ c. search (needs, start (c .before .before .before .before) .good .0 .1 .1 .1 .1 .1 .1 .1 .1 .1 .1 .1))
+    (λ c κs. search needs)
+    (λ c κs. search needs)
+    (λ c. search needs))
