@@ -3,3 +3,4 @@ mod Emptying
 mod Columns
 mod Clearing
 mod Starting
+mod Summing

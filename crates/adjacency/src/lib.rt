@@ -4,5 +4,6 @@
 pub mod axis;
 pub mod clear;
 pub mod index;
+pub mod reads;
 pub mod rings;
 pub mod walk;

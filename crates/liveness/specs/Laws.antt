@@ -4,3 +4,4 @@ pub mod Calls
 pub mod Next
 pub mod Passed
 pub mod Bits
+pub mod Faults

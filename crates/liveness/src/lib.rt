@@ -10,6 +10,7 @@ ghost use Rattle.plain.specs.Compaction.{rank as rank-of};
 ghost use Rattle.liveness.specs.Flags.{live-flags, packed, counted, next-live};
 ghost use Rattle.liveness.specs.Calls.{Pushed, Cleared, Reset};
 ghost use Rattle.liveness.specs.Ranks.{RanksFit, Ranked};
+ghost use Rattle.liveness.specs.Faults.{fault-of};
 
 // What counting the live slots answers.
 pub enum Counted {
@@ -45,6 +46,20 @@ pub fn is_live(words: &[u64], slots: usize, slot: usize) -> bool
         return false;
     }
     (words[slot / 64] >> (slot % 64)) % 2 == 1
+}
+
+// A slot's fault: `absent` at or above the bound, `removed` where it is dead, 0 where it is live. For operations and for the search for the nearest lot.
+pub fn fault(live: &[u64], bound: u32, slot: u32, absent: u32, removed: u32) -> u32
+    requires { ⌜ bound ≤ 64 * length (now live) ⌝ }
+    ensures { λ r. ⌜ r ≡ fault-of (live-flags (now (live .entry)) bound) bound slot absent removed ⌝ }
+{
+    if bound <= slot {
+        return absent;
+    }
+    if is_live(live, bound as usize, slot as usize) {
+        return 0;
+    }
+    removed
 }
 
 // Makes a slot dead, and answers whether it was live.

@@ -12,11 +12,11 @@ use Rattle.plain.specs.Plain.{NodeSlot}
 use Rattle.plain.specs.Step.{node-fault}
 use Rattle.plain.specs.Laws.Cases.{fault-absent, fault-removed, fault-live}
 use Rattle.plain.specs.Laws.Operating.{length-node-flags}
+use Rattle.liveness.specs.Faults.{fault-of}
+use Rattle.liveness.specs.Laws.Faults.{by-fault, no-node-fault}
 use Rattle.shape.specs.Shape.{Words, node-capacity, node-live, lists}
 use Rattle.shape.specs.Laws.Reading.{plain-node-bound, plain-node-flags}
 use Rattle.validate.specs.Judging.{Judged, refusal}
-use Rattle.step.specs.Faults.{fault-of}
-use Rattle.step.specs.Laws.Faults.{by-fault, no-node-fault}
 use Rattle.nearest.specs.Calls.{Searched, unsearched, nearest-lot, judged-search, nearest-of, NearestOf}
 use Rattle.nearest.specs.Laws.Calls.{judged-refuses, first-refuses, second-refuses, work-refuses, none-refuses}
 use Rattle.nearest.specs.Stores.{LiveLot, Asked}

@@ -6,6 +6,7 @@ pub mod backwards;
 pub mod forwards;
 
 use adjacency::index;
+use liveness::fault;
 use plain::Answer;
 use plain::Counts;
 use plain::NONE;
@@ -14,7 +15,6 @@ use plain::numbers::OUT_OF_RANGE_NODE;
 use plain::numbers::REMOVED_NODE;
 use plain::numbers::TOO_SHORT;
 use plain::numbers::UNREACHABLE;
-use step::fault;
 use validate::judging::judge;
 use validate::judging::no_store;
 ghost use Rattle.shape.specs.Lent.{lent, at-entry};

@@ -11,6 +11,8 @@ pub mod Keeping
 pub mod Compactness
 pub mod Checking
 pub mod Reading
+pub mod Slots
+pub mod Shapes
 pub mod Judging
 pub mod CheckedShape
 pub mod Running

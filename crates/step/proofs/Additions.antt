@@ -13,12 +13,12 @@ use Rattle.plain.specs.Step.{payload-fault, changed, unchanged}
 use Rattle.plain.specs.Laws.Cases.{Absent, Removed, Live, Case, add-node-full, add-node, add-edge-inverted, add-edge-source-absent, add-edge-source-removed, add-edge-target-absent, add-edge-target-removed, add-edge-full, add-edge, remove-edge-absent, remove-edge-removed, remove-edge, remove-node-absent, remove-node-removed, remove-node, set-payload-inverted, set-payload-absent, set-payload}
 use Rattle.plain.specs.Laws.Booleans.{by-test, below-or-not}
 use mathlib.Core.Logic.{⊎-elim}
+use Rattle.liveness.specs.Faults.{fault-of}
 use Rattle.shape.specs.Shape.{Words, capacities, node-capacity, edge-capacity, node-live, lists}
 use Rattle.shape.specs.Checked.{Checked}
 use Rattle.shape.specs.Steps.{acts}
+use Rattle.shape.specs.Laws.Slots.{Told, nodes-told, edges-told, node-bound-of, edge-bound-of, absent-slot, live-slot, removed-slot}
 use Rattle.store.specs.Operations.{Acted, Removing, RemovedEdge, RemovedNode}
-use Rattle.store.specs.Laws.Slots.{Told, nodes-told, edges-told, node-bound-of, edge-bound-of, absent-slot, live-slot, removed-slot}
-use Rattle.step.specs.Faults.{fault-of}
 use Rattle.step.specs.Step.{StepOf}
 use Rattle.step.proofs.Told.{told-fault, told-inverted}
 use Rattle.step.proofs.Stepping.{stays, done}

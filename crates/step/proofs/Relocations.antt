@@ -16,14 +16,14 @@ use Rattle.plain.specs.Laws.Cases.{redirect-edge-absent, redirect-edge-removed,
 use Rattle.plain.specs.Laws.ListLaws.{no-entries}
 use Rattle.plain.specs.Laws.Rank.{live-below}
 use Rattle.liveness.specs.Laws.Flags.{length-flags}
+use Rattle.liveness.specs.Faults.{fault-of}
 use Rattle.shape.specs.Shape.{Words, node-capacity, edge-capacity, node-live, edge-live, axis-words, lists}
 use Rattle.shape.specs.Checked.{Checked}
 use Rattle.shape.specs.Laws.Reading.{plain-end}
+use Rattle.shape.specs.Laws.Slots.{nodes-told, edges-told, node-bound-of, absent-slot, live-slot, removed-slot}
 use Rattle.adjacency.specs.Walk.{walk-in}
 use Rattle.adjacency.specs.Laws.StoreWalks.{list-is-walk}
 use Rattle.store.specs.Operations.{RedirectedEdge, MovedEdges}
-use Rattle.store.specs.Laws.Slots.{nodes-told, edges-told, node-bound-of, absent-slot, live-slot, removed-slot}
-use Rattle.step.specs.Faults.{fault-of}
 use Rattle.step.specs.Step.{StepOf}
 use Rattle.step.proofs.Told.{told-fault}
 use Rattle.step.proofs.Stepping.{stays, done}

@@ -10,8 +10,8 @@ use borrow.Author.Tests.{leb-true, leb-false}
 use Rattle.plain.specs.declared.EdgePayload.{EdgePayload}
 use Rattle.plain.specs.Step.{payload-fault}
 use Rattle.plain.specs.Laws.Booleans.{by-test}
-use Rattle.step.specs.Faults.{fault-of}
-use Rattle.step.specs.Laws.Faults.{no-fault, by-fault}
+use Rattle.liveness.specs.Faults.{fault-of}
+use Rattle.liveness.specs.Laws.Faults.{no-fault, by-fault}
 
 -- ---- of a slot
 

@@ -1,4 +1,2 @@
 pub mod Step
-pub mod Faults
-pub mod Laws
 pub mod Refuted

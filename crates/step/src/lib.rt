@@ -1,23 +1,20 @@
 // One operation on a checked store, with document 01's refusals in their order. All functions are internal: the strip has checked the store.
 
+use adjacency::reads;
+use liveness::fault;
 use plain::Counts;
 use plain::EdgePayload;
 use plain::Operation;
 use plain::TraversalDirection;
 use plain::numbers;
 use store::Removal;
-use store::reads;
 ghost use mathlib.Core.Path.{_≡_};
 ghost use mathlib.Core.Bool.{cond};
-ghost use Prim.Native.Nat.{_*_, _≤_};
-ghost use lib.ListN.{length};
 ghost use Rattle.plain.specs.Numbers.{NONE as none};
 ghost use Rattle.plain.specs.declared.Operation.the-variants.{AddNode, AddEdge, RemoveEdge, RemoveNode, Redirect, Move, SetPayload};
 ghost use Rattle.shape.specs.Checked.{Checked};
 ghost use Rattle.shape.specs.Lent.{lent, at-entry, at-exit};
-ghost use Rattle.liveness.specs.Flags.{live-flags};
 ghost use Rattle.plain.specs.Step.{payload-fault as fault-of-payload};
-ghost use Rattle.step.specs.Faults.{fault-of};
 ghost use Rattle.step.specs.Step.{StepOf};
 
 // What an operation comes to: its number and value, and the counts afterwards.
@@ -25,20 +22,6 @@ pub struct Stepped {
     pub number: u32,
     pub value: u32,
     pub counts: Counts,
-}
-
-// A slot's fault: `absent` at or above the bound, `removed` where it is dead, 0 where it is live. Also for the search for the nearest lot.
-pub fn fault(live: &[u64], bound: u32, slot: u32, absent: u32, removed: u32) -> u32
-    requires { ⌜ bound ≤ 64 * length (now live) ⌝ }
-    ensures { λ r. ⌜ r ≡ fault-of (live-flags (now (live .entry)) bound) bound slot absent removed ⌝ }
-{
-    if bound <= slot {
-        return absent;
-    }
-    if liveness::is_live(live, bound as usize, slot as usize) {
-        return 0;
-    }
-    removed
 }
 
 // "It refuses with 16 .. for a low above its high": 0 where it is not.

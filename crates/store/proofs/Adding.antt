@@ -23,13 +23,13 @@ use Rattle.shape.specs.Kept.{SameLengths, AxisKept, each-length, same-nodes, sa
 use Rattle.shape.specs.Writes.{WritesAxis}
 use Rattle.shape.specs.Steps.{appended, acted}
 use Rattle.shape.specs.Laws.Reading.{node-bound-is, edge-bound-is, node-flags-are}
+use Rattle.shape.specs.Laws.Shapes.{shape-ext}
 use Rattle.adjacency.specs.Rings.{Openable, Opened, Appendable, Appended}
 use Rattle.store.proofs.Keeping.{pushed-word, pushed-other, opened-kept, appended-kept, appended-writes}
 use Rattle.store.proofs.Made.{slots-more, payload-here, payload-other}
 use Rattle.store.specs.Operations.{Acted, one-more, Raisable, NodeAddable, EdgeAddable}
 use Rattle.store.proofs.Acting.{with-nodes, with-edges, acted-walks, live-within, pushed-checked}
 use Rattle.store.proofs.Axes.{opened-axis, opened-checked, appended-axis, appended-checked}
-use Rattle.store.specs.Laws.Shapes.{shape-ext}
 
 -- ---- a node
 

@@ -28,13 +28,13 @@ use Rattle.shape.specs.Steps.{acted, walk-in as walk-of-shape}
 use Rattle.shape.specs.Laws.Refining.{list-is-walk}
 use Rattle.shape.specs.Laws.Keeping.{in-either}
 use Rattle.shape.specs.Laws.Reading.{made-at, node-flags-are}
+use Rattle.shape.specs.Laws.Shapes.{shape-ext}
 use Rattle.adjacency.specs.Walk.{walk-in}
 use Rattle.adjacency.specs.Clear.{Retired, Clearable}
 use Rattle.adjacency.specs.Laws.StoreClears.{checked-clearable, retired-slots, retired-within, retired-checked, node-retired, node-dead}
 use Rattle.store.proofs.Keeping.{cleared-word, cleared-other, retired-word}
 use Rattle.store.proofs.Made.{slots-set}
 use Rattle.store.specs.Operations.{Acted, RemovedNode, fewer}
-use Rattle.store.specs.Laws.Shapes.{shape-ext}
 use Rattle.store.proofs.Acting.{acted-walks, live-within, some-live, cleared-checked}
 
 -- a node slot by its payload and its flag

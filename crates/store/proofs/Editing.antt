@@ -25,11 +25,11 @@ use Rattle.shape.specs.Checked.{AxisChecked, Checked}
 use Rattle.shape.specs.Kept.{SameLengths, AxisKept, each-length, same-edges, same-highs, past-none, axis-kept-none}
 use Rattle.shape.specs.Steps.{retired, acted}
 use Rattle.shape.specs.Laws.Reading.{made-at, edge-bound-is, edge-flags-are}
+use Rattle.shape.specs.Laws.Shapes.{shape-ext}
 use Rattle.store.proofs.Keeping.{cleared-word, cleared-other}
 use Rattle.store.proofs.Made.{slots-set, payload-here, payload-other}
 use Rattle.store.specs.Operations.{Acted, RemovedEdge, fewer, PayloadSettable}
 use Rattle.store.proofs.Acting.{with-edges, acted-walks, some-live, cleared-checked}
-use Rattle.store.specs.Laws.Shapes.{shape-ext}
 
 -- an edge slot by its payload and its flag
 abbrev edge-slot : EdgePayload → Bool → EdgeSlot

@@ -1,5 +1,4 @@
 mod Acting
-mod Summing
 mod Adding
 mod Axes
 mod Clearing

@@ -29,14 +29,14 @@ use Rattle.shape.specs.Writes.{Only, WritesAxis, Writes}
 use Rattle.shape.specs.Steps.{live-entries, acted, acts, with-axis, redirected-axis, moved-axis, LiveRun, EditedLive}
 use Rattle.shape.specs.Laws.Reading.{node-bound-is, node-flags-are, edge-flags-are, plain-end, axis-is, axis-end, shape-adjacency}
 use Rattle.shape.specs.Laws.Taking.{live-taken}
+use Rattle.shape.specs.Laws.Shapes.{shape-ext}
 use Rattle.adjacency.specs.Walk.{tombstoned-in}
 use Rattle.adjacency.specs.Laws.StoreWalks.{list-is-walk}
-use Rattle.relocate.specs.Redirects.{Redirectable, Redirected}
 use Rattle.runs.specs.Laws.Runs.{alive-below}
+use Rattle.relocate.specs.Redirects.{Redirectable, Redirected}
 use Rattle.relocate.specs.Moves.{Movable, Moved}
 use Rattle.relocate.specs.Laws.Stores.{checked-redirectable, checked-movable, checked-end, checked-all-live}
 use Rattle.store.specs.Operations.{Acted, RedirectedEdge, MovedEdges, EdgeRedirectable, EdgesMovable}
-use Rattle.store.specs.Laws.Shapes.{shape-ext}
 use Rattle.store.proofs.Acting.{acted-walks}
 
 -- ---- what crate `relocate` asks

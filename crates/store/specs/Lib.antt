@@ -1,3 +1,1 @@
 pub mod Operations
-pub mod Reads
-pub mod Laws

@@ -1,7 +1,5 @@
-// The store: operations on a checked store, and the reads of a record and a payload. Port of store.rs, edge.rs and view.rs. All functions are internal: they
-// require a checked store, by its name in crate `shape`, and what an operation's refusals leave. What they promise is a record of specs/Operations.antt.
-
-pub mod reads;
+// The store: operations on a checked store. Port of store.rs. All functions are internal: they require a checked store, by its name in crate `shape`, and what an
+// operation's refusals leave. What they promise is a record of specs/Operations.antt.
 
 use adjacency::clear;
 use adjacency::rings;

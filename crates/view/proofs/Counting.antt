@@ -12,7 +12,7 @@ use Rattle.plain.specs.Reads.{answered, yes-or-no, live-count, node-bound-answe
 use Rattle.liveness.specs.Flags.{live-flags}
 use Rattle.shape.specs.Shape.{Words, lists}
 use Rattle.shape.specs.Checked.{SlotsChecked, Checked}
-use Rattle.store.specs.Laws.Slots.{Told, nodes-told, edges-told, node-bound-of, edge-bound-of}
+use Rattle.shape.specs.Laws.Slots.{Told, nodes-told, edges-told, node-bound-of, edge-bound-of}
 use Rattle.validate.specs.Judging.{Judged, refusal}
 use Rattle.view.specs.Calls.{Answered}
 use Rattle.view.specs.Laws.Calls.{answer-refuses, answer-done}

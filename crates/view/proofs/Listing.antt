@@ -17,8 +17,8 @@ use Rattle.liveness.specs.Flags.{live-flags, next-live}
 use Rattle.liveness.specs.Laws.Passed.{Passed, passed-none, passed-fewer, passed-on, passed-later, passed-few, passed-all}
 use Rattle.shape.specs.Checked.{SlotsChecked}
 use Rattle.shape.specs.Shape.{Words, node-live, edge-live, lists}
+use Rattle.shape.specs.Laws.Slots.{nodes-told, edges-told}
 use Rattle.cursor.specs.Laws.Reading.{write-one}
-use Rattle.store.specs.Laws.Slots.{nodes-told, edges-told}
 use Rattle.validate.specs.Judging.{Judged}
 use Rattle.view.specs.Calls.{Listed, Replied}
 use Rattle.view.specs.Laws.Calls.{list-replies}

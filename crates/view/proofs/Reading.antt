@@ -12,7 +12,7 @@ use Rattle.plain.specs.Laws.CallCases.{node-payload-absent, node-payload-there,
 use Rattle.shape.specs.Shape.{Words, node-live, edge-live, plain-of, lists}
 use Rattle.shape.specs.Laws.Reading.{node-at, edge-at, plain-end}
 use Rattle.shape.specs.Checked.{Checked}
-use Rattle.store.specs.Laws.Slots.{nodes-told, edges-told, node-bound-of, edge-bound-of, live-slot, removed-slot}
+use Rattle.shape.specs.Laws.Slots.{nodes-told, edges-told, node-bound-of, edge-bound-of, live-slot, removed-slot}
 use Rattle.view.specs.Slots.{refused, record-words, RecordThere}
 
 pub record-there : {w : Words} → Checked w → (e : ℕ) → e < w .counts .edges .bound → RecordThere (w .lows) (w .highs) (w .outgoing) (w .incoming) e

@@ -14,11 +14,11 @@ use Rattle.plain.specs.Laws.CallCases.{find-first-absent, find-second-absent, f
 use Rattle.shape.specs.Shape.{Words, node-capacity, edge-capacity, node-live, lists}
 use Rattle.shape.specs.Laws.Reading.{plain-end}
 use Rattle.shape.specs.Laws.Taking.{keep-agree}
+use Rattle.shape.specs.Laws.Slots.{nodes-told, node-bound-of, absent-slot}
+use Rattle.cursor.specs.Finding.{first-of, ends-at}
 use Rattle.adjacency.specs.Walk.{walk-in}
 use Rattle.adjacency.specs.Laws.Walk.{walk-below}
 use Rattle.adjacency.specs.Laws.StoreWalks.{checked-walkable, list-is-walk}
-use Rattle.cursor.specs.Finding.{first-of, ends-at}
-use Rattle.store.specs.Laws.Slots.{nodes-told, node-bound-of, absent-slot}
 use Rattle.validate.specs.Judging.{Judged}
 use Rattle.view.specs.Calls.{Answered}
 use Rattle.view.specs.Laws.Calls.{answer-done}

@@ -14,14 +14,14 @@ use Rattle.plain.specs.Reads.{Reply, answered, no-total, listing, walk, neighbo
 use Rattle.plain.specs.Laws.CallCases.{walk-absent, walk-there, neighbors-absent, neighbors-there, degree-absent, degree-there, total-absent, total-there}
 use Rattle.shape.specs.Columns.{end-at}
 use Rattle.shape.specs.Shape.{Words, node-capacity, edge-capacity, node-live, axis-words, lists}
+use Rattle.shape.specs.Laws.Slots.{nodes-told, node-bound-of, absent-slot}
 use Rattle.cursor.specs.declared.Sums.{Sums}
 use Rattle.adjacency.specs.Walk.{walk-in, WalkFits}
-use Rattle.store.specs.Reads.{sums-in}
-use Rattle.store.specs.Laws.Slots.{nodes-told, node-bound-of, absent-slot}
+use Rattle.adjacency.specs.Reads.{sums-in}
+use Rattle.adjacency.specs.Laws.StoreWalks.{checked-walkable, list-is-walk, far-ends}
 use Rattle.validate.specs.Judging.{refusal}
 use Rattle.view.specs.Calls.{Answered, Replied}
 use Rattle.view.specs.Laws.Calls.{answer-refuses, answer-done, reply-refuses, reply-absent, list-short, list-done}
-use Rattle.adjacency.specs.Laws.StoreWalks.{checked-walkable, list-is-walk, far-ends}
 use Rattle.view_walks.specs.Walks.{list-in, far-ends-in, ListFits, CountAnswer, no-store, past, counted, ListAnswer, refused, short, fits}
 
 -- ---- a node at or above the bound, and one below it

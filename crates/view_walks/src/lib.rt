@@ -4,6 +4,7 @@
 pub mod finding;
 
 use adjacency;
+use adjacency::reads;
 use liveness;
 use plain::Answer;
 use plain::Counts;
@@ -12,7 +13,6 @@ use plain::TraversalDirection;
 use plain::numbers::DONE;
 use plain::numbers::OUT_OF_RANGE_NODE;
 use plain::numbers::TOO_SHORT;
-use store::reads;
 use validate::judging::judge;
 use validate::judging::no_store;
 use validate::judging::no_store_total;

@@ -47,7 +47,7 @@ use Rattle.shape.specs.Steps.{state-of}
 use Rattle.shape.specs.Laws.Indexing.{before-zero}
 use Rattle.shape.specs.Laws.NewBase.{NewBase, new-axis, new-checked}
 use Rattle.shape.specs.Laws.NoFields.{renewed-leaves}
-use Rattle.store.specs.Laws.Shapes.{shape-ext}
+use Rattle.shape.specs.Laws.Shapes.{shape-ext}
 use Rattle.compact.specs.Survivors.{shape-of-survivors}
 use Rattle.compact.specs.Laws.Survivors.{survivors-plain, survivors-state}
 use Rattle.compact.specs.Bases.{based}

@@ -9,7 +9,7 @@ use Rattle.plain.specs.Laws.Totals.{Totals, totals}
 use Rattle.shape.specs.Shape.{Words, lists}
 use Rattle.shape.specs.Checked.{Checked}
 use Rattle.shape.specs.Laws.Judging.{checked-sound}
-use Rattle.store.specs.Laws.Slots.{node-bound-of}
+use Rattle.shape.specs.Laws.Slots.{node-bound-of}
 use Rattle.view.specs.Calls.{Totalled}
 
 -- "every choice of weights within the ranges sums to between them, and both ends are reached": of what is answered of a node below the bound of a checked store

@@ -8,7 +8,7 @@ use lib.ListN.{getD}
 use lib.Dec.{leb}
 use borrow.Author.Tests.{leb-true, leb-false}
 use Rattle.plain.specs.Laws.Booleans.{by-test}
-use Rattle.step.specs.Faults.{fault-of}
+use Rattle.liveness.specs.Faults.{fault-of}
 
 module _ (flags : List Bool) (bound slot absent removed : ℕ) where
   -- a slot with no fault is live

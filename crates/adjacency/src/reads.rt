@@ -1,6 +1,6 @@
 // The degree and the total of a node, by the plain lists of a checked store (crate `plain`, Reads.antt).
 
-use adjacency::walk;
+use crate::walk;
 use cursor::Sums;
 use liveness;
 use plain::Counts;
@@ -12,7 +12,7 @@ ghost use Rattle.plain.specs.Plain.{list-of};
 ghost use Rattle.shape.specs.Checked.{Checked};
 ghost use Rattle.shape.specs.Shape.{lists};
 ghost use Rattle.shape.specs.Lent.{lent, at-entry};
-ghost use Rattle.store.specs.Reads.{sums-in};
+ghost use Rattle.adjacency.specs.Reads.{sums-in};
 
 // How many edges a node's list has, of a node slot below the bound.
 pub fn degree(

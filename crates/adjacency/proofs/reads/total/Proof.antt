@@ -1,9 +1,9 @@
--- `store::reads::total` meets its contract: in either direction the list of a node is its walk.
+-- `adjacency::reads::total` meets its contract: in either direction the list of a node is its walk.
 use borrow.Author.Needs.{needs}
 use Rattle.plain.specs.declared.TraversalDirection.the-variants.{Outgoing, Incoming}
-use Rattle.store.proofs.Summing.{checked-summable, total-read}
-use Rattle.store.proofs.reads.total.Statement.{statement}
-use Rattle.store.proofs.reads.total.Tie as tie
+use Rattle.adjacency.proofs.Summing.{checked-summable, total-read}
+use Rattle.adjacency.proofs.reads.total.Statement.{statement}
+use Rattle.adjacency.proofs.reads.total.Tie as tie
 
 abbrev entry : tie.After-is-live → tie.Start
 entry c = c .before .before .before .before .before .before .before .before .before .before

@@ -1,10 +1,10 @@
--- `store::reads::degree` meets its contract: in either direction the list of a node is its walk.
+-- `adjacency::reads::degree` meets its contract: in either direction the list of a node is its walk.
 use borrow.Author.Needs.{needs}
 use Rattle.plain.specs.declared.TraversalDirection.the-variants.{Outgoing, Incoming}
 use Rattle.adjacency.specs.Laws.StoreWalks.{checked-walkable}
-use Rattle.store.proofs.Summing.{degree-read}
-use Rattle.store.proofs.reads.degree.Statement.{statement}
-use Rattle.store.proofs.reads.degree.Tie as tie
+use Rattle.adjacency.proofs.Summing.{degree-read}
+use Rattle.adjacency.proofs.reads.degree.Statement.{statement}
+use Rattle.adjacency.proofs.reads.degree.Tie as tie
 
 abbrev entry : tie.After-is-live → tie.Start
 entry c = c .before .before .before .before .before .before .before .before .before .before

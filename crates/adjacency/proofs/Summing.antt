@@ -17,10 +17,10 @@ use Rattle.shape.specs.Checked.{Checked}
 use Rattle.shape.specs.Laws.Reading.{edge-at}
 use Rattle.cursor.specs.declared.Sums.{Sums}
 use Rattle.cursor.specs.Summing.{sums-of}
 use Rattle.adjacency.specs.Walk.{walk-in, WalkSummable}
 use Rattle.adjacency.specs.Laws.Walk.{walk-below}
 use Rattle.adjacency.specs.Laws.StoreWalks.{checked-walkable, list-is-walk}
-use Rattle.store.specs.Reads.{sums-in}
+use Rattle.adjacency.specs.Reads.{sums-in}
 
 module _ {w : Words} (checked : Checked w) where
   -- the degree of a node, by the walk of its words

@@ -1,10 +1,10 @@
--- `step::fault` meets its contract: each way rewrites the tests that led to it.
+-- `liveness::fault` meets its contract: each way rewrites the tests that led to it.
 use mathlib.Core.Path.{sym, _∙_}
 use borrow.Author.Needs.{needs}
 use borrow.Author.Tests.{le-leb, lt-leb}
-use Rattle.step.specs.Faults.{fault-of}
-use Rattle.step.proofs.fault.Statement.{statement}
-use Rattle.step.proofs.fault.Tie as tie
+use Rattle.liveness.specs.Faults.{fault-of}
+use Rattle.liveness.proofs.fault.Statement.{statement}
+use Rattle.liveness.proofs.fault.Tie as tie
 
 returns : tie.Need-returns
 unfolding fault-of
