@@ -78,7 +78,7 @@ stands_records {bytes} {p} w (e ∷ es) (more h a) (more k b) (more l c) (more m
     let target = stands_field w e.target k (stands_front y (z ++ r) s₁) in
     let low = stands_field weight_width e.payload.low l (stands_front lows highs weights) in
     let high = stands_field weight_width e.payload.high m (stands_rest lows highs (length_bits_of weight_width e.payload.low) weights) in
-    rw (source, target, low, high, stands_records w es a b c d s₃)
+    rw (source, target, low, high, stands_records {p = p + record_width w} w es a b c d s₃)
 
 -- the bits of records stand where they were read
 pub records_stand : (bytes : List ℕ) (p w m : ℕ) → p + record_width w * m ≤ 8 * length bytes → Stands bytes p (edge_bits w (records_at bytes p w m))

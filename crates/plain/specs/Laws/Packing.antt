@@ -64,12 +64,12 @@ field_stands bytes p w h =
     record { there = rw (e, l) }
 
 -- values whose row stands there are the fields there
-pub stands_row : {bytes : List ℕ} {p : ℕ} (w : ℕ) {vs : List ℕ} → Below (2 ^ w) vs → Stands bytes p (row w vs) → fields_at bytes p w (length vs) ≡ vs
+pub stands_row : (w : ℕ) {bytes : List ℕ} {p : ℕ} {vs : List ℕ} → Below (2 ^ w) vs → Stands bytes p (row w vs) → fields_at bytes p w (length vs) ≡ vs
 unfolding row fields_at
 stands_row w none s = refl
-stands_row {bytes} {p} w (more {x = v} {xs = vs} h t) s =
+stands_row w {bytes} {p} (more {x = v} {xs = vs} h t) s =
     ap₂ {C = List ℕ} (λ x l. x ∷ l) (stands_field w v h (stands_front (bits_of w v) (row w vs) s))
-    (stands_row w t (stands_rest (bits_of w v) (row w vs) (length_bits_of w v) s))
+    (stands_row w {p = p + w} t (stands_rest (bits_of w v) (row w vs) (length_bits_of w v) s))
 
 -- the row of fields stands where they were read
 pub fields_stand : (bytes : List ℕ) (p w n : ℕ) → p + w * n ≤ 8 * length bytes → Stands bytes p (row w (fields_at bytes p w n))
