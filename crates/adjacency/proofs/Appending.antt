@@ -3,13 +3,13 @@ use Rattle.plain.specs.Library.{ℕ, ◌+◌, ◌*◌, ◌≤◌, ◌<◌, ◌�
 use Rattle.plain.specs.Library.{get_or-set_other, arith}
 use Rattle.plain.specs.Numbers.{NONE, LIMIT}
 use Rattle.plain.specs.Lists.{member}
-use Rattle.plain.specs.Laws.Booleans.{refuted}
+use Rattle.plain.proofs.Laws.Booleans.{refuted}
 use Rattle.shape.specs.Columns.{cell, end_at, next_at, last_at}
 use Rattle.shape.specs.Chains.{In, Ring}
 use Rattle.shape.specs.Shape.{ring_of}
 use Rattle.shape.specs.Writes.{OfRing}
-use Rattle.shape.specs.Laws.Chains.{in_snoc, ring_first, ring_more, ring_none, ring_last, ring_below}
-use Rattle.shape.specs.Laws.Frames.{SameRing, ring_new, ring_others, rings_new}
+use Rattle.shape.proofs.Laws.Chains.{in_snoc, ring_first, ring_more, ring_none, ring_last, ring_below}
+use Rattle.shape.proofs.Laws.Frames.{SameRing, ring_new, ring_others, rings_new}
 use Rattle.adjacency.specs.Rings.{Appendable, Appended}
 
 module _ {ws : List ℕ} {ce cn nb be node e : ℕ} (pre : Appendable ws ce cn nb be node e) where

@@ -4,9 +4,9 @@ use Rattle.plain.specs.Library.{length-set, append_snoc, get_or-set_other, eqb, 
 use Rattle.plain.specs.declared.Counts.{Counts}
 use Rattle.plain.specs.Lists.{member}
 use Rattle.plain.specs.Reads.{live_count}
-use Rattle.plain.specs.Laws.Booleans.{by_test, or_false}
-use Rattle.plain.specs.Laws.ListLaws.{member_first, count_length}
-use Rattle.plain.specs.Laws.Rank.{live_count_removed}
+use Rattle.plain.proofs.Laws.Booleans.{by_test, or_false}
+use Rattle.plain.proofs.Laws.ListLaws.{member_first, count_length}
+use Rattle.plain.proofs.Laws.Rank.{live_count_removed}
 use Rattle.liveness.specs.Flags.{live_flags}
 use Rattle.liveness.specs.Laws.Flags.{length_flags}
 use Rattle.liveness.specs.Calls.{Cleared}

@@ -3,13 +3,13 @@ use Rattle.plain.specs.Library.{ℕ, ◌+◌, ◌*◌, ◌≤◌, ◌<◌, ◌�
 use Rattle.plain.specs.Library.{arith, eqb-true, eqb-false}
 use native.Mathlib.Nat.{le_refl, le_trans}
 use Rattle.plain.specs.Numbers.{NONE, LIMIT}
-use Rattle.plain.specs.Laws.Booleans.{by_test}
+use Rattle.plain.proofs.Laws.Booleans.{by_test}
 use Rattle.shape.specs.Columns.{cell, last_at, tail_at, mark_at}
 use Rattle.shape.specs.Chains.{Ring}
 use Rattle.shape.specs.Shape.{ring_of}
 use Rattle.shape.specs.Checked.{Rings, Runs}
-use Rattle.shape.specs.Laws.Chains.{in_none, ring_below}
-use Rattle.shape.specs.Laws.Frames.{SameRun, SameRing, ring_of_none, run_of_agree, run_of_unmarked, run_list_below, runs_agree, ring_others, rings_new}
+use Rattle.shape.proofs.Laws.Chains.{in_none, ring_below}
+use Rattle.shape.proofs.Laws.Frames.{SameRun, SameRing, ring_of_none, run_of_agree, run_of_unmarked, run_list_below, runs_agree, ring_others, rings_new}
 use Rattle.adjacency.specs.Rings.{Openable, Opened, Detachable, Detached}
 
 -- the node's last edge is NONE, and the words up to the last edges of the nodes below nb' are otherwise as they were

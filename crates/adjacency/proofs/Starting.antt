@@ -4,16 +4,16 @@ use Rattle.plain.specs.Library.{ne_eqb}
 use Rattle.shape.specs.Columns.{cell, last_at, first_at, count_at, mark_at}
 use Rattle.shape.specs.Shape.{between, base_of, adjacency_in, run_list, run_of, ring_of, part}
 use Rattle.shape.specs.Checked.{Index}
-use Rattle.shape.specs.Laws.NewBase.{base_between, base_range}
+use Rattle.shape.proofs.Laws.NewBase.{base_between, base_range}
 use Rattle.adjacency.specs.Index.{base_bounds}
 use Rattle.plain.specs.declared.Counts.{Counts}
 use Rattle.plain.specs.Numbers.{NONE, LIMIT}
-use Rattle.plain.specs.Laws.Booleans.{by_test}
-use Rattle.shape.specs.Laws.CheckedShape.{part_below}
+use Rattle.plain.proofs.Laws.Booleans.{by_test}
+use Rattle.shape.proofs.Laws.CheckedShape.{part_below}
 use Rattle.shape.specs.Chains.{chain, until, ring, In}
-use Rattle.shape.specs.Laws.Chains.{in_none, chain_agree, run_short, until_agree, ring_line, ring_last, ring_below, line_last}
-use Rattle.shape.specs.Laws.Frames.{between_agree}
-use Rattle.shape.specs.Laws.Walking.{between_none, until_wider, until_first}
+use Rattle.shape.proofs.Laws.Chains.{in_none, chain_agree, run_short, until_agree, ring_line, ring_last, ring_below, line_last}
+use Rattle.shape.proofs.Laws.Frames.{between_agree}
+use Rattle.shape.proofs.Laws.Walking.{between_none, until_wider, until_first}
 use Rattle.cursor.specs.declared.AdjacencyCursor.{AdjacencyCursor}
 use Rattle.adjacency.specs.Rings.{EndsReadable, ring_ends}
 use Rattle.cursor.specs.Cursor.{word, part_left, ring_left, remaining, exhausted, PartWithin, Closed}

@@ -4,12 +4,12 @@ use Rattle.plain.specs.declared.TraversalDirection.{TraversalDirection}
 use Rattle.plain.specs.declared.EdgePayload.{EdgePayload}
 use Rattle.plain.specs.Plain.{low_of, high_of, no_edge, list_of}
 use Rattle.plain.specs.Reads.{payloads_of}
-use Rattle.plain.specs.Laws.ListLaws.{map_same}
-use Rattle.plain.specs.Laws.Totals.{list_within}
+use Rattle.plain.proofs.Laws.ListLaws.{map_same}
+use Rattle.plain.proofs.Laws.Totals.{list_within}
 use Rattle.shape.specs.Chains.{In}
 use Rattle.shape.specs.Shape.{Words, node_capacity, edge_capacity, node_live, edge_payload_at, axis_words, plain_of, lists}
 use Rattle.shape.specs.Checked.{Checked}
-use Rattle.shape.specs.Laws.Reading.{edge_at}
+use Rattle.shape.proofs.Laws.Reading.{edge_at}
 use Rattle.cursor.specs.declared.Sums.{Sums}
 use Rattle.cursor.specs.Summing.{sums_of}
 use Rattle.adjacency.specs.Walk.{walk_in, Walkable, WalkSummable}

@@ -9,7 +9,7 @@ use lib.Pow.{pow_mono, shl_exact, shr-shr, high, low}
 use lib.Bits.{bit_or, or_shifted}
 use lib.Dec.{lit<}
 use Rattle.plain.specs.Bits.{bits_of, value_of, bits, field_at}
-use Rattle.plain.specs.Laws.Bits.{length_bits_of, value_of_append, value_of_bits_of, length_bits, bits_append, field_at_lt}
+use Rattle.plain.proofs.Laws.Bits.{length_bits_of, value_of_append, value_of_bits_of, length_bits, bits_append, field_at_lt}
 use Rattle.bits.specs.Fields.{Part}
 
 -- `1 << k` at a width of w bits

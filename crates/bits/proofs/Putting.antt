@@ -7,7 +7,7 @@ use lib.Seq.{drop_at}
 use lib.Pow.{pow-add, pow_mono, shl_lt}
 use lib.Arith.{digits_lt}
 use Rattle.plain.specs.Bits.{bits_of, bits, padding}
-use Rattle.plain.specs.Laws.Bits.{length_bits_of, bits_of_split, bits_of_ext, length_bits}
+use Rattle.plain.proofs.Laws.Bits.{length_bits_of, bits_of_split, bits_of_ext, length_bits}
 use Rattle.bits.specs.declared.pen.Pen.{Pen}
 use Rattle.bits.specs.Wrote.{Wrote}
 use Rattle.bits.specs.Penned.{Ready, Puts, Penned, reach, waiting}

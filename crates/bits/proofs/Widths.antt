@@ -4,7 +4,7 @@ use Rattle.plain.specs.Library.{ℕ, suc, ◌^◌, ◌≤◌, ◌<◌, ◌≡◌
 use lib.Pow.{pow_mono}
 use Rattle.plain.specs.Numbers.{LIMIT}
 use Rattle.plain.specs.Bits.{least_width}
-use Rattle.plain.specs.Laws.Width.{width_is}
+use Rattle.plain.proofs.Laws.Width.{width_is}
 
 -- the first line
 pub first_line : (n : ℕ) → n ≤ 1 → 0 ≡ least_width n

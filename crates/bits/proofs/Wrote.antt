@@ -5,7 +5,7 @@ use native.Mathlib.Nat.{sub_self, sub-zero, div-one}
 use lib.Seq.{set_split}
 use lib.Pow.{shr-shr}
 use Rattle.plain.specs.Bits.{bits_of, bits}
-use Rattle.plain.specs.Laws.Bits.{length_bits_of, bits_of_split, bits_of_ext, length_bits, bits_append}
+use Rattle.plain.proofs.Laws.Bits.{length_bits_of, bits_of_split, bits_of_ext, length_bits, bits_append}
 use Rattle.bits.specs.Put.{Put}
 use Rattle.bits.specs.Laws.Put.{put_none, put_then, put_split, split_put}
 use Rattle.bits.specs.Wrote.{Wrote}

@@ -16,22 +16,22 @@ use Rattle.plain.specs.declared.TraversalDirection.TheVariants.{Outgoing, Incomi
 use Rattle.plain.specs.Compaction.{survivors, of_survivors, compacted}
 use Rattle.plain.specs.Lists.{joined, from, written}
 use Rattle.plain.specs.Plain.{Plain, list_of}
-use Rattle.plain.specs.Laws.AllLive.{AllLive, live_slot, own_rank, compacted_same}
-use Rattle.plain.specs.Laws.ListLaws.{get_d_map, length_from, get_or_from}
+use Rattle.plain.proofs.Laws.AllLive.{AllLive, live_slot, own_rank, compacted_same}
+use Rattle.plain.proofs.Laws.ListLaws.{get_d_map, length_from, get_or_from}
 use Rattle.liveness.specs.Calls.{all_live}
 use Rattle.liveness.specs.Flags.{live_flags}
 use Rattle.shape.specs.Checked.{Checked}
 use Rattle.shape.specs.Columns.{cell, end_at}
 use Rattle.shape.specs.Index.{Rewritten, before, ends_of}
 use Rattle.shape.specs.Shape.{Words, capacities, node_live, edge_live, axis_words, lists, node_capacity, edge_capacity}
-use Rattle.shape.specs.Laws.Reading.{plain_node_bound, plain_edge_bound, plain_node_flags, plain_edge_flags}
+use Rattle.shape.proofs.Laws.Reading.{plain_node_bound, plain_edge_bound, plain_node_flags, plain_edge_flags}
 use Rattle.compact.specs.Bases.{Compactable, AxisCompacted, based}
 use Rattle.compact.specs.Calls.{AxisCanonical, Canonical}
 use Rattle.compact.specs.Dropping.{Droppable, Dropped}
 use Rattle.survivors.specs.Slots.{kept_word}
 use Rattle.compact.specs.Laws.Holding.{all_lists}
 use Rattle.compact.proofs.Dropping.{axis_compactable, first_half, drop_room}
-use Rattle.survivors.specs.Laws.Turns.{rewritten_same, kept_all_live}
+use Rattle.survivors.proofs.Laws.Turns.{rewritten_same, kept_all_live}
 
 -- ---- a canonical store compacted
 

@@ -1,8 +1,8 @@
 -- A direction compacted, call by call: the ends moved down can be renumbered, and the base can be rebuilt on them.
 use Rattle.plain.specs.Library.{ℕ, ◌<◌, ◌≤◌, ◌∙◌, ◌≡◌, ap, subst, sym, Bool, false, true, List, get_or, zero-add, arith}
 use Rattle.plain.specs.Reads.{live_count, live_slots}
-use Rattle.plain.specs.Laws.ListLaws.{count_length}
-use Rattle.plain.specs.Laws.Rank.{live_slot_live}
+use Rattle.plain.proofs.Laws.ListLaws.{count_length}
+use Rattle.plain.proofs.Laws.Rank.{live_slot_live}
 use Rattle.liveness.specs.Laws.Flags.{length_flags}
 use Rattle.liveness.specs.Flags.{live_flags}
 use Rattle.shape.specs.Columns.{end_at}

@@ -4,7 +4,7 @@ use lib.Seq.{take_all}
 use Rattle.plain.specs.declared.Slots.{Slots}
 use Rattle.plain.specs.declared.TraversalDirection.{TraversalDirection}
 use Rattle.liveness.specs.Laws.Flags.{length_flags}
-use Rattle.plain.specs.Laws.Rank.{live_below, rank_live}
+use Rattle.plain.proofs.Laws.Rank.{live_below, rank_live}
 use Rattle.shape.specs.Checked.{Checked, SlotsChecked}
 use Rattle.shape.specs.Columns.{end_at}
 use Rattle.shape.specs.Shape.{Words, axis_words, edge_capacity, edge_live, node_capacity, node_live}
@@ -12,7 +12,7 @@ use Rattle.relocate.specs.Laws.Stores.{checked_end}
 use Rattle.compact.specs.Bases.{AxisCompacted, Compactable}
 use Rattle.compact.specs.Dropping.{Droppable}
 use Rattle.survivors.specs.Slots.{Keepable, WeightsKeepable}
-use Rattle.survivors.specs.Laws.Slots.{live_few, slots_there}
+use Rattle.survivors.proofs.Laws.Slots.{live_few, slots_there}
 
 -- ---- a part of a slice up to its end
 

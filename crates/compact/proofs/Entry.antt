@@ -12,13 +12,13 @@ use Rattle.plain.specs.Memory.{first_short}
 use Rattle.plain.specs.Plain.{node_flags, edge_flags}
 use Rattle.plain.specs.Reads.{live_edges, live_count}
 use Rattle.plain.specs.WellFormed.{Sound}
-use Rattle.plain.specs.Laws.Compacting.{survivors_sound, length_surviving_edges}
+use Rattle.plain.proofs.Laws.Compacting.{survivors_sound, length_surviving_edges}
 use Rattle.shape.specs.Kept.{nothing_spared, renewed_none, renewed_spared, same_nodes, same_edges}
 use Rattle.shape.specs.Rules.{broken}
 use Rattle.shape.specs.Shape.{Words, capacities, shape_of, lists}
 use Rattle.shape.specs.Steps.{state_of}
-use Rattle.shape.specs.Laws.NewBase.{fitted_total}
-use Rattle.shape.specs.Laws.Reading.{plain_node_bound, plain_edge_bound, plain_node_flags, plain_edge_flags}
+use Rattle.shape.proofs.Laws.NewBase.{fitted_total}
+use Rattle.shape.proofs.Laws.Reading.{plain_node_bound, plain_edge_bound, plain_node_flags, plain_edge_flags}
 use Rattle.validate.specs.Judging.{Judged}
 use Rattle.compact.specs.Calls.{compacting_of, CompactOf}
 use Rattle.compact.specs.Settling.{Settleable, Settling, Opening, unsound, nodes_short, edges_short, work_short, opens}

@@ -9,7 +9,7 @@ use Rattle.compact.specs.Dropping.{Droppable}
 use Rattle.compact.specs.Settling.{Settleable}
 use Rattle.survivors.specs.Slots.{MapFits}
 use Rattle.survivors.specs.Working.{Workable}
-use Rattle.survivors.specs.Laws.Slots.{mapped_long, written_from}
+use Rattle.survivors.proofs.Laws.Slots.{mapped_long, written_from}
 
 pub written_at : (flags : List Bool) (entry : List ℕ) (x : ℕ) → get_or flags x false ≡ true → get_or (written (renumbering flags) entry) x 0 ≡ rank flags x
 written_at flags entry x live = written_from 0 flags entry x live ∙ zero-add (rank flags x)

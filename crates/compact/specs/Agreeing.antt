@@ -2,14 +2,14 @@
 use Rattle.plain.specs.Library.{ℕ, ◌<◌, ◌≡◌, sym, ap, ◌∙◌, subst₂, List, eqb, eqb-true, eqb-false}
 use Rattle.plain.specs.declared.Counts.{Counts}
 use Rattle.plain.specs.declared.TraversalDirection.{TraversalDirection}
-use Rattle.plain.specs.Laws.Booleans.{by_test}
+use Rattle.plain.proofs.Laws.Booleans.{by_test}
 use Rattle.liveness.specs.Laws.Calls.{reset_narrow}
 use Rattle.shape.specs.Checked.{Checked}
 use Rattle.shape.specs.Columns.{mark_at}
 use Rattle.shape.specs.Fields.{SameFields}
 use Rattle.shape.specs.Kept.{SameLengths, same_nodes, same_edges}
 use Rattle.shape.specs.Shape.{Words, node_capacity, edge_capacity, axis_words, shape_of}
-use Rattle.shape.specs.Laws.Agreeing.{Narrow, counts_same, shape_fields, kept_both}
+use Rattle.shape.proofs.Laws.Agreeing.{Narrow, counts_same, shape_fields, kept_both}
 use Rattle.compact.specs.Calls.{Canonical, CompactOf}
 
 -- the live words of a canonical store have 64 bits

@@ -3,7 +3,7 @@ use Rattle.plain.specs.Library.{ℕ, ◌+◌, ◌≤◌, ◌<◌, ◌≡◌, ref
 use Rattle.plain.specs.Library.{length-set, length-map, append_snoc, arith}
 use Rattle.plain.specs.Numbers.{NONE, LIMIT}
 use Rattle.plain.specs.Lists.{keep, written}
-use Rattle.plain.specs.Laws.ListLaws.{map_snoc}
+use Rattle.plain.proofs.Laws.ListLaws.{map_snoc}
 use Rattle.cursor.specs.declared.AdjacencyCursor.{AdjacencyCursor}
 use Rattle.cursor.specs.declared.Found.TheVariants.{Edge, Done}
 use Rattle.cursor.specs.declared.Step.{Step}

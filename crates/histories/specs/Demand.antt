@@ -18,7 +18,7 @@ use Rattle.plain.specs.Devices.{Device, Proper}
 use Rattle.plain.specs.Compaction.{survivors}
 use Rattle.plain.specs.Image.{image}
 use Rattle.plain.specs.History.{history_from, history}
-use Rattle.plain.specs.Laws.ImageLaws.{image_injective}
+use Rattle.plain.proofs.Laws.ImageLaws.{image_injective}
 use Rattle.shape.specs.Shape.{Words, capacities, lists}
 use Rattle.shape.specs.Checked.{Checked}
 use Rattle.histories.specs.Runs.{Request, call_of, Turn, Origin, FreshStore, first_state, Ran, final}

@@ -6,7 +6,7 @@ use Rattle.plain.specs.Step.{State}
 use Rattle.plain.specs.Devices.{Device, Proper}
 use Rattle.plain.specs.Compaction.{survivors}
 use Rattle.plain.specs.Image.{image}
-use Rattle.plain.specs.Laws.ImageLaws.{image_injective}
+use Rattle.plain.proofs.Laws.ImageLaws.{image_injective}
 use Rattle.shape.specs.Shape.{Words, lists}
 use Rattle.shape.specs.Checked.{Checked}
 use Rattle.histories.specs.Runs.{Request, Turn, Origin, Ran, final}

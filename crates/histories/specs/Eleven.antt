@@ -21,9 +21,9 @@ use Rattle.plain.specs.Devices.{Device, box, skid}
 use Rattle.plain.specs.Calls.{judged, judged_reply, judged_record, judged_total, Stripped, judged_strip, short_answer, within, Compacted, compacting, compaction, compaction_slices, judged_compaction, readable, reading_slices, asked, reading, check as check_answer, strip as strip_of, fresh as fresh_of, read_image as Read_of}
 use Rattle.plain.specs.Joining.{Sizes, sizes, MapRooms, map_slices, exceeds, join_answer, join as join_of}
 use Rattle.plain.specs.Image.{broken_image, nodes_in, edges_in}
-use Rattle.plain.specs.Laws.Booleans.{by_test}
-use Rattle.plain.specs.Laws.Histories.{write_number}
-use Rattle.plain.specs.Laws.Strips.{length_answers}
+use Rattle.plain.proofs.Laws.Booleans.{by_test}
+use Rattle.plain.proofs.Laws.Histories.{write_number}
+use Rattle.plain.proofs.Laws.Strips.{length_answers}
 use Rattle.renumbering.specs.Calls.{Lookup, Compose, IsIdentity}
 use Rattle.shape.specs.Shape.{Words, capacities, lengths_of, node_capacity, shape_of, lists}
 use Rattle.shape.specs.Rules.{broken}

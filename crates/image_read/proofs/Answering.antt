@@ -6,7 +6,7 @@ use Rattle.plain.specs.Image.{broken_image, nodes_in, edges_in}
 use Rattle.plain.specs.Memory.{Lengths}
 use Rattle.plain.specs.Devices.{Device, Proper}
 use Rattle.plain.specs.Calls.{reading, read_image}
-use Rattle.plain.specs.Laws.Devices.{box_takes}
+use Rattle.plain.proofs.Laws.Devices.{box_takes}
 use Rattle.memory.specs.Laws.{broken_read, read_roomy}
 use Rattle.image_read.specs.Reading.{Accepted}
 

@@ -7,13 +7,13 @@ use Rattle.plain.specs.Lists.{from, joined}
 use Rattle.plain.specs.Bits.{fields_at, least_width}
 use Rattle.plain.specs.Image.{record_width}
 use Rattle.plain.specs.WellFormed.{Fitted}
-use Rattle.plain.specs.Laws.Bits.{length_fields_at}
+use Rattle.plain.proofs.Laws.Bits.{length_fields_at}
 use Rattle.shape.specs.Index.{Rewritten, before, ends_of}
-use Rattle.shape.specs.Laws.Indexing.{rewritten_as}
-use Rattle.shape.specs.Laws.NewBase.{NewBase}
+use Rattle.shape.proofs.Laws.Indexing.{rewritten_as}
+use Rattle.shape.proofs.Laws.NewBase.{NewBase}
 use Rattle.compact.specs.Bases.{Rebuildable, Rebuilt}
 use Rattle.compact.specs.Laws.Bases.{rebuilt_base}
-use Rattle.survivors.specs.Laws.Slots.{rewritten_range}
+use Rattle.survivors.proofs.Laws.Slots.{rewritten_range}
 use Rattle.image_check.specs.Spread.{spread}
 use Rattle.image_read.specs.Directions.{BaseReadable, AxisReadable, AxisRead}
 use Rattle.image_check.specs.Laws.Spread.{spread_as, fields_spread, spread_at}

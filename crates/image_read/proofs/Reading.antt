@@ -10,18 +10,18 @@ use Rattle.plain.specs.Compaction.{EdgeRecord, source_of, target_of}
 use Rattle.plain.specs.Image.{count_width, node_payload_width, weight_width, edge_payload_width, record_width, nodes_in, edges_in, nodes_start, edges_start, outs_start, ins_start, image_size, cut, list_lengths, parsed, broken_image}
 use Rattle.plain.specs.Memory.{Lengths, axis_length}
 use Rattle.plain.specs.WellFormed.{Fitted, Sound}
-use Rattle.plain.specs.Laws.Bits.{length_fields_at}
-use Rattle.plain.specs.Laws.Below.{below_of}
-use Rattle.plain.specs.Laws.Cutting.{joined_cut, sum_list_lengths}
-use Rattle.plain.specs.Laws.Width.{width_most}
-use Rattle.plain.specs.Laws.Refusals.{Counted, Readable, readable, length_edges_in}
-use Rattle.plain.specs.Laws.ImageLaws.{nodes_length, edges_length, parsed_sound}
+use Rattle.plain.proofs.Laws.Bits.{length_fields_at}
+use Rattle.plain.proofs.Laws.Below.{below_of}
+use Rattle.plain.proofs.Laws.Cutting.{joined_cut, sum_list_lengths}
+use Rattle.plain.proofs.Laws.Width.{width_most}
+use Rattle.plain.proofs.Laws.Refusals.{Counted, Readable, readable, length_edges_in}
+use Rattle.plain.proofs.Laws.ImageLaws.{nodes_length, edges_length, parsed_sound}
 use Rattle.liveness.specs.Calls.{Reset}
 use Rattle.shape.specs.Columns.{Sized}
 use Rattle.shape.specs.Shape.{Words, node_capacity, edge_capacity, lengths_of, axis_words as words_of}
 use Rattle.shape.specs.Kept.{AxisRenewed, Renewed, same_nodes, same_edges, same_highs, same_live_nodes, same_live_edges, same_axis}
-use Rattle.shape.specs.Laws.NewBase.{NewBase}
-use Rattle.survivors.specs.Laws.Slots.{rewritten_range}
+use Rattle.shape.proofs.Laws.NewBase.{NewBase}
+use Rattle.survivors.proofs.Laws.Slots.{rewritten_range}
 use Rattle.compact.specs.Laws.Bases.{rebuilt_renewed}
 use Rattle.compact.specs.Bases.{based}
 use Rattle.compact.specs.Laws.Holding.{front, Holding, reset_same, reset_word, sized_as}

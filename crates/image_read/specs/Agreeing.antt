@@ -2,10 +2,10 @@
 use Rattle.plain.specs.Library.{ℕ, ◌≡◌, sym, ap, ◌∙◌, List, eqb, eqb-true, eqb-false}
 use Rattle.plain.specs.declared.Answer.{Answer}
 use Rattle.plain.specs.Devices.{Device}
-use Rattle.plain.specs.Laws.Booleans.{by_test}
+use Rattle.plain.proofs.Laws.Booleans.{by_test}
 use Rattle.shape.specs.Shape.{Words}
 use Rattle.shape.specs.Fields.{SameFields}
-use Rattle.shape.specs.Laws.Agreeing.{kept_both}
+use Rattle.shape.proofs.Laws.Agreeing.{kept_both}
 use Rattle.compact.specs.Agreeing.{canonical_fields}
 use Rattle.image_read.specs.Calls.{ReadOf}
 

@@ -14,22 +14,22 @@ use Rattle.plain.specs.Compaction.{Survivors, rank, survivors, surviving_edge, s
 use Rattle.plain.specs.Bits.{bits_of, row, padding, bytes_for, least_width}
 use Rattle.plain.specs.Image.{edge_bits, image_bits, image, record_width, nodes_start, edges_start, outs_start, image_size, node_payload_width}
 use Rattle.plain.specs.WellFormed.{Sound}
-use Rattle.plain.specs.Laws.Below.{Below}
-use Rattle.plain.specs.Laws.Bits.{length_bits_of, length_row, row_append}
-use Rattle.plain.specs.Laws.ListLaws.{map_same, member_at}
-use Rattle.plain.specs.Laws.Rank.{live_below, length_live_slots, member_live_slots}
-use Rattle.plain.specs.Laws.Compacting.{survivors_sound, length_surviving_nodes, length_surviving_edges}
-use Rattle.plain.specs.Laws.ImageBits.{length_edge_bits, below_image_bits, length_image_bits}
-use Rattle.plain.specs.Laws.ImageLaws.{fitted_joined, image_length}
-use Rattle.plain.specs.Laws.Width.{width_holds, width_least}
+use Rattle.plain.proofs.Laws.Below.{Below}
+use Rattle.plain.proofs.Laws.Bits.{length_bits_of, length_row, row_append}
+use Rattle.plain.proofs.Laws.ListLaws.{map_same, member_at}
+use Rattle.plain.proofs.Laws.Rank.{live_below, length_live_slots, member_live_slots}
+use Rattle.plain.proofs.Laws.Compacting.{survivors_sound, length_surviving_nodes, length_surviving_edges}
+use Rattle.plain.proofs.Laws.ImageBits.{length_edge_bits, below_image_bits, length_image_bits}
+use Rattle.plain.proofs.Laws.ImageLaws.{fitted_joined, image_length}
+use Rattle.plain.proofs.Laws.Width.{width_holds, width_least}
 use Rattle.liveness.specs.Laws.Flags.{length_flags, count_le}
 use Rattle.liveness.specs.Ranks.{RanksFit, Ranked}
 use Rattle.shape.specs.Shape.{Words, capacities, node_live, edge_live, axis_words, plain_of, lists}
 use Rattle.shape.specs.Checked.{SlotsChecked, Checked}
-use Rattle.shape.specs.Laws.Reading.{plain_node_flags, plain_edge_flags, plain_end, node_at, edge_at}
+use Rattle.shape.proofs.Laws.Reading.{plain_node_flags, plain_edge_flags, plain_end, node_at, edge_at}
 use Rattle.relocate.specs.Laws.Stores.{checked_end}
 use Rattle.survivors.specs.Working.{both_walks}
-use Rattle.survivors.specs.Laws.Working.{both_length, both_live, both_renumbered}
+use Rattle.survivors.proofs.Laws.Working.{both_length, both_live, both_renumbered}
 use Rattle.bits.specs.declared.pen.Pen.{Pen}
 use Rattle.bits.specs.Wrote.{Wrote}
 use Rattle.bits.specs.Penned.{Ready, Penned, fresh, reach, waiting}

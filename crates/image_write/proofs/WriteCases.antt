@@ -7,14 +7,14 @@ use Rattle.plain.specs.Reads.{listing, live_count, live_edges}
 use Rattle.plain.specs.Compaction.{survivors}
 use Rattle.plain.specs.Bits.{bytes_for}
 use Rattle.plain.specs.Image.{image, image_size}
-use Rattle.plain.specs.Laws.CallCases.{write_short, write_lent}
+use Rattle.plain.proofs.Laws.CallCases.{write_short, write_lent}
 use Rattle.shape.specs.Shape.{Words, lists}
 use Rattle.shape.specs.Checked.{Checked}
-use Rattle.shape.specs.Laws.Reading.{plain_edge_flags}
+use Rattle.shape.proofs.Laws.Reading.{plain_edge_flags}
 use Rattle.validate.specs.Judging.{Judged, refusal}
 use Rattle.view.specs.Laws.Calls.{replies, reply_refuses, list_short, list_done}
 use Rattle.survivors.specs.Working.{both_walks}
-use Rattle.survivors.specs.Laws.Working.{both_length}
+use Rattle.survivors.proofs.Laws.Working.{both_length}
 use Rattle.image_write.specs.Calls.{written_image, WorkFree, WriteOf}
 use Rattle.image_write.specs.Writing.{ImageFits}
 use Rattle.image_write.proofs.Surviving.{image_bytes_of}

@@ -11,10 +11,10 @@ use Rattle.plain.specs.Lists.{count}
 use Rattle.plain.specs.Reads.{live_count}
 use Rattle.plain.specs.Bits.{bits_of}
 use Rattle.plain.specs.Image.{edge_bits, record_width, node_payload_width, weight_width, count_width}
-use Rattle.plain.specs.Laws.Bits.{length_bits_of}
-use Rattle.plain.specs.Laws.ImageBits.{length_edge_bits}
-use Rattle.plain.specs.Laws.ListLaws.{count_length}
-use Rattle.plain.specs.Laws.Rank.{rank_live, live_below}
+use Rattle.plain.proofs.Laws.Bits.{length_bits_of}
+use Rattle.plain.proofs.Laws.ImageBits.{length_edge_bits}
+use Rattle.plain.proofs.Laws.ListLaws.{count_length}
+use Rattle.plain.proofs.Laws.Rank.{rank_live, live_below}
 use Rattle.liveness.specs.Flags.{live_flags}
 use Rattle.liveness.specs.Laws.Flags.{length_flags}
 use Rattle.liveness.specs.Laws.Passed.{passed_live}

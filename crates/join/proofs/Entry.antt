@@ -11,7 +11,7 @@ use Rattle.shape.specs.Checked.{Checked}
 use Rattle.shape.specs.Kept.{nothing_spared, renewed_none, renewed_spared, same_nodes, same_edges}
 use Rattle.shape.specs.Shape.{Words, lengths_of, shape_of, lists}
 use Rattle.shape.specs.Steps.{state_of}
-use Rattle.shape.specs.Laws.Reading.{plain_node_bound, plain_edge_bound, plain_node_flags, plain_edge_flags}
+use Rattle.shape.proofs.Laws.Reading.{plain_node_bound, plain_edge_bound, plain_node_flags, plain_edge_flags}
 use Rattle.validate.specs.Judging.{Judged}
 use Rattle.compact.specs.Laws.Holding.{Holding, holding_shape, holding_state, holding_checked, holding_canonical, canonical_leaves}
 use Rattle.join_columns.specs.Answers.{sizes_of}

@@ -1,10 +1,10 @@
 -- Two outcomes of one join agree on every field, so what is no field is all that the contract leaves to the program.
 use Rattle.plain.specs.Library.{ℕ, ◌≡◌, sym, ap, ◌∙◌, eqb, eqb-true, eqb-false}
 use Rattle.plain.specs.declared.Answer.{Answer}
-use Rattle.plain.specs.Laws.Booleans.{by_test}
+use Rattle.plain.proofs.Laws.Booleans.{by_test}
 use Rattle.shape.specs.Fields.{SameFields}
 use Rattle.shape.specs.Shape.{Words}
-use Rattle.shape.specs.Laws.Agreeing.{kept_both}
+use Rattle.shape.proofs.Laws.Agreeing.{kept_both}
 use Rattle.compact.specs.Agreeing.{canonical_fields}
 use Rattle.join.specs.Calls.{LentMaps, JoinOf}
 

@@ -3,12 +3,12 @@ use Rattle.plain.specs.Library.{ℕ, ◌≤◌, ◌∙◌, ◌≡◌, ap, sym, B
 use Rattle.plain.specs.declared.Slots.{Slots}
 use Rattle.plain.specs.Lists.{from, written}
 use Rattle.plain.specs.Reads.{live_count, live_slots}
-use Rattle.plain.specs.Laws.ListLaws.{map_get_or}
-use Rattle.plain.specs.Laws.Rank.{length_live_slots}
+use Rattle.plain.proofs.Laws.ListLaws.{map_get_or}
+use Rattle.plain.proofs.Laws.Rank.{length_live_slots}
 use Rattle.liveness.specs.Flags.{live_flags}
 use Rattle.shape.specs.Index.{Rewritten}
 use Rattle.survivors.specs.Slots.{kept_word, live_words_of}
-use Rattle.survivors.specs.Laws.Slots.{rewritten_list, length_live_words}
+use Rattle.survivors.proofs.Laws.Slots.{rewritten_list, length_live_words}
 use Rattle.join_columns.specs.Slots.{BothCopyable, Copyable}
 use Rattle.join_columns.specs.Laws.Written.{rest, room_behind, with_rest, written_behind}
 

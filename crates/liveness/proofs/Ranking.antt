@@ -2,7 +2,7 @@
 use Rattle.plain.specs.Library.{ℕ, ◌+◌, ◌*◌, ◌<◌, ◌≡◌, List, set, length-set, get_or-set_same, get_or-set_other, eqb, arith, eqb-true, eqb-false}
 use Rattle.plain.specs.Memory.{live_words}
 use Rattle.plain.specs.Reads.{live_count}
-use Rattle.plain.specs.Laws.Booleans.{by_test}
+use Rattle.plain.proofs.Laws.Booleans.{by_test}
 use Rattle.liveness.specs.Flags.{live_flags}
 use Rattle.liveness.specs.Ranks.{RanksFit, RankedTo}
 

@@ -11,8 +11,8 @@ use Rattle.plain.specs.Compaction.{rank}
 use Rattle.liveness.specs.Flags.{bit, live_flags}
 use Rattle.liveness.specs.Laws.Bits.{bit_zero, bit_suc}
 use Rattle.liveness.specs.Laws.Flags.{flags_suc, flags_take, bit_of}
-use Rattle.plain.specs.Laws.ListLaws.{count_append}
-use Rattle.plain.specs.Laws.Rank.{rank_take}
+use Rattle.plain.proofs.Laws.ListLaws.{count_append}
+use Rattle.plain.proofs.Laws.Rank.{rank_take}
 
 -- the k lowest flags of a word
 unfoldable pub word_flags : ℕ → ℕ → List Bool

@@ -16,17 +16,17 @@ use Rattle.plain.specs.Devices.{box}
 use Rattle.plain.specs.Calls.{Stripped, strip, judged_strip, judged_reply, fresh_state, within, fresh}
 use Rattle.plain.specs.Lotstrip.{lotstrip_capacities}
 use Rattle.plain.specs.WellFormed.{WellFormed}
-use Rattle.plain.specs.Laws.Width.{width_least}
-use Rattle.plain.specs.Laws.ListLaws.{count_length}
-use Rattle.plain.specs.Laws.Strips.{length_operations}
-use Rattle.plain.specs.Laws.CallCases.{strip_done, write_lent, lent_done}
-use Rattle.plain.specs.Laws.Compacting.{survivors_sound, surviving_nodes_within, surviving_edges_within}
-use Rattle.plain.specs.Laws.ImageLaws.{image_length}
+use Rattle.plain.proofs.Laws.Width.{width_least}
+use Rattle.plain.proofs.Laws.ListLaws.{count_length}
+use Rattle.plain.proofs.Laws.Strips.{length_operations}
+use Rattle.plain.proofs.Laws.CallCases.{strip_done, write_lent, lent_done}
+use Rattle.plain.proofs.Laws.Compacting.{survivors_sound, surviving_nodes_within, surviving_edges_within}
+use Rattle.plain.proofs.Laws.ImageLaws.{image_length}
 use Rattle.shape.specs.Shape.{Words, store, capacities, lengths_of, shape_of, plain_of, lists}
 use Rattle.shape.specs.Kept.{same_capacities}
 use Rattle.shape.specs.Rules.{broken}
 use Rattle.shape.specs.Steps.{state_of}
-use Rattle.shape.specs.Laws.Judging.{checked_sound}
+use Rattle.shape.proofs.Laws.Judging.{checked_sound}
 use Rattle.strip.specs.Fresh.{FreshOf}
 use Rattle.strip.specs.Strip.{StripOf, stripped}
 use Rattle.image_write.specs.Calls.{written_image, WriteOf}

@@ -2,7 +2,7 @@
 use Rattle.plain.specs.Library.{ℕ, zero, suc, ◌+◌, ◌/◌, ◌%◌, ◌^◌, ◌≤◌, ◌<◌, ◌≡◌, refl, sym, ap, ◌∙◌, List, [], ◌∷◌, length, set, ltb, arith, lt-ltb, le-ltb}
 use native.Mathlib.Nat.{div-lt_iff_lt-mul, pow-suc}
 use Rattle.plain.specs.Lotstrip.{digits_before, decimal}
-use Rattle.plain.specs.Laws.Booleans.{by_test}
+use Rattle.plain.proofs.Laws.Booleans.{by_test}
 use Rattle.bits.specs.Put.{Put}
 use Rattle.bits.specs.Laws.Put.{put_none, put_before, put_length}
 

@@ -5,7 +5,7 @@ use Rattle.plain.specs.Lists.{written}
 use Rattle.plain.specs.Operations.{operation_words, operations}
 use Rattle.plain.specs.Calls.{fresh_state}
 use Rattle.plain.specs.Lotstrip.{lotstrip_capacities, words_of, codes, answer_lines, hexadecimal, word_bytes, operation_bytes, input_limit, lotstrip_run, lotstrip}
-use Rattle.plain.specs.Laws.Strips.{length_operations, length_answers}
+use Rattle.plain.proofs.Laws.Strips.{length_operations, length_answers}
 use Rattle.bits.specs.Laws.Put.{put_length, put_written}
 use Rattle.lotstrip_text.specs.Appending.{Appended}
 use Rattle.lotstrip_text.proofs.Lines.{lines_most, length_hex}

@@ -1,7 +1,7 @@
 -- Marking an edge: the two ways through `mark`.
 use Rattle.plain.specs.Library.{ℕ, ◌+◌, ◌/◌, ◌%◌, ◌^◌, ◌<◌, ◌≡◌, refl, sym, ap, ◌∙◌, true, false, ◌||◌, not, List, length, get_or, set, eqb, eq-eqb, eqb-true}
 use Rattle.plain.specs.Library.{eqb-false}
-use Rattle.plain.specs.Laws.Booleans.{by_test}
+use Rattle.plain.proofs.Laws.Booleans.{by_test}
 use Rattle.liveness.specs.Flags.{bit}
 use Rattle.liveness.specs.Laws.Bits.{mark_here, mark_other}
 use Rattle.liveness.specs.Laws.Flags.{bit_in, bit_of, bit_other}

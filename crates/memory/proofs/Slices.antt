@@ -5,8 +5,8 @@ use Rattle.plain.specs.Numbers.{too_short}
 use Rattle.plain.specs.Memory.{Slice, Lengths, first_short, other_slices, live_words, axis_length}
 use Rattle.plain.specs.Devices.{Device, Takes}
 use Rattle.plain.specs.Calls.{short_answer, within, asked, reading}
-use Rattle.plain.specs.Laws.Booleans.{below_or_not}
-use Rattle.plain.specs.Laws.CallCases.{within_limits}
+use Rattle.plain.proofs.Laws.Booleans.{below_or_not}
+use Rattle.plain.proofs.Laws.CallCases.{within_limits}
 use Rattle.memory.specs.Lengths.{lacking}
 use Rattle.memory.specs.Laws.{then_lacking}
 

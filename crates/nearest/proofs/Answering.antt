@@ -8,7 +8,7 @@ use Rattle.plain.specs.declared.Answer.{Answer}
 use Rattle.plain.specs.Numbers.{NONE}
 use Rattle.plain.specs.Lists.{written}
 use Rattle.plain.specs.Plain.{list_of, end_of}
-use Rattle.plain.specs.Laws.Booleans.{below_or_not}
+use Rattle.plain.proofs.Laws.Booleans.{below_or_not}
 use Rattle.shape.specs.Columns.{end_at}
 use Rattle.shape.specs.Index.{Rewritten}
 use Rattle.shape.specs.Shape.{Words, node_capacity, lists}

@@ -4,9 +4,9 @@ use Rattle.plain.specs.Library.{append_assoc, length, get_or, eqb, arith, eqb-tr
 use native.Mathlib.Nat.{suc_inj}
 use Rattle.plain.specs.Lists.{member, keep}
 use Rattle.plain.specs.Reads.{first_or_none}
-use Rattle.plain.specs.Laws.Booleans.{by_test, true_false, or_other, refuted}
-use Rattle.plain.specs.Laws.ListLaws.{member_first, member_later}
-use Rattle.shape.specs.Laws.Taking.{keep_agree}
+use Rattle.plain.proofs.Laws.Booleans.{by_test, true_false, or_other, refuted}
+use Rattle.plain.proofs.Laws.ListLaws.{member_first, member_later}
+use Rattle.shape.proofs.Laws.Taking.{keep_agree}
 use Rattle.cursor.specs.Finding.{first_of}
 use Rattle.nearest.specs.Chains.{Chain, nearest}
 use Rattle.nearest.specs.Laws.Chains.{by_option, first_chain, first_chain_zero, first_chain_suc, first_chain_chain, first_step, onward, nearest_is, nearest_chain, Within, simple, simple_short}

@@ -5,12 +5,12 @@ use Rattle.plain.specs.Numbers.{NONE}
 use Rattle.plain.specs.Lists.{written}
 use Rattle.plain.specs.Plain.{NodeSlot}
 use Rattle.plain.specs.Step.{node_fault}
-use Rattle.plain.specs.Laws.Cases.{fault_absent, fault_removed, fault_live}
-use Rattle.plain.specs.Laws.Operating.{length_node_flags}
+use Rattle.plain.proofs.Laws.Cases.{fault_absent, fault_removed, fault_live}
+use Rattle.plain.proofs.Laws.Operating.{length_node_flags}
 use Rattle.liveness.specs.Faults.{fault_of}
 use Rattle.liveness.specs.Laws.Faults.{by_fault, no_node_fault}
 use Rattle.shape.specs.Shape.{Words, node_capacity, node_live, lists}
-use Rattle.shape.specs.Laws.Reading.{plain_node_bound, plain_node_flags}
+use Rattle.shape.proofs.Laws.Reading.{plain_node_bound, plain_node_flags}
 use Rattle.validate.specs.Judging.{Judged, refusal}
 use Rattle.nearest.specs.Calls.{Searched, unsearched, nearest_lot, judged_search, nearest_of, NearestOf}
 use Rattle.nearest.specs.Laws.Calls.{judged_refuses, first_refuses, second_refuses, work_refuses, none_refuses}

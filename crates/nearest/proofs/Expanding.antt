@@ -3,8 +3,8 @@ use Rattle.plain.specs.Library.{ℕ, ◌+◌, ◌≡◌, refl, sym, ap, ◌∙�
 use Rattle.plain.specs.Library.{eq-eqb, ne_eqb}
 use Rattle.plain.specs.declared.Counts.{Counts}
 use Rattle.plain.specs.Lists.{member, keep}
-use Rattle.plain.specs.Laws.Booleans.{by_test}
-use Rattle.plain.specs.Laws.ListLaws.{member_first, member_later}
+use Rattle.plain.proofs.Laws.Booleans.{by_test}
+use Rattle.plain.proofs.Laws.ListLaws.{member_first, member_later}
 use Rattle.liveness.specs.Flags.{live_flags}
 use Rattle.shape.specs.Columns.{end_at}
 use Rattle.cursor.specs.declared.AdjacencyCursor.{AdjacencyCursor}

@@ -4,8 +4,8 @@ use Rattle.plain.specs.Library.{length, get_or, set, take, drop, length-set, len
 use Rattle.plain.specs.Library.{eqb-false}
 use lib.Seq.{take-set-lt, take-set-le, drop-set-lt, drop-set-add, take-suc-set, get_or-take, length-take-le}
 use Rattle.plain.specs.Lists.{member}
-use Rattle.plain.specs.Laws.Booleans.{by_test, true_false}
-use Rattle.plain.specs.Laws.ListLaws.{member_first, member_later}
+use Rattle.plain.proofs.Laws.Booleans.{by_test, true_false}
+use Rattle.plain.proofs.Laws.ListLaws.{member_first, member_later}
 use Rattle.nearest.specs.Search.{Network, Consistent, Search}
 use Rattle.nearest.specs.Frontier.{dist_in, queue_in, Frontier, pushed, turn, expanded, Held, Standing}
 use Rattle.nearest.proofs.SearchLaws.{head_seen, word_unseen, queue_room, search_known, search_new, search_next}

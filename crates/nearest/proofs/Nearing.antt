@@ -6,8 +6,8 @@ use Rattle.plain.specs.declared.TraversalDirection.TheVariants.{Outgoing, Incomi
 use Rattle.plain.specs.declared.Counts.{Counts}
 use Rattle.plain.specs.Lists.{member, keep, written}
 use Rattle.plain.specs.Plain.{list_of}
-use Rattle.plain.specs.Laws.Booleans.{by_test}
-use Rattle.plain.specs.Laws.ListLaws.{member_first, member_later}
+use Rattle.plain.proofs.Laws.Booleans.{by_test}
+use Rattle.plain.proofs.Laws.ListLaws.{member_first, member_later}
 use Rattle.liveness.specs.Flags.{live_flags}
 use Rattle.shape.specs.Columns.{end_at}
 use Rattle.shape.specs.Shape.{Words, node_capacity, edge_capacity, lists}

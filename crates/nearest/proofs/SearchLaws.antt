@@ -6,9 +6,9 @@ use Prim.Native.Nat.{zero-le}
 use native.Mathlib.Nat.{suc_inj}
 use lib.Seq.{get_or-append_seam}
 use Rattle.plain.specs.Lists.{member, distinct, from}
-use Rattle.plain.specs.Laws.Booleans.{by_test, true_false, below_or_not, or_other, refuted, or_true, or_false}
-use Rattle.plain.specs.Laws.ListLaws.{member_first, member_append, member_at, distinct_within, length_from, member_below}
-use Rattle.plain.specs.Laws.Deleting.{distinct_snoc}
+use Rattle.plain.proofs.Laws.Booleans.{by_test, true_false, below_or_not, or_other, refuted, or_true, or_false}
+use Rattle.plain.proofs.Laws.ListLaws.{member_first, member_append, member_at, distinct_within, length_from, member_below}
+use Rattle.plain.proofs.Laws.Deleting.{distinct_snoc}
 use Rattle.nearest.specs.Chains.{position, Chain}
 use Rattle.nearest.specs.Laws.Chains.{position_first, position_later}
 use Rattle.nearest.specs.Search.{Network, Consistent, Distance, Search}

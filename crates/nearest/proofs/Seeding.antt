@@ -2,7 +2,7 @@
 use Rattle.plain.specs.Library.{ℕ, ◌+◌, ◌*◌, ◌≡◌, refl, sym, ap, ◌∙◌, subst, ⊎_elim, List, [], ◌∷◌, length, get_or, set, take, drop, length-set, length-drop}
 use Rattle.plain.specs.Library.{get_or-eq_default, ext_get_or, arith}
 use lib.Seq.{take-set-lt, take-set-le, drop-set-lt, drop-set-add, take-suc-set, get_or-take, get_or-drop, length-take-le}
-use Rattle.plain.specs.Laws.Booleans.{below_or_not}
+use Rattle.plain.proofs.Laws.Booleans.{below_or_not}
 use Rattle.shape.specs.Index.{Rewritten}
 use Rattle.shape.specs.Shape.{Words, node_capacity}
 use Rattle.nearest.specs.Search.{Network, Search}

@@ -6,13 +6,13 @@ use Rattle.plain.specs.declared.TraversalDirection.TheVariants.{Outgoing, Incomi
 use Rattle.plain.specs.Numbers.{LIMIT}
 use Rattle.plain.specs.Lists.{member, joined}
 use Rattle.plain.specs.Plain.{edge_flags, list_of, end_of}
-use Rattle.plain.specs.Laws.Booleans.{and_left, and_right, both_true}
-use Rattle.plain.specs.Laws.ListLaws.{map_same}
-use Rattle.plain.specs.Laws.Operating.{incident, node_below, edge_below}
+use Rattle.plain.proofs.Laws.Booleans.{and_left, and_right, both_true}
+use Rattle.plain.proofs.Laws.ListLaws.{map_same}
+use Rattle.plain.proofs.Laws.Operating.{incident, node_below, edge_below}
 use Rattle.shape.specs.Columns.{end_at}
 use Rattle.shape.specs.Shape.{Words, node_capacity, edge_capacity, axis_words, lists}
 use Rattle.shape.specs.Checked.{Checked}
-use Rattle.shape.specs.Laws.Reading.{plain_node_bound, plain_edge_bound, plain_node_flags, plain_end}
+use Rattle.shape.proofs.Laws.Reading.{plain_node_bound, plain_edge_bound, plain_node_flags, plain_end}
 use Rattle.adjacency.specs.Walk.{walk_in, Walkable}
 use Rattle.adjacency.specs.Laws.StoreWalks.{checked_walkable, list_is_walk}
 use Rattle.nearest.specs.Chains.{first_candidate, or_else, chains, nearest_from, nearest}

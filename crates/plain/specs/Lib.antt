@@ -16,5 +16,3 @@ pub mod Calls
 pub mod Joining
 pub mod Lotstrip
 pub mod History
-pub mod Examples
-pub mod Laws

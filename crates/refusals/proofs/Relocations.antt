@@ -4,16 +4,16 @@ use Rattle.plain.specs.declared.TraversalDirection.{TraversalDirection}
 use Rattle.plain.specs.declared.Operation.TheVariants.{Redirect, Move}
 use Rattle.plain.specs.Numbers.{NONE}
 use Rattle.plain.specs.Plain.{end_of, list_of}
-use Rattle.plain.specs.Laws.Booleans.{by_test}
-use Rattle.plain.specs.Laws.Cases.{redirect_edge_absent, redirect_edge_removed, redirect_node_absent, redirect_node_removed, redirect_same, redirect, move_onto_itself, move_old_absent, move_nothing, move_new_absent, move_new_removed, move}
-use Rattle.plain.specs.Laws.ListLaws.{no_entries}
-use Rattle.plain.specs.Laws.Rank.{live_below}
+use Rattle.plain.proofs.Laws.Booleans.{by_test}
+use Rattle.plain.proofs.Laws.Cases.{redirect_edge_absent, redirect_edge_removed, redirect_node_absent, redirect_node_removed, redirect_same, redirect, move_onto_itself, move_old_absent, move_nothing, move_new_absent, move_new_removed, move}
+use Rattle.plain.proofs.Laws.ListLaws.{no_entries}
+use Rattle.plain.proofs.Laws.Rank.{live_below}
 use Rattle.liveness.specs.Laws.Flags.{length_flags}
 use Rattle.liveness.specs.Faults.{fault_of}
 use Rattle.shape.specs.Shape.{Words, node_capacity, edge_capacity, node_live, edge_live, axis_words, lists}
 use Rattle.shape.specs.Checked.{Checked}
-use Rattle.shape.specs.Laws.Reading.{plain_end}
-use Rattle.shape.specs.Laws.Slots.{nodes_told, edges_told, node_bound_of, absent_slot, live_slot, removed_slot}
+use Rattle.shape.proofs.Laws.Reading.{plain_end}
+use Rattle.shape.proofs.Laws.Slots.{nodes_told, edges_told, node_bound_of, absent_slot, live_slot, removed_slot}
 use Rattle.adjacency.specs.Walk.{walk_in}
 use Rattle.adjacency.specs.Laws.StoreWalks.{list_is_walk}
 use Rattle.store.specs.Operations.{RedirectedEdge, MovedEdges}

@@ -3,7 +3,7 @@ use Rattle.plain.specs.Library.{ℕ, suc, ◌≤◌, ◌<◌, ◌≡◌, refl, s
 use borrow.Author.Tests.{leb-false}
 use Rattle.plain.specs.declared.EdgePayload.{EdgePayload}
 use Rattle.plain.specs.Step.{payload_fault}
-use Rattle.plain.specs.Laws.Booleans.{by_test}
+use Rattle.plain.proofs.Laws.Booleans.{by_test}
 use Rattle.liveness.specs.Faults.{fault_of}
 use Rattle.liveness.specs.Laws.Faults.{no_fault, by_fault}
 

@@ -3,15 +3,15 @@ use Rattle.plain.specs.Library.{ℕ, ◌+◌, ◌*◌, ◌≤◌, ◌<◌, ◌�
 use Rattle.plain.specs.Library.{length, get_or, set, length-set, length-append, get_or-set_same, get_or-set_other, eqb, arith, eqb-true, eqb-false}
 use Rattle.plain.specs.declared.Counts.{Counts}
 use Rattle.plain.specs.Lists.{member, distinct}
-use Rattle.plain.specs.Laws.Booleans.{by_test, true_false, refuted}
-use Rattle.plain.specs.Laws.ListLaws.{member_first, distinct_apart}
-use Rattle.plain.specs.Laws.Deleting.{distinct_appended}
+use Rattle.plain.proofs.Laws.Booleans.{by_test, true_false, refuted}
+use Rattle.plain.proofs.Laws.ListLaws.{member_first, distinct_apart}
+use Rattle.plain.proofs.Laws.Deleting.{distinct_appended}
 use Rattle.shape.specs.Columns.{cell, link_at, first_at, tail_at, count_at}
 use Rattle.shape.specs.Chains.{In, Seg, Line, Run}
 use Rattle.shape.specs.Shape.{run_list}
-use Rattle.shape.specs.Laws.Chains.{in_front, in_none, seg_append, seg_agree, line_last, line_agree, run_empty, run_line, run_short}
-use Rattle.shape.specs.Laws.Frames.{run_list_below}
-use Rattle.shape.specs.Laws.Keeping.{in_either}
+use Rattle.shape.proofs.Laws.Chains.{in_front, in_none, seg_append, seg_agree, line_last, line_agree, run_empty, run_line, run_short}
+use Rattle.shape.proofs.Laws.Frames.{run_list_below}
+use Rattle.shape.proofs.Laws.Keeping.{in_either}
 use Rattle.runs.specs.Runs.{Editable, Edited}
 use Rattle.runs.specs.Laws.Editing.{edited, edited_none, edited_list, edited_other}
 use Rattle.relocate.specs.Moves.{HandableOver, HandedOver}

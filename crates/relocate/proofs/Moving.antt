@@ -3,18 +3,18 @@ use Rattle.plain.specs.Library.{ℕ, ◌+◌, ◌-◌, ◌*◌, ◌≤◌, ◌<�
 use Rattle.plain.specs.Library.{length, get_or, set, length-set, get_or-set_same, get_or-set_other, append_snoc, eqb, arith, eqb-true, eqb-false}
 use Rattle.plain.specs.declared.Counts.{Counts}
 use Rattle.plain.specs.Lists.{set_all}
-use Rattle.plain.specs.Laws.Booleans.{by_test}
-use Rattle.plain.specs.Laws.ListLaws.{member_first}
+use Rattle.plain.proofs.Laws.Booleans.{by_test}
+use Rattle.plain.proofs.Laws.ListLaws.{member_first}
 use Rattle.shape.specs.Columns.{cell, end_at, link_at, first_at, count_at}
 use Rattle.shape.specs.Chains.{In, chain}
 use Rattle.shape.specs.Shape.{adjacency_in, Adjacency, Axis, raw, live_in, run_list, ring_of, axis_of, no_adjacency}
 use Rattle.shape.specs.Steps.{taken, swept, with_run, moved_axis}
-use Rattle.shape.specs.Laws.Chains.{in_front, in_none, in_last, in_snoc, chain_none, chain_some, run_is}
+use Rattle.shape.proofs.Laws.Chains.{in_front, in_none, in_last, in_snoc, chain_none, chain_some, run_is}
 use Rattle.shape.specs.Kept.{axis_kept_again}
-use Rattle.shape.specs.Laws.Frames.{run_list_below}
-use Rattle.shape.specs.Laws.Taking.{live_taken, swept_live}
-use Rattle.shape.specs.Laws.Keeping.{in_either, in_edited, in_second}
-use Rattle.shape.specs.Laws.Reading.{axis_adjacency}
+use Rattle.shape.proofs.Laws.Frames.{run_list_below}
+use Rattle.shape.proofs.Laws.Taking.{live_taken, swept_live}
+use Rattle.shape.proofs.Laws.Keeping.{in_either, in_edited, in_second}
+use Rattle.shape.proofs.Laws.Reading.{axis_adjacency}
 use Rattle.runs.specs.Runs.{Editable, Cuttable}
 use Rattle.runs.specs.Laws.Editing.{list_of_run, mark_of_run}
 use Rattle.runs.specs.Overlay.{flags_of, Remade, Preparable, Prepared}

@@ -3,18 +3,18 @@ use Rattle.plain.specs.Library.{ℕ, ◌<◌, ◌≡◌, refl, sym, ap, ◌∙�
 use Rattle.plain.specs.Library.{get_or-set_other, eqb, arith, eqb-true, eqb-false}
 use Rattle.plain.specs.declared.Counts.{Counts}
 use Rattle.plain.specs.Lists.{without, set_all}
-use Rattle.plain.specs.Laws.Booleans.{by_test, true_false}
-use Rattle.plain.specs.Laws.ListLaws.{member_first}
-use Rattle.plain.specs.Laws.Deleting.{member_gone}
+use Rattle.plain.proofs.Laws.Booleans.{by_test, true_false}
+use Rattle.plain.proofs.Laws.ListLaws.{member_first}
+use Rattle.plain.proofs.Laws.Deleting.{member_gone}
 use Rattle.shape.specs.Columns.{end_at}
 use Rattle.shape.specs.Chains.{In}
 use Rattle.shape.specs.Shape.{adjacency_in, Adjacency, Axis, raw, live_in, ring_of, axis_of, no_adjacency}
 use Rattle.shape.specs.Steps.{taken, swept, with_run, redirected_axis}
 use Rattle.shape.specs.Kept.{axis_kept_none, axis_kept_again}
-use Rattle.shape.specs.Laws.Chains.{in_none}
-use Rattle.shape.specs.Laws.Taking.{swept_live}
-use Rattle.shape.specs.Laws.Keeping.{in_either, in_edited, in_one, in_without}
-use Rattle.shape.specs.Laws.Reading.{axis_end, axis_adjacency}
+use Rattle.shape.proofs.Laws.Chains.{in_none}
+use Rattle.shape.proofs.Laws.Taking.{swept_live}
+use Rattle.shape.proofs.Laws.Keeping.{in_either, in_edited, in_one, in_without}
+use Rattle.shape.proofs.Laws.Reading.{axis_end, axis_adjacency}
 use Rattle.runs.specs.Runs.{Cuttable, TakenOut, Pushable, Grown}
 use Rattle.runs.specs.Overlay.{flags_of, Preparable, Prepared}
 use Rattle.runs.specs.Laws.Remaking.{remade_edited, remade_list, remade_mark, remade_new}

@@ -4,17 +4,17 @@ use Rattle.plain.specs.Library.{length-set, length-map, ext_get_or, eqb, arith, 
 use native.Mathlib.Nat.{le_refl, le_trans}
 use Rattle.plain.specs.declared.Counts.{Counts}
 use Rattle.plain.specs.Lists.{member, distinct, from, set_all}
-use Rattle.plain.specs.Laws.Booleans.{by_test, true_false}
-use Rattle.plain.specs.Laws.ListLaws.{length_from}
-use Rattle.plain.specs.Laws.Deleting.{get_d_set, length_set_all, get_or_set_all}
+use Rattle.plain.proofs.Laws.Booleans.{by_test, true_false}
+use Rattle.plain.proofs.Laws.ListLaws.{length_from}
+use Rattle.plain.proofs.Laws.Deleting.{get_d_set, length_set_all, get_or_set_all}
 use Rattle.shape.specs.Columns.{end_at}
 use Rattle.shape.specs.Chains.{In}
 use Rattle.shape.specs.Shape.{adjacency_in, Adjacency, Axis, raw, live_in, run_list, axis_of, no_adjacency, ring_of}
 use Rattle.shape.specs.Steps.{live_entries, with_run}
 use Rattle.shape.specs.Checked.{AxisChecked}
 use Rattle.shape.specs.Kept.{AxisKept}
-use Rattle.shape.specs.Laws.Frames.{run_list_below, run_of_agree, base_of_agree, ring_of_agree, index_kept, runs_kept, rings_agree}
-use Rattle.shape.specs.Laws.Reading.{made_at}
+use Rattle.shape.proofs.Laws.Frames.{run_list_below, run_of_agree, base_of_agree, ring_of_agree, index_kept, runs_kept, rings_agree}
+use Rattle.shape.proofs.Laws.Reading.{made_at}
 use Rattle.runs.specs.Laws.Editing.{same_entries}
 use Rattle.runs.specs.Overlay.{flags_of, Ready, Remade}
 use Rattle.runs.specs.Laws.Remaking.{node_same, remade_list, remade_other}

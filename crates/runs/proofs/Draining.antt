@@ -5,18 +5,18 @@ use native.Mathlib.Nat.{le_trans, le_refl}
 use Rattle.plain.specs.declared.Counts.{Counts}
 use Rattle.plain.specs.Numbers.{NONE}
 use Rattle.plain.specs.Lists.{member, distinct, keep}
-use Rattle.plain.specs.Laws.Booleans.{true_false, both_true, refuted}
-use Rattle.plain.specs.Laws.ListLaws.{member_first, member_keep, distinct_apart}
+use Rattle.plain.proofs.Laws.Booleans.{true_false, both_true, refuted}
+use Rattle.plain.proofs.Laws.ListLaws.{member_first, member_keep, distinct_apart}
 use Rattle.shape.specs.Columns.{cell, next_at}
 use Rattle.shape.specs.Chains.{In, Line, until}
 use Rattle.shape.specs.Shape.{adjacency_in, raw, hiding, live_in, run_list, run_of, ring_of, base_of}
 use Rattle.shape.specs.Steps.{live_entries}
-use Rattle.shape.specs.Laws.Chains.{in_front, in_none, line_stop, line_step, line_first, line_short, ring_once, until_is}
-use Rattle.shape.specs.Laws.Frames.{base_kept, index_kept, run_kept, runs_kept, ring_of_none}
+use Rattle.shape.proofs.Laws.Chains.{in_front, in_none, line_stop, line_step, line_first, line_short, ring_once, until_is}
+use Rattle.shape.proofs.Laws.Frames.{base_kept, index_kept, run_kept, runs_kept, ring_of_none}
 use Rattle.shape.specs.Checked.{Rings, Index}
 use Rattle.shape.specs.Kept.{AxisKept, axis_kept_again}
-use Rattle.shape.specs.Laws.Taking.{keep_append}
-use Rattle.shape.specs.Laws.Keeping.{in_keep, in_either, in_second}
+use Rattle.shape.proofs.Laws.Taking.{keep_append}
+use Rattle.shape.proofs.Laws.Keeping.{in_keep, in_either, in_second}
 use Rattle.adjacency.specs.declared.rings.RingEnds.{RingEnds}
 use Rattle.adjacency.specs.Rings.{EndsReadable, ring_ends, Detached}
 use Rattle.adjacency.specs.Laws.Rings.{ends_readable, ends_ring}

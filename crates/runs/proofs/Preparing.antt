@@ -3,7 +3,7 @@ use Rattle.plain.specs.Library.{ℕ, subst, Bool, List}
 use Rattle.plain.specs.declared.Counts.{Counts}
 use Rattle.shape.specs.Shape.{adjacency_in}
 use Rattle.shape.specs.Steps.{swept}
-use Rattle.shape.specs.Laws.Keeping.{in_taken}
+use Rattle.shape.proofs.Laws.Keeping.{in_taken}
 use Rattle.runs.specs.Runs.{Edited, Sweepable, Swept}
 use Rattle.runs.specs.Overlay.{flags_of, TakenOver, Preparable, Prepared}
 use Rattle.runs.specs.Laws.Remaking.{remade_edited, remade_list, remade_mark}

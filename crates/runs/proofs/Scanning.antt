@@ -5,16 +5,16 @@ use Prim.Native.Nat.{zero-le}
 use lib.Seq.{take-append_seam, drop-append_seam}
 use Rattle.plain.specs.declared.Counts.{Counts}
 use Rattle.plain.specs.Lists.{member}
-use Rattle.plain.specs.Laws.Booleans.{true_false, refuted}
-use Rattle.plain.specs.Laws.ListLaws.{member_first, distinct_apart}
+use Rattle.plain.proofs.Laws.Booleans.{true_false, refuted}
+use Rattle.plain.proofs.Laws.ListLaws.{member_first, distinct_apart}
 use Rattle.liveness.specs.Flags.{live_flags}
 use Rattle.shape.specs.Columns.{cell, link_at, first_at, count_at}
 use Rattle.shape.specs.Chains.{Line, chain}
 use Rattle.shape.specs.Shape.{live_in, run_list}
 use Rattle.shape.specs.Steps.{LiveOnly}
-use Rattle.shape.specs.Laws.Chains.{in_none, in_snoc, line_one, line_more, chain_some, chain_length, run_is, run_once}
-use Rattle.shape.specs.Laws.Frames.{run_list_below}
-use Rattle.shape.specs.Laws.Keeping.{in_second}
+use Rattle.shape.proofs.Laws.Chains.{in_none, in_snoc, line_one, line_more, chain_some, chain_length, run_is, run_once}
+use Rattle.shape.proofs.Laws.Frames.{run_list_below}
+use Rattle.shape.proofs.Laws.Keeping.{in_second}
 use Rattle.runs.specs.Runs.{Scannable, Scanned}
 use Rattle.runs.specs.Laws.Pushing.{run_before}
 

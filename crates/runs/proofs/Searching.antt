@@ -3,12 +3,12 @@ use Rattle.plain.specs.Library.{ℕ, ◌+◌, ◌-◌, ◌*◌, ◌≤◌, ◌<�
 use Rattle.plain.specs.Library.{ne_eqb, eqb-true}
 use Rattle.plain.specs.Numbers.{NONE}
 use Rattle.plain.specs.Lists.{member, without, distinct}
-use Rattle.plain.specs.Laws.Booleans.{by_test, true_false, refuted}
-use Rattle.plain.specs.Laws.ListLaws.{member_first, member_later, distinct_head, distinct_right, distinct_apart, without_keep, without_absent}
+use Rattle.plain.proofs.Laws.Booleans.{by_test, true_false, refuted}
+use Rattle.plain.proofs.Laws.ListLaws.{member_first, member_later, distinct_head, distinct_right, distinct_apart, without_keep, without_absent}
 use Rattle.shape.specs.Columns.{cell, link_at}
 use Rattle.shape.specs.Chains.{In, chain}
-use Rattle.shape.specs.Laws.Chains.{chain_none, chain_some}
-use Rattle.shape.specs.Laws.Taking.{keep_append}
+use Rattle.shape.proofs.Laws.Chains.{chain_none, chain_some}
+use Rattle.shape.proofs.Laws.Taking.{keep_append}
 use Rattle.runs.specs.Runs.{before_in, Searchable}
 
 -- ---- the loop

@@ -3,19 +3,19 @@ use Rattle.plain.specs.Library.{ℕ, ◌+◌, ◌*◌, ◌≤◌, ◌<◌, ◌�
 use Rattle.plain.specs.Library.{◌++◌, append-nil, length, get_or, set, length-set, get_or-set_same, get_or-set_other, append_snoc, arith}
 use Rattle.plain.specs.declared.Counts.{Counts}
 use Rattle.plain.specs.Lists.{keep}
-use Rattle.plain.specs.Laws.Booleans.{true_false, both_true}
-use Rattle.plain.specs.Laws.ListLaws.{member_first, member_keep, distinct_left, distinct_apart}
+use Rattle.plain.proofs.Laws.Booleans.{true_false, both_true}
+use Rattle.plain.proofs.Laws.ListLaws.{member_first, member_keep, distinct_left, distinct_apart}
 use Rattle.shape.specs.Columns.{cell, adjacency_at, mark_at}
 use Rattle.shape.specs.Chains.{In}
 use Rattle.shape.specs.Shape.{adjacency_in, raw, hiding, live_in, between, base_of, run_list, run_of, ring_of}
 use Rattle.shape.specs.Steps.{live_entries, run_or_base, taken}
 use Rattle.shape.specs.Checked.{Indexed}
-use Rattle.shape.specs.Laws.Chains.{in_front, in_none}
-use Rattle.shape.specs.Laws.Frames.{run_list_below, run_of_unmarked}
-use Rattle.shape.specs.Laws.NewBase.{base_between, base_range}
-use Rattle.shape.specs.Laws.Walking.{between_none, between_some}
-use Rattle.shape.specs.Laws.Taking.{keep_append, keep_again}
-use Rattle.shape.specs.Laws.Keeping.{in_keep, in_either, in_second}
+use Rattle.shape.proofs.Laws.Chains.{in_front, in_none}
+use Rattle.shape.proofs.Laws.Frames.{run_list_below, run_of_unmarked}
+use Rattle.shape.proofs.Laws.NewBase.{base_between, base_range}
+use Rattle.shape.proofs.Laws.Walking.{between_none, between_some}
+use Rattle.shape.proofs.Laws.Taking.{keep_append, keep_again}
+use Rattle.shape.proofs.Laws.Keeping.{in_keep, in_either, in_second}
 use Rattle.adjacency.specs.Index.{Based, base_bounds}
 use Rattle.adjacency.specs.declared.index.BaseBounds.{BaseBounds}
 use Rattle.runs.specs.Runs.{Edited, Grown, Keepable}

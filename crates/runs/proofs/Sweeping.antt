@@ -4,17 +4,17 @@ use Rattle.plain.specs.Library.{append_assoc, length, get_or, set, take, drop, l
 use lib.ListN.{take-append-drop}
 use Rattle.plain.specs.declared.Counts.{Counts}
 use Rattle.plain.specs.Lists.{keep}
-use Rattle.plain.specs.Laws.Booleans.{true_false}
-use Rattle.plain.specs.Laws.ListLaws.{member_first, member_later, distinct_right, distinct_apart}
+use Rattle.plain.proofs.Laws.Booleans.{true_false}
+use Rattle.plain.proofs.Laws.ListLaws.{member_first, member_later, distinct_right, distinct_apart}
 use Rattle.liveness.specs.Flags.{live_flags}
 use Rattle.shape.specs.Columns.{cell, link_at}
 use Rattle.shape.specs.Chains.{In, chain}
 use Rattle.shape.specs.Shape.{live_in, run_list}
 use Rattle.shape.specs.Steps.{live_entries, swept, LiveOnly}
-use Rattle.shape.specs.Laws.Chains.{in_front, in_none, chain_none, chain_some, chain_agree, run_once, run_agree}
-use Rattle.shape.specs.Laws.Frames.{run_list_below}
-use Rattle.shape.specs.Laws.Taking.{keep_append, swept_live, swept_all}
-use Rattle.shape.specs.Laws.Keeping.{in_either, in_keep, in_second}
+use Rattle.shape.proofs.Laws.Chains.{in_front, in_none, chain_none, chain_some, chain_agree, run_once, run_agree}
+use Rattle.shape.proofs.Laws.Frames.{run_list_below}
+use Rattle.shape.proofs.Laws.Taking.{keep_append, swept_live, swept_all}
+use Rattle.shape.proofs.Laws.Keeping.{in_either, in_keep, in_second}
 use Rattle.runs.specs.declared.Front.{Front}
 use Rattle.runs.specs.Runs.{Edited, Grown, Keepable, Scanned, Shortenable, Shortened, Appendable, Appended, Sweepable, Swept}
 use Rattle.runs.specs.Laws.Editing.{edited, edited_none, edited_again, edited_wider, edited_list, edited_mark, edited_new}

@@ -15,15 +15,15 @@ use Rattle.plain.specs.Library.{eqb-false}
 use Rattle.plain.specs.declared.Counts.{Counts}
 use Rattle.plain.specs.Numbers.{NONE}
 use Rattle.plain.specs.Lists.{member, without, distinct}
-use Rattle.plain.specs.Laws.Booleans.{by_test, true_false}
-use Rattle.plain.specs.Laws.ListLaws.{member_first, member_later, distinct_head, distinct_right, distinct_apart, distinct_without, without_absent}
-use Rattle.plain.specs.Laws.Deleting.{length_deleted}
+use Rattle.plain.proofs.Laws.Booleans.{by_test, true_false}
+use Rattle.plain.proofs.Laws.ListLaws.{member_first, member_later, distinct_head, distinct_right, distinct_apart, distinct_without, without_absent}
+use Rattle.plain.proofs.Laws.Deleting.{length_deleted}
 use Rattle.shape.specs.Columns.{cell, link_at, first_at, tail_at, count_at}
 use Rattle.shape.specs.Chains.{In, Seg, Line, chain}
 use Rattle.shape.specs.Shape.{run_list}
-use Rattle.shape.specs.Laws.Chains.{in_front, in_last, in_none, seg_append, seg_agree, line_first, line_stop, line_step, run_is, run_once, run_empty, run_line, chain_some, line_agree}
-use Rattle.shape.specs.Laws.Frames.{run_list_below}
-use Rattle.shape.specs.Laws.Keeping.{in_second, in_without}
+use Rattle.shape.proofs.Laws.Chains.{in_front, in_last, in_none, seg_append, seg_agree, line_first, line_stop, line_step, run_is, run_once, run_empty, run_line, chain_some, line_agree}
+use Rattle.shape.proofs.Laws.Frames.{run_list_below}
+use Rattle.shape.proofs.Laws.Keeping.{in_second, in_without}
 use Rattle.runs.specs.Runs.{Editable, before_in, Searchable, Cuttable, Unlinkable, TakenOut}
 use Rattle.runs.specs.Laws.Editing.{edited, edited_none}
 use Rattle.runs.specs.Laws.Pushing.{run_before}

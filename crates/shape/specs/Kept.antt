@@ -5,7 +5,7 @@ use Rattle.std.proofs.Common.{le_refl, le_trans}
 use Rattle.plain.specs.declared.TraversalDirection.{TraversalDirection}
 use Rattle.plain.specs.declared.TraversalDirection.TheVariants.{Outgoing, Incoming}
 use Rattle.plain.specs.Memory.{Lengths}
-use Rattle.plain.specs.Laws.Booleans.{below_or_not}
+use Rattle.plain.proofs.Laws.Booleans.{below_or_not}
 use Rattle.shape.specs.Shape.{Words, node_capacity, edge_capacity, lengths_of, axis_words}
 
 -- every slice is as long as it was

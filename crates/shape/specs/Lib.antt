@@ -9,5 +9,4 @@ pub mod Lent
 pub mod Kept
 pub mod Fields
 pub mod Writes
-pub mod Laws
 mod Examples

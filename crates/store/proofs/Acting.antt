@@ -5,8 +5,8 @@ use Rattle.plain.specs.declared.Slots.{Slots}
 use Rattle.plain.specs.declared.Counts.{Counts}
 use Rattle.plain.specs.Step.{Outcome, step}
 use Rattle.plain.specs.WellFormed.{WellFormed}
-use Rattle.plain.specs.Laws.Rank.{live_count_removed, live_count_pushed}
-use Rattle.plain.specs.Laws.Stepping.{Fitting}
+use Rattle.plain.proofs.Laws.Rank.{live_count_removed, live_count_pushed}
+use Rattle.plain.proofs.Laws.Stepping.{Fitting}
 use Rattle.liveness.specs.Flags.{live_flags}
 use Rattle.liveness.specs.Laws.Flags.{count_le}
 use Rattle.liveness.specs.Calls.{Pushed, Cleared}
@@ -14,8 +14,8 @@ use Rattle.shape.specs.Shape.{Words, capacities, shape_of, lists}
 use Rattle.shape.specs.Checked.{SlotsChecked, Checked}
 use Rattle.shape.specs.Kept.{SameLengths, same_nodes, same_edges}
 use Rattle.shape.specs.Steps.{acted, acts, shape_step}
-use Rattle.shape.specs.Laws.CheckedShape.{checked_proper}
-use Rattle.shape.specs.Laws.Keeping.{step_proper}
+use Rattle.shape.proofs.Laws.CheckedShape.{checked_proper}
+use Rattle.shape.proofs.Laws.Keeping.{step_proper}
 use Rattle.store.specs.Operations.{one_more, fewer}
 
 -- the counts with those of one kind of slot replaced

@@ -7,8 +7,8 @@ use Rattle.plain.specs.declared.EdgePayload.{EdgePayload}
 use Rattle.plain.specs.declared.Operation.TheVariants.{AddNode, AddEdge}
 use Rattle.plain.specs.Plain.{node_added, edge_added}
 use Rattle.plain.specs.Step.{changed, step}
-use Rattle.plain.specs.Laws.Cases.{comes_to, add_node, add_edge}
-use Rattle.plain.specs.Laws.Rank.{live_below}
+use Rattle.plain.proofs.Laws.Cases.{comes_to, add_node, add_edge}
+use Rattle.plain.proofs.Laws.Rank.{live_below}
 use Rattle.liveness.specs.Calls.{Pushed}
 use Rattle.liveness.specs.Laws.Flags.{length_flags}
 use Rattle.shape.specs.Shape.{Words, node_capacity, edge_capacity, capacities, node_live, edge_live, edge_payload_at, axis_words, axis_of, shape_of, plain_of, store, lists}
@@ -16,8 +16,8 @@ use Rattle.shape.specs.Checked.{AxisChecked}
 use Rattle.shape.specs.Kept.{SameLengths, AxisKept, each_length, same_nodes, same_edges, same_highs, past_none}
 use Rattle.shape.specs.Writes.{WritesAxis}
 use Rattle.shape.specs.Steps.{appended, acted}
-use Rattle.shape.specs.Laws.Reading.{node_bound_is, edge_bound_is, node_flags_are}
-use Rattle.shape.specs.Laws.Shapes.{shape_ext}
+use Rattle.shape.proofs.Laws.Reading.{node_bound_is, edge_bound_is, node_flags_are}
+use Rattle.shape.proofs.Laws.Shapes.{shape_ext}
 use Rattle.adjacency.specs.Rings.{Openable, Opened, Appendable, Appended}
 use Rattle.store.proofs.Keeping.{pushed_word, pushed_other, opened_kept, appended_kept, appended_writes}
 use Rattle.store.proofs.Made.{slots_more, payload_here, payload_other}

@@ -4,15 +4,15 @@ use Rattle.plain.specs.Library.{arith, le-ltb}
 use lib.Seq.{get_or_at}
 use Rattle.plain.specs.declared.TraversalDirection.{TraversalDirection}
 use Rattle.plain.specs.declared.Counts.{Counts}
-use Rattle.plain.specs.Laws.Booleans.{by_test, true_false, below_or_not}
+use Rattle.plain.proofs.Laws.Booleans.{by_test, true_false, below_or_not}
 use Rattle.liveness.specs.Laws.Flags.{length_flags}
 use Rattle.shape.specs.Columns.{Sized, mark_at}
 use Rattle.shape.specs.Chains.{In}
 use Rattle.shape.specs.Shape.{Words, Adjacency, Axis, node_capacity, edge_capacity, node_live, edge_live, axis_words, base_of, run_list, run_of, ring_of, hiding, no_adjacency, axis_of}
 use Rattle.shape.specs.Checked.{AxisChecked, Checked}
 use Rattle.shape.specs.Steps.{opened, appended}
-use Rattle.shape.specs.Laws.Frames.{base_kept, index_kept, run_list_below, run_list_kept, run_kept, runs_kept}
-use Rattle.shape.specs.Laws.Reading.{axis_adjacency, made_same}
+use Rattle.shape.proofs.Laws.Frames.{base_kept, index_kept, run_list_below, run_list_kept, run_kept, runs_kept}
+use Rattle.shape.proofs.Laws.Reading.{axis_adjacency, made_same}
 use Rattle.adjacency.specs.Rings.{Opened, Appended}
 use Rattle.store.proofs.Made.{made_more, made_set}
 use Rattle.store.specs.Operations.{one_more}

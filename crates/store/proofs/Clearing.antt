@@ -7,10 +7,10 @@ use Rattle.plain.specs.declared.Operation.TheVariants.{RemoveNode}
 use Rattle.plain.specs.Numbers.{LIMIT}
 use Rattle.plain.specs.Lists.{from}
 use Rattle.plain.specs.Plain.{NodeSlot, killed_node, no_node, list_of}
-use Rattle.plain.specs.Laws.Booleans.{by_test, true_false}
-use Rattle.plain.specs.Laws.Cases.{comes_to, remove_node}
-use Rattle.plain.specs.Laws.Deleting.{get_d_set}
-use Rattle.plain.specs.Laws.Rank.{live_below}
+use Rattle.plain.proofs.Laws.Booleans.{by_test, true_false}
+use Rattle.plain.proofs.Laws.Cases.{comes_to, remove_node}
+use Rattle.plain.proofs.Laws.Deleting.{get_d_set}
+use Rattle.plain.proofs.Laws.Rank.{live_below}
 use Rattle.liveness.specs.Calls.{Cleared}
 use Rattle.liveness.specs.Laws.Flags.{length_flags}
 use Rattle.shape.specs.Chains.{In}
@@ -18,10 +18,10 @@ use Rattle.shape.specs.Shape.{Words, node_capacity, edge_capacity, node_live, ed
 use Rattle.shape.specs.Checked.{AxisChecked, Checked}
 use Rattle.shape.specs.Kept.{SameLengths, AxisKept, each_length, axis_kept_none}
 use Rattle.shape.specs.Steps.{acted, walk_in as walk_of_shape}
-use Rattle.shape.specs.Laws.Refining.{list_is_walk}
-use Rattle.shape.specs.Laws.Keeping.{in_either}
-use Rattle.shape.specs.Laws.Reading.{made_at, node_flags_are}
-use Rattle.shape.specs.Laws.Shapes.{shape_ext}
+use Rattle.shape.proofs.Laws.Refining.{list_is_walk}
+use Rattle.shape.proofs.Laws.Keeping.{in_either}
+use Rattle.shape.proofs.Laws.Reading.{made_at, node_flags_are}
+use Rattle.shape.proofs.Laws.Shapes.{shape_ext}
 use Rattle.adjacency.specs.Walk.{walk_in}
 use Rattle.adjacency.specs.Clear.{Retired, Clearable}
 use Rattle.adjacency.specs.Laws.StoreClears.{checked_clearable, retired_slots, retired_within, retired_checked, node_retired, node_dead}

@@ -9,18 +9,18 @@ use Rattle.plain.specs.declared.Operation.TheVariants.{RemoveEdge, SetPayload}
 use Rattle.plain.specs.Lists.{from}
 use Rattle.plain.specs.Plain.{EdgeSlot, killed_edge, no_edge, edge_flags, edge_removed, payload_set}
 use Rattle.plain.specs.Step.{changed, unchanged, step}
-use Rattle.plain.specs.Laws.Booleans.{by_test, true_false}
-use Rattle.plain.specs.Laws.Cases.{Slot, absent, removed, live, slot, comes_to, remove_edge_absent, remove_edge_removed, remove_edge, set_payload}
-use Rattle.plain.specs.Laws.Deleting.{get_d_set}
-use Rattle.plain.specs.Laws.Rank.{live_below}
+use Rattle.plain.proofs.Laws.Booleans.{by_test, true_false}
+use Rattle.plain.proofs.Laws.Cases.{Slot, absent, removed, live, slot, comes_to, remove_edge_absent, remove_edge_removed, remove_edge, set_payload}
+use Rattle.plain.proofs.Laws.Deleting.{get_d_set}
+use Rattle.plain.proofs.Laws.Rank.{live_below}
 use Rattle.liveness.specs.Calls.{Cleared}
 use Rattle.liveness.specs.Laws.Flags.{length_flags}
 use Rattle.shape.specs.Shape.{Words, node_capacity, edge_capacity, capacities, node_live, edge_live, edge_payload_at, edge_slot_at, axis_words, axis_of, shape_of, plain_of, store, lists}
 use Rattle.shape.specs.Checked.{AxisChecked, Checked}
 use Rattle.shape.specs.Kept.{SameLengths, AxisKept, each_length, same_edges, same_highs, past_none, axis_kept_none}
 use Rattle.shape.specs.Steps.{retired, acted}
-use Rattle.shape.specs.Laws.Reading.{made_at, edge_bound_is, edge_flags_are}
-use Rattle.shape.specs.Laws.Shapes.{shape_ext}
+use Rattle.shape.proofs.Laws.Reading.{made_at, edge_bound_is, edge_flags_are}
+use Rattle.shape.proofs.Laws.Shapes.{shape_ext}
 use Rattle.store.proofs.Keeping.{cleared_word, cleared_other}
 use Rattle.store.proofs.Made.{slots_set, payload_here, payload_other}
 use Rattle.store.specs.Operations.{Acted, RemovedEdge, fewer, PayloadSettable}

@@ -1,13 +1,13 @@
 -- Words that the operations leave: live words past the slots, and the words of an axis.
 use Rattle.plain.specs.Library.{ℕ, ◌+◌, ◌*◌, ◌/◌, ◌≤◌, ◌<◌, ◌≡◌, ap, ◌∙◌, Bool, ◌⊎◌, ◌≢◌, inl, inr, ⊎_elim, List, get_or, get_or-set_other, arith}
-use Rattle.plain.specs.Laws.Booleans.{below_or_not}
-use Rattle.plain.specs.Laws.Rank.{live_below}
+use Rattle.plain.proofs.Laws.Booleans.{below_or_not}
+use Rattle.plain.proofs.Laws.Rank.{live_below}
 use Rattle.liveness.specs.Flags.{live_flags}
 use Rattle.liveness.specs.Laws.Flags.{length_flags}
 use Rattle.liveness.specs.Calls.{Pushed, Cleared}
 use Rattle.shape.specs.Kept.{AxisKept}
 use Rattle.shape.specs.Writes.{OfRing}
-use Rattle.shape.specs.Laws.Agreeing.{unmarked}
+use Rattle.shape.proofs.Laws.Agreeing.{unmarked}
 use Rattle.adjacency.specs.Clear.{Retired}
 use Rattle.adjacency.specs.Rings.{Opened, Appended}
 

@@ -3,9 +3,9 @@ use Rattle.plain.specs.Library.{ℕ, ◌+◌, ◌<◌, ◌≡◌, sym, ap, ◌�
 use Rattle.plain.specs.Library.{length-set, ext_get_or, get_or-set_same, get_or-set_other, eqb, arith, eqb-true, eqb-false, eq-eqb, ne_eqb}
 use Rattle.plain.specs.declared.EdgePayload.{EdgePayload}
 use Rattle.plain.specs.Lists.{from}
-use Rattle.plain.specs.Laws.Booleans.{by_test}
-use Rattle.plain.specs.Laws.Deleting.{get_d_set, get_or_snoc}
-use Rattle.shape.specs.Laws.Reading.{made_length, made_at}
+use Rattle.plain.proofs.Laws.Booleans.{by_test}
+use Rattle.plain.proofs.Laws.Deleting.{get_d_set, get_or_snoc}
+use Rattle.shape.proofs.Laws.Reading.{made_length, made_at}
 
 module _ {A : Type 0} (f g : ℕ → A) (n : ℕ) where
   -- one slot more

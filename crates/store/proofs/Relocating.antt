@@ -6,11 +6,11 @@ use Rattle.plain.specs.declared.Operation.{Operation}
 use Rattle.plain.specs.declared.Operation.TheVariants.{Redirect, Move}
 use Rattle.plain.specs.Plain.{list_of, end_of}
 use Rattle.plain.specs.Step.{Outcome, step}
-use Rattle.plain.specs.Laws.Booleans.{by_test, true_false}
-use Rattle.plain.specs.Laws.Cases.{comes_to, redirect, move}
-use Rattle.plain.specs.Laws.ListLaws.{no_entries}
-use Rattle.plain.specs.Laws.Rank.{live_below}
-use Rattle.plain.specs.Laws.Stepping.{Fitting}
+use Rattle.plain.proofs.Laws.Booleans.{by_test, true_false}
+use Rattle.plain.proofs.Laws.Cases.{comes_to, redirect, move}
+use Rattle.plain.proofs.Laws.ListLaws.{no_entries}
+use Rattle.plain.proofs.Laws.Rank.{live_below}
+use Rattle.plain.proofs.Laws.Stepping.{Fitting}
 use Rattle.liveness.specs.Laws.Flags.{length_flags}
 use Rattle.shape.specs.Columns.{end_at}
 use Rattle.shape.specs.Chains.{In}
@@ -19,9 +19,9 @@ use Rattle.shape.specs.Checked.{AxisChecked, Checked}
 use Rattle.shape.specs.Kept.{SameLengths, AxisKept, Kept, each_length, past_none, axis_kept_none}
 use Rattle.shape.specs.Writes.{Only, WritesAxis, Writes}
 use Rattle.shape.specs.Steps.{live_entries, acted, acts, with_axis, redirected_axis, moved_axis, LiveRun, EditedLive}
-use Rattle.shape.specs.Laws.Reading.{node_bound_is, node_flags_are, edge_flags_are, plain_end, axis_is, axis_end, shape_adjacency}
-use Rattle.shape.specs.Laws.Taking.{live_taken}
-use Rattle.shape.specs.Laws.Shapes.{shape_ext}
+use Rattle.shape.proofs.Laws.Reading.{node_bound_is, node_flags_are, edge_flags_are, plain_end, axis_is, axis_end, shape_adjacency}
+use Rattle.shape.proofs.Laws.Taking.{live_taken}
+use Rattle.shape.proofs.Laws.Shapes.{shape_ext}
 use Rattle.adjacency.specs.Walk.{tombstoned_in}
 use Rattle.adjacency.specs.Laws.StoreWalks.{list_is_walk}
 use Rattle.runs.specs.Laws.Runs.{alive_below}

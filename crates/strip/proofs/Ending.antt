@@ -4,13 +4,13 @@ use Rattle.plain.specs.declared.Answer.{Answer}
 use Rattle.plain.specs.Lists.{written}
 use Rattle.plain.specs.Operations.{operation_words, operations}
 use Rattle.plain.specs.Calls.{Stripped, strip, judged_strip}
-use Rattle.plain.specs.Laws.Strips.{length_operations}
-use Rattle.plain.specs.Laws.CallCases.{strip_ragged, strip_short, strip_done}
+use Rattle.plain.proofs.Laws.Strips.{length_operations}
+use Rattle.plain.proofs.Laws.CallCases.{strip_ragged, strip_short, strip_done}
 use Rattle.shape.specs.Shape.{Words, capacities, shape_of}
 use Rattle.shape.specs.Rules.{broken}
 use Rattle.shape.specs.Kept.{kept_none, kept_spared, nothing_spared, same_nodes, same_edges}
 use Rattle.shape.specs.Steps.{state_of}
-use Rattle.shape.specs.Laws.NoFields.{kept_leaves}
+use Rattle.shape.proofs.Laws.NoFields.{kept_leaves}
 use Rattle.validate.specs.Judging.{Judged}
 use Rattle.strip.specs.Strip.{Runnable, Ran, Opening, unsound, uneven, short, opens, stripped, StripOf}
 

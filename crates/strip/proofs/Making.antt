@@ -10,8 +10,8 @@ use Rattle.plain.specs.Memory.{live_words, axis_length as axis_room}
 use Rattle.plain.specs.Devices.{Device, box, Takes, Proper}
 use Rattle.plain.specs.Calls.{fresh_state, fresh}
 use Rattle.plain.specs.WellFormed.{WellFormed}
-use Rattle.plain.specs.Laws.Operating.{empty_well_formed}
-use Rattle.plain.specs.Laws.Devices.{box_takes}
+use Rattle.plain.proofs.Laws.Operating.{empty_well_formed}
+use Rattle.plain.proofs.Laws.Devices.{box_takes}
 use Rattle.memory.specs.Laws.{Roomy, fresh_roomy}
 use Rattle.liveness.specs.Flags.{packed, live_flags}
 use Rattle.shape.specs.Shape.{Words, store, capacities, lengths_of, node_live, edge_live, axis_words, axis_of, shape_of, plain_of, is_compact}

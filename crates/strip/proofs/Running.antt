@@ -8,13 +8,13 @@ use Rattle.plain.specs.Lists.{written}
 use Rattle.plain.specs.Operations.{operation_words, operations}
 use Rattle.plain.specs.Plain.{Plain}
 use Rattle.plain.specs.Step.{Capacities, State, Outcome, step, stepped, run, answers}
-use Rattle.plain.specs.Laws.Strips.{run_snoc, answers_snoc, length_answers, length_operations}
+use Rattle.plain.proofs.Laws.Strips.{run_snoc, answers_snoc, length_answers, length_operations}
 use Rattle.shape.specs.Shape.{Words, Shape, capacities, shape_of}
 use Rattle.shape.specs.Checked.{Checked}
 use Rattle.shape.specs.Kept.{kept_none, kept_through, same_capacities}
 use Rattle.shape.specs.Steps.{shape_step, shape_run, state_of}
-use Rattle.shape.specs.Laws.CheckedShape.{checked_proper, checked_based}
-use Rattle.shape.specs.Laws.Running.{shape_run_snoc, step_state}
+use Rattle.shape.proofs.Laws.CheckedShape.{checked_proper, checked_based}
+use Rattle.shape.proofs.Laws.Running.{shape_run_snoc, step_state}
 use Rattle.cursor.specs.Laws.Reading.{write_one}
 use Rattle.refusals.specs.Step.{StepOf, outcome}
 use Rattle.strip.specs.Strip.{Runnable, Steps, no_step, one_step, Ran}

@@ -1,9 +1,9 @@
 -- Two outcomes of one strip agree on every field, so what is no field is all that the contract leaves to the program.
 use Rattle.plain.specs.Library.{ℕ, sym, ◌∙◌, List, eqb, eqb-true, eqb-false}
-use Rattle.plain.specs.Laws.Booleans.{by_test}
+use Rattle.plain.proofs.Laws.Booleans.{by_test}
 use Rattle.shape.specs.Shape.{Words}
 use Rattle.shape.specs.Fields.{SameFields}
-use Rattle.shape.specs.Laws.Agreeing.{Narrow, kept_fields, kept_both}
+use Rattle.shape.proofs.Laws.Agreeing.{Narrow, kept_fields, kept_both}
 use Rattle.strip.specs.Strip.{StripOf}
 
 -- A refused strip leaves every word; of one that is done the shape is fixed, and each mark, by what it was and whether the node has a run. That live words are

@@ -1,1 +1,2 @@
 mod Working
+pub mod Laws

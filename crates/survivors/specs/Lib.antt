@@ -1,4 +1,3 @@
 pub mod Slots
 pub mod Lists
 pub mod Working
-pub mod Laws

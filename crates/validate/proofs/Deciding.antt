@@ -10,11 +10,11 @@ use Rattle.plain.specs.Lists.{member, distinct, all, from}
 use Rattle.plain.specs.Plain.{Plain, node_bound, edge_bound, node_flags, edge_flags, list_of, end_of}
 use Rattle.shape.specs.Columns.{end_at}
 use Rattle.shape.specs.Shape.{Words, node_capacity, edge_capacity, node_live, edge_live, axis_words, shape_of, plain_of}
-use Rattle.plain.specs.Laws.Booleans.{and_left, and_right}
+use Rattle.plain.proofs.Laws.Booleans.{and_left, and_right}
 use Rattle.shape.specs.Rules.{both_axes, ends_right, weights_right, index_right, ring_right, walks_right, rule_1, rule_2, rule_3, rule_4, rule_5, rule_6, broken}
-use Rattle.shape.specs.Laws.Checking.{all_below, ring_sound, ring_own, index_sound}
-use Rattle.shape.specs.Laws.Judging.{Structured, SlotsRight, unbroken_checked, sizes_sound, nodes_live_sound, edges_live_sound, axis_sound}
-use Rattle.shape.specs.Laws.Reading.{plain_node_bound, plain_edge_bound, plain_node_flags, plain_edge_flags, plain_end}
+use Rattle.shape.proofs.Laws.Checking.{all_below, ring_sound, ring_own, index_sound}
+use Rattle.shape.proofs.Laws.Judging.{Structured, SlotsRight, unbroken_checked, sizes_sound, nodes_live_sound, edges_live_sound, axis_sound}
+use Rattle.shape.proofs.Laws.Reading.{plain_node_bound, plain_edge_bound, plain_node_flags, plain_edge_flags, plain_end}
 use Rattle.adjacency.specs.Walk.{Walkable}
 use Rattle.adjacency.specs.Laws.Walk.{walk_below}
 use Rattle.adjacency.specs.Laws.StoreWalks.{list_is_walk}

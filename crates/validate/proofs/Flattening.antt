@@ -12,17 +12,17 @@ use mathlib.Core.List.{map-append}
 use Rattle.plain.specs.Numbers.{LIMIT}
 use Rattle.plain.specs.declared.Counts.{Counts}
 use Rattle.plain.specs.Lists.{member, distinct, from, keep, count}
-use Rattle.plain.specs.Laws.Booleans.{by_test, below_or_not, true_false, and_left, and_right, both_true, or_true}
-use Rattle.plain.specs.Laws.ListLaws.{member_first, member_later, member_append, member_mapped, member_source, member_keep, member_from, length_keep, length_from, distinct_full, distinct_left, distinct_right, distinct_keep, distinct_from}
+use Rattle.plain.proofs.Laws.Booleans.{by_test, below_or_not, true_false, and_left, and_right, both_true, or_true}
+use Rattle.plain.proofs.Laws.ListLaws.{member_first, member_later, member_append, member_mapped, member_source, member_keep, member_from, length_keep, length_from, distinct_full, distinct_left, distinct_right, distinct_keep, distinct_from}
 use Rattle.shape.specs.Columns.{cell, end_at, adjacency_at, next_at, last_at, mark_at, offset_at}
 use Rattle.shape.specs.Chains.{In, Seg, Ring}
 use Rattle.shape.specs.Shape.{between, base_of, ring_of}
 use Rattle.shape.specs.Checked.{Index, Indexed, Rings}
-use Rattle.shape.specs.Laws.Chains.{in_none, in_snoc, line_first, ring_last}
-use Rattle.shape.specs.Laws.Walking.{between_member}
-use Rattle.shape.specs.Laws.Frames.{offset_within}
-use Rattle.shape.specs.Laws.Indexing.{from_append}
-use Rattle.shape.specs.Laws.Taking.{keep_append, keep_passing}
+use Rattle.shape.proofs.Laws.Chains.{in_none, in_snoc, line_first, ring_last}
+use Rattle.shape.proofs.Laws.Walking.{between_member}
+use Rattle.shape.proofs.Laws.Frames.{offset_within}
+use Rattle.shape.proofs.Laws.Indexing.{from_append}
+use Rattle.shape.proofs.Laws.Taking.{keep_append, keep_passing}
 use Rattle.validate_words.specs.Laws.Passing.{slots_from, slots_more, slots_none}
 use Rattle.marks.specs.Marks.{Entered, Followed, Adds}
 use Rattle.validate_words.specs.Climbs.{Linked, Picked}

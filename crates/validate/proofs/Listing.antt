@@ -10,8 +10,8 @@ use Rattle.plain.specs.Library.{◌∷◌, ◌++◌, length, get_or, replicate, 
 use Rattle.plain.specs.Numbers.{LIMIT}
 use Rattle.plain.specs.declared.Counts.{Counts}
 use Rattle.plain.specs.Lists.{member, distinct, all, from, keep, count}
-use Rattle.plain.specs.Laws.Booleans.{by_test, true_false, refuted, and_left, both_true, or_other, or_true}
-use Rattle.plain.specs.Laws.ListLaws.{member_append, member_keep, distinct_append, distinct_left, distinct_keep, all_of, all_member, count_length}
+use Rattle.plain.proofs.Laws.Booleans.{by_test, true_false, refuted, and_left, both_true, or_other, or_true}
+use Rattle.plain.proofs.Laws.ListLaws.{member_append, member_keep, distinct_append, distinct_left, distinct_keep, all_of, all_member, count_length}
 use Rattle.liveness.specs.Flags.{live_flags}
 use Rattle.liveness.specs.Laws.Flags.{length_flags, flag_at}
 use Rattle.shape.specs.Columns.{cell, end_at, tail_at, mark_at}
@@ -19,9 +19,9 @@ use Rattle.shape.specs.Chains.{In, ring}
 use Rattle.shape.specs.Shape.{adjacency_in, base_of, run_of, run_list, ring_of, raw, live_in}
 use Rattle.shape.specs.Checked.{LiveRight}
 use Rattle.shape.specs.Rules.{last_of, runs_right}
-use Rattle.shape.specs.Laws.Chains.{in_none, in_front, ring_once, ring_least}
-use Rattle.shape.specs.Laws.Frames.{run_list_unmarked}
-use Rattle.shape.specs.Laws.Checking.{all_below, below_all, run_sound, runs_complete}
+use Rattle.shape.proofs.Laws.Chains.{in_none, in_front, ring_once, ring_least}
+use Rattle.shape.proofs.Laws.Frames.{run_list_unmarked}
+use Rattle.shape.proofs.Laws.Checking.{all_below, below_all, run_sound, runs_complete}
 use Rattle.marks.specs.Marks.{marked, Adds}
 use Rattle.validate_lists.specs.Runs.{taken, RunsReadable, MapClear, RunsOnce}
 use Rattle.validate.specs.Flat.{base_entries, delta_links, BaseFlat, DeltaFlat, ListsOnce, FlatReadable, ListsReadable}

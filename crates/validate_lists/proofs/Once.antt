@@ -5,15 +5,15 @@ use Rattle.plain.specs.Library.{[], ◌∷◌, ◌++◌, length, get_or, eqb, lt
 use Rattle.plain.specs.Numbers.{NONE}
 use Rattle.plain.specs.declared.Counts.{Counts}
 use Rattle.plain.specs.Lists.{member, distinct, all}
-use Rattle.plain.specs.Laws.Booleans.{by_test, below_or_not, true_false, and_left, and_right, both_true, or_other}
-use Rattle.plain.specs.Laws.ListLaws.{member_append, all_of, all_member}
+use Rattle.plain.proofs.Laws.Booleans.{by_test, below_or_not, true_false, and_left, and_right, both_true, or_other}
+use Rattle.plain.proofs.Laws.ListLaws.{member_append, all_of, all_member}
 use Rattle.shape.specs.Columns.{cell, end_at, last_at, tail_at, mark_at}
 use Rattle.shape.specs.Chains.{In, until, ring}
 use Rattle.shape.specs.Shape.{run_list, ring_of}
 use Rattle.shape.specs.Rules.{runs_right}
-use Rattle.shape.specs.Laws.Chains.{in_none}
-use Rattle.shape.specs.Laws.Frames.{run_list_unmarked}
-use Rattle.shape.specs.Laws.Checking.{run_complete, runs_complete}
+use Rattle.shape.proofs.Laws.Chains.{in_none}
+use Rattle.shape.proofs.Laws.Frames.{run_list_unmarked}
+use Rattle.shape.proofs.Laws.Checking.{run_complete, runs_complete}
 use Rattle.marks.specs.Marks.{marked, Followed, Adds}
 use Rattle.validate_lists.specs.Runs.{entry_test, run_test, ends_in, taken, NodeOnce, RunsOnce}
 use Rattle.marks.specs.Laws.Following.{Following, follow_start, follow_done, followed_all, followed_final, both_once, both_adds, adds_none}

@@ -2,7 +2,7 @@
 use Rattle.plain.specs.Library.{ℕ, zero, suc, ◌+◌, ◌-◌, ◌*◌, ◌≤◌, ◌<◌, ◌≡◌, refl, sym, ap, subst, ◌∙◌, Bool, true, false, ◌&&◌, ◌||◌, not, List, [], ◌∷◌, map}
 use Rattle.plain.specs.Library.{get_or, eqb, ltb, arith, eq-eqb, ne_eqb, ltb-true}
 use Rattle.plain.specs.Lists.{member, distinct, all, from, joined}
-use Rattle.plain.specs.Laws.Booleans.{true_false, refuted, and_left, and_right, and_false, both_true}
+use Rattle.plain.proofs.Laws.Booleans.{true_false, refuted, and_left, and_right, and_false, both_true}
 use Rattle.shape.specs.Columns.{cell, end_at, tail_at, mark_at, count_at, first_at}
 use Rattle.shape.specs.Chains.{chain}
 use Rattle.shape.specs.Shape.{run_list}

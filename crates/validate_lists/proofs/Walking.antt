@@ -3,8 +3,8 @@ use Rattle.plain.specs.Library.{ℕ, ◌+◌, ◌≤◌, ◌<◌, ◌≡◌, sym
 use Rattle.plain.specs.Library.{eqb-false, lt-ltb, le-ltb, ltb-true}
 use Rattle.plain.specs.declared.Counts.{Counts}
 use Rattle.plain.specs.Lists.{member, distinct, all, from}
-use Rattle.plain.specs.Laws.Booleans.{by_test, same_truth, and_left, and_right, both_true, and_true, and_false, or_true, or_false}
-use Rattle.plain.specs.Laws.ListLaws.{all_of, all_member}
+use Rattle.plain.proofs.Laws.Booleans.{by_test, same_truth, and_left, and_right, both_true, and_true, and_false, or_true, or_false}
+use Rattle.plain.proofs.Laws.ListLaws.{all_of, all_member}
 use Rattle.liveness.specs.Flags.{live_flags}
 use Rattle.liveness.specs.Laws.Flags.{flag_at}
 use Rattle.shape.specs.Columns.{end_at}

@@ -3,11 +3,11 @@ use Rattle.plain.specs.Library.{ℕ, zero, suc, ◌+◌, ◌-◌, ◌*◌, ◌�
 use Rattle.plain.specs.Library.{length-map, eqb, ltb, leb, arith, eq-eqb, ne_eqb, eqb-true, eqb-false, lt-ltb, le-leb, ltb-true, leb-true}
 use Rattle.plain.specs.Numbers.{NONE, LIMIT}
 use Rattle.plain.specs.Lists.{member, distinct, all, from, keep, count}
-use Rattle.plain.specs.Laws.Booleans.{by_test, below_or_not, and_left, and_right, both_true}
-use Rattle.plain.specs.Laws.ListLaws.{length_keep, member_keep, member_source, member_from, member_below, distinct_full, distinct_map, distinct_keep, distinct_from}
+use Rattle.plain.proofs.Laws.Booleans.{by_test, below_or_not, and_left, and_right, both_true}
+use Rattle.plain.proofs.Laws.ListLaws.{length_keep, member_keep, member_source, member_from, member_below, distinct_full, distinct_map, distinct_keep, distinct_from}
 use Rattle.shape.specs.Columns.{cell, end_at, next_at, last_at}
 use Rattle.shape.specs.Rules.{ring_right}
-use Rattle.shape.specs.Laws.Checking.{below_all}
+use Rattle.shape.proofs.Laws.Checking.{below_all}
 use Rattle.validate_words.specs.Laws.Passing.{slots_from, slots_more, slots_none}
 use Rattle.validate_words.specs.Rings.{own_test}
 use Rattle.validate_words.specs.Climbs.{Picked, is_last, some_at, Linked, Climbs, Stepped}

@@ -2,7 +2,7 @@
 use Rattle.plain.specs.Library.{ℕ, ◌≡◌, false, List, eqb, arith}
 use Rattle.plain.specs.declared.Slots.{Slots}
 use Rattle.plain.specs.Reads.{live_count}
-use Rattle.plain.specs.Laws.Booleans.{by_test}
+use Rattle.plain.proofs.Laws.Booleans.{by_test}
 use Rattle.liveness.specs.declared.Counted.TheVariants.{Live, Unpacked}
 use Rattle.liveness.specs.Flags.{live_flags, packed, counted}
 use Rattle.shape.specs.Rules.{live_agrees}

@@ -2,7 +2,7 @@
 use Rattle.plain.specs.Library.{ℕ, suc, ◌+◌, ◌*◌, ◌≡◌, Bool, true, ◌&&◌, ◌⊎◌, inl, inr, List, get_or, eqb, leb, ltb, eq-eqb, ne_eqb}
 use native.Mathlib.Nat.{add-zero}
 use Rattle.plain.specs.Lists.{all, from}
-use Rattle.plain.specs.Laws.Booleans.{and_false}
+use Rattle.plain.proofs.Laws.Booleans.{and_false}
 use Rattle.shape.specs.Columns.{offset_at, adjacency_at}
 use Rattle.shape.specs.Rules.{index_right}
 

@@ -3,8 +3,8 @@ use Rattle.plain.specs.Library.{ℕ, zero, suc, ◌-◌, ◌*◌, ◌≤◌, ◌
 use Rattle.plain.specs.Library.{ltb-true}
 use Rattle.plain.specs.Numbers.{NONE}
 use Rattle.plain.specs.Lists.{member, all}
-use Rattle.plain.specs.Laws.Booleans.{and_left, and_right, refuted}
-use Rattle.plain.specs.Laws.ListLaws.{all_member}
+use Rattle.plain.proofs.Laws.Booleans.{and_left, and_right, refuted}
+use Rattle.plain.proofs.Laws.ListLaws.{all_member}
 use Rattle.shape.specs.Columns.{cell, end_at, last_at}
 use Rattle.shape.specs.Chains.{until}
 use Rattle.shape.specs.Rules.{ring_right}

@@ -6,13 +6,13 @@ use Rattle.plain.specs.declared.Answer.{Answer}
 use Rattle.plain.specs.Numbers.{LIMIT}
 use Rattle.plain.specs.Lists.{written}
 use Rattle.plain.specs.Reads.{listing, live_count, live_slots, node_slots, edge_slots}
-use Rattle.plain.specs.Laws.ListLaws.{count_length}
-use Rattle.plain.specs.Laws.Rank.{length_live_slots}
+use Rattle.plain.proofs.Laws.ListLaws.{count_length}
+use Rattle.plain.proofs.Laws.Rank.{length_live_slots}
 use Rattle.liveness.specs.Flags.{live_flags, next_live}
 use Rattle.liveness.specs.Laws.Passed.{Passed, passed_none, passed_fewer, passed_on, passed_later, passed_few, passed_all}
 use Rattle.shape.specs.Checked.{SlotsChecked}
 use Rattle.shape.specs.Shape.{Words, node_live, edge_live, lists}
-use Rattle.shape.specs.Laws.Slots.{nodes_told, edges_told}
+use Rattle.shape.proofs.Laws.Slots.{nodes_told, edges_told}
 use Rattle.cursor.specs.Laws.Reading.{write_one}
 use Rattle.validate.specs.Judging.{Judged}
 use Rattle.view.specs.Calls.{Listed, Replied}

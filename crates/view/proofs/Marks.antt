@@ -6,13 +6,13 @@ use Rattle.plain.specs.declared.TraversalDirection.TheVariants.{Outgoing, Incomi
 use Rattle.plain.specs.declared.Counts.{Counts}
 use Rattle.plain.specs.Lists.{all, from, count}
 use Rattle.plain.specs.Reads.{live_count}
-use Rattle.plain.specs.Laws.Booleans.{by_test, eqb_same, refuted}
-use Rattle.plain.specs.Laws.ListLaws.{count_length}
+use Rattle.plain.proofs.Laws.Booleans.{by_test, eqb_same, refuted}
+use Rattle.plain.proofs.Laws.ListLaws.{count_length}
 use Rattle.liveness.specs.Laws.Flags.{length_flags}
 use Rattle.shape.specs.Columns.{mark_at}
 use Rattle.shape.specs.Shape.{Words, node_capacity, edge_capacity, axis_words, adjacency_in, axis_of, run_of, has_run, shape_of, is_compact}
 use Rattle.shape.specs.Checked.{Checked}
-use Rattle.shape.specs.Laws.Reading.{node_bound_is, edge_bound_is, node_flags_are, edge_flags_are, axis_is}
+use Rattle.shape.proofs.Laws.Reading.{node_bound_is, edge_bound_is, node_flags_are, edge_flags_are, axis_is}
 use Rattle.validate_words.specs.Laws.Passing.{slots_agree}
 use Rattle.view.specs.Compact.{unmarked, MarksThere}
 

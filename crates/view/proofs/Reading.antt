@@ -3,11 +3,11 @@ use Rattle.plain.specs.Library.{ℕ, ◌≤◌, ◌<◌, ◌≡◌, sym, ap, ◌
 use Rattle.plain.specs.declared.TraversalDirection.TheVariants.{Outgoing, Incoming}
 use Rattle.plain.specs.Numbers.{NONE}
 use Rattle.plain.specs.Reads.{answered, yes_or_no, no_record, node_payload, edge_record, live_edge_record, contains_node, contains_edge}
-use Rattle.plain.specs.Laws.CallCases.{node_payload_absent, node_payload_there, edge_record_absent, edge_record_there, live_edge_record_absent, live_edge_record_removed, live_edge_record_there, contains_node_is, contains_edge_is}
+use Rattle.plain.proofs.Laws.CallCases.{node_payload_absent, node_payload_there, edge_record_absent, edge_record_there, live_edge_record_absent, live_edge_record_removed, live_edge_record_there, contains_node_is, contains_edge_is}
 use Rattle.shape.specs.Shape.{Words, node_live, edge_live, plain_of, lists}
-use Rattle.shape.specs.Laws.Reading.{node_at, edge_at, plain_end}
+use Rattle.shape.proofs.Laws.Reading.{node_at, edge_at, plain_end}
 use Rattle.shape.specs.Checked.{Checked}
-use Rattle.shape.specs.Laws.Slots.{nodes_told, edges_told, node_bound_of, edge_bound_of, live_slot, removed_slot}
+use Rattle.shape.proofs.Laws.Slots.{nodes_told, edges_told, node_bound_of, edge_bound_of, live_slot, removed_slot}
 use Rattle.view.specs.Slots.{refused, record_words, RecordThere}
 
 pub record_there : {w : Words} → Checked w → (e : ℕ) → e < w.counts.edges.bound → RecordThere w.lows w.highs w.outgoing w.incoming e

@@ -6,11 +6,11 @@ use Rattle.plain.specs.Numbers.{NONE}
 use Rattle.plain.specs.Lists.{keep}
 use Rattle.plain.specs.Plain.{list_of, end_of}
 use Rattle.plain.specs.Reads.{answered, first_or_none, found, find}
-use Rattle.plain.specs.Laws.CallCases.{find_first_absent, find_second_absent, find_there}
+use Rattle.plain.proofs.Laws.CallCases.{find_first_absent, find_second_absent, find_there}
 use Rattle.shape.specs.Shape.{Words, node_capacity, edge_capacity, node_live, lists}
-use Rattle.shape.specs.Laws.Reading.{plain_end}
-use Rattle.shape.specs.Laws.Taking.{keep_agree}
-use Rattle.shape.specs.Laws.Slots.{nodes_told, node_bound_of, absent_slot}
+use Rattle.shape.proofs.Laws.Reading.{plain_end}
+use Rattle.shape.proofs.Laws.Taking.{keep_agree}
+use Rattle.shape.proofs.Laws.Slots.{nodes_told, node_bound_of, absent_slot}
 use Rattle.cursor.specs.Finding.{first_of, ends_at}
 use Rattle.adjacency.specs.Walk.{walk_in}
 use Rattle.adjacency.specs.Laws.Walk.{walk_below}

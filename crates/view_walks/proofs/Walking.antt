@@ -6,10 +6,10 @@ use Rattle.plain.specs.Numbers.{NONE}
 use Rattle.plain.specs.Lists.{written}
 use Rattle.plain.specs.Plain.{end_of, opposite}
 use Rattle.plain.specs.Reads.{Reply, answered, no_total, listing, walk, neighbors, degree, total}
-use Rattle.plain.specs.Laws.CallCases.{walk_absent, walk_there, neighbors_absent, neighbors_there, degree_absent, degree_there, total_absent, total_there}
+use Rattle.plain.proofs.Laws.CallCases.{walk_absent, walk_there, neighbors_absent, neighbors_there, degree_absent, degree_there, total_absent, total_there}
 use Rattle.shape.specs.Columns.{end_at}
 use Rattle.shape.specs.Shape.{Words, node_capacity, edge_capacity, node_live, lists}
-use Rattle.shape.specs.Laws.Slots.{nodes_told, node_bound_of, absent_slot}
+use Rattle.shape.proofs.Laws.Slots.{nodes_told, node_bound_of, absent_slot}
 use Rattle.cursor.specs.declared.Sums.{Sums}
 use Rattle.adjacency.specs.Walk.{walk_in, WalkFits}
 use Rattle.adjacency.specs.Reads.{sums_in, axis_of}

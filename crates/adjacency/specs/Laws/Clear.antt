@@ -2,13 +2,13 @@
 use Rattle.plain.specs.Library.{ℕ, zero, suc, ◌+◌, ◌≡◌, refl, sym, ◌∙◌, Bool, true, false, cond, ◌&&◌, ◌||◌, not, List, [], ◌∷◌, ◌++◌, get_or, set, eqb, arith}
 use Rattle.std.proofs.Math.Dec.{eqb-zero-suc, eqb-suc-zero, eqb-suc-suc}
 use Rattle.plain.specs.Lists.{member, keep}
-use Rattle.plain.specs.Laws.Booleans.{by_test, true_false, and_left, and_true, and_false}
-use Rattle.plain.specs.Laws.ListLaws.{member_append, member_keep}
+use Rattle.plain.proofs.Laws.Booleans.{by_test, true_false, and_left, and_true, and_false}
+use Rattle.plain.proofs.Laws.ListLaws.{member_append, member_keep}
 use Rattle.liveness.specs.Flags.{live_flags}
 use Rattle.shape.specs.Shape.{Adjacency, raw, live_in, walk_of}
-use Rattle.shape.specs.Laws.Chains.{in_front}
-use Rattle.shape.specs.Laws.Keeping.{in_second}
-use Rattle.shape.specs.Laws.Taking.{keep_append}
+use Rattle.shape.proofs.Laws.Chains.{in_front}
+use Rattle.shape.proofs.Laws.Keeping.{in_second}
+use Rattle.shape.proofs.Laws.Taking.{keep_append}
 use Rattle.adjacency.specs.Clear.{Retired}
 
 -- ---- flags

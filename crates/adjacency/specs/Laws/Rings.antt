@@ -2,12 +2,12 @@
 use Rattle.plain.specs.Library.{ℕ, ◌*◌, ◌≤◌, ◌<◌, ◌≡◌, ◌⊎◌, inl, inr, ◌≢◌, List, [], eqb, arith, ne_eqb, eqb-true, eqb-false}
 use Rattle.std.proofs.Common.{le_trans}
 use Rattle.plain.specs.Numbers.{NONE, LIMIT}
-use Rattle.plain.specs.Laws.Booleans.{by_test}
+use Rattle.plain.proofs.Laws.Booleans.{by_test}
 use Rattle.shape.specs.Columns.{Sized, cell, next_at, last_at}
 use Rattle.shape.specs.Chains.{Line}
 use Rattle.shape.specs.Shape.{ring_of}
 use Rattle.shape.specs.Checked.{Rings}
-use Rattle.shape.specs.Laws.Chains.{ring_last, ring_below, ring_none, ring_line}
+use Rattle.shape.proofs.Laws.Chains.{ring_last, ring_below, ring_none, ring_line}
 use Rattle.adjacency.specs.Rings.{EndsReadable, ring_ends}
 
 -- of an empty ring

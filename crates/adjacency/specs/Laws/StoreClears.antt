@@ -10,9 +10,9 @@ use Rattle.plain.specs.declared.Counts.{Counts}
 use Rattle.plain.specs.declared.Slots.{Slots}
 use Rattle.plain.specs.Lists.{member, from}
 use Rattle.plain.specs.Plain.{EdgeSlot, killed_edge, no_edge}
-use Rattle.plain.specs.Laws.Booleans.{by_test, and_true, and_false, or_true}
-use Rattle.plain.specs.Laws.ListLaws.{member_append, member_keep}
-use Rattle.plain.specs.Laws.Deleting.{map_set}
+use Rattle.plain.proofs.Laws.Booleans.{by_test, and_true, and_false, or_true}
+use Rattle.plain.proofs.Laws.ListLaws.{member_append, member_keep}
+use Rattle.plain.proofs.Laws.Deleting.{map_set}
 use Rattle.liveness.specs.Flags.{live_flags}
 use Rattle.liveness.specs.Laws.Flags.{length_flags}
 use Rattle.shape.specs.Columns.{mark_at}
@@ -20,9 +20,9 @@ use Rattle.shape.specs.Chains.{In}
 use Rattle.shape.specs.Shape.{Words, node_capacity, edge_capacity, node_live, edge_live, axis_words, edge_payload_at, edge_slot_at, shape_of, adjacency_in, run_list, run_of, part, raw, live_in}
 use Rattle.shape.specs.Checked.{SlotsChecked, Checked}
 use Rattle.shape.specs.Steps.{retired, walk_in as walk_of_shape}
-use Rattle.shape.specs.Laws.Chains.{in_none}
-use Rattle.shape.specs.Laws.Keeping.{retired_length}
-use Rattle.shape.specs.Laws.Reading.{edge_bound_is, edge_flags_are}
+use Rattle.shape.proofs.Laws.Chains.{in_none}
+use Rattle.shape.proofs.Laws.Keeping.{retired_length}
+use Rattle.shape.proofs.Laws.Reading.{edge_bound_is, edge_flags_are}
 use Rattle.adjacency.specs.Walk.{walk_in}
 use Rattle.adjacency.specs.Laws.StoreWalks.{checked_readable, checked_walkable, shape_walk}
 use Rattle.adjacency.specs.Clear.{Retired, Clearable}

@@ -4,13 +4,13 @@ use Rattle.plain.specs.Library.{ℕ, ◌<◌, ◌≡◌, ◌∙◌, false, List,
 use Rattle.plain.specs.declared.TraversalDirection.{TraversalDirection}
 use Rattle.plain.specs.declared.TraversalDirection.TheVariants.{Outgoing, Incoming}
 use Rattle.plain.specs.Plain.{list_of, end_of, opposite}
-use Rattle.plain.specs.Laws.ListLaws.{map_same}
+use Rattle.plain.proofs.Laws.ListLaws.{map_same}
 use Rattle.shape.specs.Columns.{end_at}
 use Rattle.shape.specs.Shape.{Words, node_capacity, edge_capacity, node_live, axis_words, shape_of, plain_of}
 use Rattle.shape.specs.Checked.{Checked}
 use Rattle.shape.specs.Steps.{walk_in as walk_of_shape}
-use Rattle.shape.specs.Laws.Refining.{list_is_walk as walked}
-use Rattle.shape.specs.Laws.Reading.{edge_flags_are, node_flags_are, shape_adjacency, plain_end}
+use Rattle.shape.proofs.Laws.Refining.{list_is_walk as walked}
+use Rattle.shape.proofs.Laws.Reading.{edge_flags_are, node_flags_are, shape_adjacency, plain_end}
 use Rattle.adjacency.specs.Walk.{walk_in, Readable, Walkable}
 use Rattle.adjacency.specs.Reads.{axis_of}
 use Rattle.adjacency.specs.Laws.Walk.{walk_below}

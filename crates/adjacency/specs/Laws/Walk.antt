@@ -6,17 +6,17 @@ use Rattle.plain.specs.declared.Counts.{Counts}
 use Rattle.plain.specs.Numbers.{NONE, LIMIT}
 use Rattle.plain.specs.Lists.{member, keep, count}
 use Rattle.plain.specs.Reads.{live_count}
-use Rattle.plain.specs.Laws.Booleans.{by_test, and_left}
-use Rattle.plain.specs.Laws.ListLaws.{member_keep, count_length}
+use Rattle.plain.proofs.Laws.Booleans.{by_test, and_left}
+use Rattle.plain.proofs.Laws.ListLaws.{member_keep, count_length}
 use Rattle.liveness.specs.Flags.{live_flags}
 use Rattle.liveness.specs.Laws.Flags.{length_flags}
-use Rattle.plain.specs.Laws.Deleting.{keep_all}
-use Rattle.shape.specs.Laws.Taking.{keep_agree}
-use Rattle.shape.specs.Laws.CheckedShape.{raw_below}
+use Rattle.plain.proofs.Laws.Deleting.{keep_all}
+use Rattle.shape.proofs.Laws.Taking.{keep_agree}
+use Rattle.shape.proofs.Laws.CheckedShape.{raw_below}
 use Rattle.shape.specs.Columns.{cell}
 use Rattle.shape.specs.Chains.{ring, In}
 use Rattle.shape.specs.Shape.{adjacency_in, part, raw, live_in}
-use Rattle.shape.specs.Laws.Chains.{in_none}
+use Rattle.shape.proofs.Laws.Chains.{in_none}
 use Rattle.cursor.specs.declared.AdjacencyCursor.{AdjacencyCursor}
 use Rattle.cursor.specs.declared.Start.{Start}
 use Rattle.cursor.specs.Cursor.{word, part_left, part_count, ring_left, remaining, base_at, listed, listed_left, Seekable, Writable}

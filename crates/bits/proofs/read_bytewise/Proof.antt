@@ -2,7 +2,7 @@
 use Rattle.plain.specs.Library.{◌+◌, ◌-◌, ◌≤◌, ◌≡◌, ap, ◌∙◌, arith, needs}
 use native.Mathlib.Nat.{sub_self}
 use Rattle.plain.specs.Bits.{field_at}
-use Rattle.plain.specs.Laws.Bits.{field_at_zero}
+use Rattle.plain.proofs.Laws.Bits.{field_at_zero}
 use Rattle.bits.proofs.Fields.{Turn, Turned, turned, field_at_fits}
 use Rattle.bits.proofs.read_bytewise.Statement.{statement}
 use Rattle.bits.proofs.read_bytewise.Tie as tie

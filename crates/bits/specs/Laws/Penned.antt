@@ -4,7 +4,7 @@ use Rattle.plain.specs.Library.{length-append, arith}
 use Rattle.std.proofs.Common.{mod-eq_of_lt, drop-drop}
 use Rattle.std.proofs.Math.Pow.{high, low}
 use Rattle.plain.specs.Bits.{bits_of, bits}
-use Rattle.plain.specs.Laws.Bits.{length_bits_of, bits_of_split, bits_of_ext}
+use Rattle.plain.proofs.Laws.Bits.{length_bits_of, bits_of_split, bits_of_ext}
 use Rattle.bits.specs.declared.pen.Pen.{Pen}
 use Rattle.bits.specs.Wrote.{Wrote}
 use Rattle.bits.specs.Penned.{Ready, Penned, fresh, waiting, stream}

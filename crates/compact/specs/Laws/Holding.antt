@@ -24,12 +24,12 @@ use Rattle.plain.specs.Memory.{live_words}
 use Rattle.plain.specs.Plain.{EdgeSlot, NodeSlot, Plain, list_of}
 use Rattle.plain.specs.Reads.{live_count}
 use Rattle.plain.specs.WellFormed.{Sound, WellFormed}
-use Rattle.plain.specs.Laws.Booleans.{by_test}
-use Rattle.plain.specs.Laws.Compacting.{of_survivors_well_formed}
-use Rattle.plain.specs.Laws.Fitting.{fitted_many}
-use Rattle.plain.specs.Laws.ImageBits.{record_high, record_low}
-use Rattle.plain.specs.Laws.ListLaws.{map_get_or, map_same, member_below}
-use Rattle.plain.specs.Laws.Rank.{live_all_live, live_count_all_live}
+use Rattle.plain.proofs.Laws.Booleans.{by_test}
+use Rattle.plain.proofs.Laws.Compacting.{of_survivors_well_formed}
+use Rattle.plain.proofs.Laws.Fitting.{fitted_many}
+use Rattle.plain.proofs.Laws.ImageBits.{record_high, record_low}
+use Rattle.plain.proofs.Laws.ListLaws.{map_get_or, map_same, member_below}
+use Rattle.plain.proofs.Laws.Rank.{live_all_live, live_count_all_live}
 use Rattle.liveness.specs.Calls.{Reset, all_live}
 use Rattle.liveness.specs.Flags.{live_flags}
 use Rattle.shape.specs.Checked.{AxisChecked, Checked, SlotsChecked}
@@ -39,10 +39,10 @@ use Rattle.shape.specs.Index.{before, ends_of}
 use Rattle.shape.specs.Kept.{Renewed, SameLengths}
 use Rattle.shape.specs.Shape.{Words, axis_words, capacities, edge_capacity, edge_live, edge_payload_at, lists, node_capacity, node_live, plain_of, shape_of}
 use Rattle.shape.specs.Steps.{state_of}
-use Rattle.shape.specs.Laws.Indexing.{before_zero}
-use Rattle.shape.specs.Laws.NewBase.{NewBase, new_axis, new_checked}
-use Rattle.shape.specs.Laws.NoFields.{renewed_leaves}
-use Rattle.shape.specs.Laws.Shapes.{shape_ext}
+use Rattle.shape.proofs.Laws.Indexing.{before_zero}
+use Rattle.shape.proofs.Laws.NewBase.{NewBase, new_axis, new_checked}
+use Rattle.shape.proofs.Laws.NoFields.{renewed_leaves}
+use Rattle.shape.proofs.Laws.Shapes.{shape_ext}
 use Rattle.compact.specs.Survivors.{shape_of_survivors}
 use Rattle.compact.specs.Laws.Survivors.{survivors_plain, survivors_state}
 use Rattle.compact.specs.Bases.{based}

@@ -6,14 +6,14 @@ use Rattle.plain.specs.Lists.{all, from, member}
 use Rattle.plain.specs.Plain.{EdgeSlot, Incidence, NodeSlot, Plain, node_flags, edge_flags}
 use Rattle.plain.specs.Step.{State}
 use Rattle.plain.specs.WellFormed.{Fitted, Sound}
-use Rattle.plain.specs.Laws.Compacting.{edge_flags_of, node_flags_of}
-use Rattle.plain.specs.Laws.Fitting.{fitted_many, has_end_below, right_at}
-use Rattle.plain.specs.Laws.ListLaws.{map_get_or, map_same, member_below}
-use Rattle.plain.specs.Laws.Rank.{live_all_live}
+use Rattle.plain.proofs.Laws.Compacting.{edge_flags_of, node_flags_of}
+use Rattle.plain.proofs.Laws.Fitting.{fitted_many, has_end_below, right_at}
+use Rattle.plain.proofs.Laws.ListLaws.{map_get_or, map_same, member_below}
+use Rattle.plain.proofs.Laws.Rank.{live_all_live}
 use Rattle.shape.specs.Shape.{has_run, is_compact, live_in, no_adjacency, plain_of, walk_of, walks_of}
 use Rattle.shape.specs.Steps.{state_of}
-use Rattle.shape.specs.Laws.NewBase.{in_base}
-use Rattle.shape.specs.Laws.Taking.{keep_passing}
+use Rattle.shape.proofs.Laws.NewBase.{in_base}
+use Rattle.shape.proofs.Laws.Taking.{keep_passing}
 use Rattle.compact.specs.Survivors.{shape_of_survivors}
 
 -- ---- one direction

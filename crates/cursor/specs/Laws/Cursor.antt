@@ -4,11 +4,11 @@ use Rattle.plain.specs.Library.{ltb, arith, eqb-true, eqb-false, ne_eqb, ltb-tru
 use Rattle.std.proofs.Common.{ltb-false}
 use Rattle.plain.specs.Numbers.{NONE}
 use Rattle.plain.specs.Lists.{member, keep}
-use Rattle.plain.specs.Laws.Booleans.{by_test, or_true}
-use Rattle.plain.specs.Laws.ListLaws.{member_first, member_later, member_append}
+use Rattle.plain.proofs.Laws.Booleans.{by_test, or_true}
+use Rattle.plain.proofs.Laws.ListLaws.{member_first, member_later, member_append}
 use Rattle.shape.specs.Chains.{until, In}
-use Rattle.shape.specs.Laws.Chains.{chain_none, chain_some, chain_length}
-use Rattle.shape.specs.Laws.Walking.{between_none, between_some, between_length, until_first, until_end, until_on}
+use Rattle.shape.proofs.Laws.Chains.{chain_none, chain_some, chain_length}
+use Rattle.shape.proofs.Laws.Walking.{between_none, between_some, between_length, until_first, until_end, until_on}
 use Rattle.cursor.specs.declared.AdjacencyCursor.{AdjacencyCursor}
 use Rattle.cursor.specs.declared.Found.{Found}
 use Rattle.cursor.specs.declared.Found.TheVariants.{Edge, Done}

@@ -2,7 +2,7 @@
 use Rattle.plain.specs.Library.{ℕ, ◌≡◌, refl, ◌∙◌, Bool, true, false, List}
 use Rattle.plain.specs.Numbers.{NONE}
 use Rattle.plain.specs.Lists.{keep}
-use Rattle.plain.specs.Laws.Booleans.{by_test}
+use Rattle.plain.proofs.Laws.Booleans.{by_test}
 use Rattle.cursor.specs.declared.AdjacencyCursor.{AdjacencyCursor}
 use Rattle.cursor.specs.declared.Found.TheVariants.{Edge, Done}
 use Rattle.cursor.specs.declared.Step.{Step}

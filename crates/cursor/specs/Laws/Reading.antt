@@ -5,9 +5,9 @@ use Rattle.std.proofs.Common.{drop-cons}
 use Rattle.std.proofs.lemmas.List.{set_at}
 use Rattle.plain.specs.Numbers.{NONE, LIMIT}
 use Rattle.plain.specs.Lists.{member, keep}
-use Rattle.plain.specs.Laws.Booleans.{by_test, and_true}
-use Rattle.plain.specs.Laws.ListLaws.{length_keep, count_length}
-use Rattle.shape.specs.Laws.Walking.{until_short}
+use Rattle.plain.proofs.Laws.Booleans.{by_test, and_true}
+use Rattle.plain.proofs.Laws.ListLaws.{length_keep, count_length}
+use Rattle.shape.proofs.Laws.Walking.{until_short}
 use Rattle.cursor.specs.declared.AdjacencyCursor.{AdjacencyCursor}
 use Rattle.cursor.specs.declared.Found.TheVariants.{Edge, Done}
 use Rattle.cursor.specs.declared.Step.{Step}

@@ -2,11 +2,11 @@
 use Rattle.plain.specs.Library.{ℕ, ◌≤◌, ◌<◌, ◌≡◌, ◌∙◌, subst, Bool, true, false, ⊎_elim, List, length, arith, ne_eqb}
 use Rattle.plain.specs.Numbers.{NONE}
 use Rattle.plain.specs.Lists.{member}
-use Rattle.plain.specs.Laws.Booleans.{or_true}
-use Rattle.plain.specs.Laws.ListLaws.{member_first, member_append}
+use Rattle.plain.proofs.Laws.Booleans.{or_true}
+use Rattle.plain.proofs.Laws.ListLaws.{member_first, member_append}
 use Rattle.shape.specs.Chains.{until, In}
-use Rattle.shape.specs.Laws.Chains.{chain_some}
-use Rattle.shape.specs.Laws.Walking.{until_first}
+use Rattle.shape.proofs.Laws.Chains.{chain_some}
+use Rattle.shape.proofs.Laws.Walking.{until_first}
 use Rattle.cursor.specs.declared.AdjacencyCursor.{AdjacencyCursor}
 use Rattle.cursor.specs.Cursor.{word, part_left, ring_left, remaining, PartWithin, Ready}
 

@@ -9,15 +9,15 @@ use Rattle.plain.specs.Compaction.{renumbering, survivors}
 use Rattle.plain.specs.Image.{image}
 use Rattle.plain.specs.Calls.{Compacted, compacting, judged_reply}
 use Rattle.plain.specs.WellFormed.{Sound}
-use Rattle.plain.specs.Laws.Compacting.{survivors_sound}
-use Rattle.plain.specs.Laws.Renumberings.{renumbering_all_live}
-use Rattle.plain.specs.Laws.Histories.{compaction_state, closing_compaction_number, survivors_compacted, write_number, write_whole}
+use Rattle.plain.proofs.Laws.Compacting.{survivors_sound}
+use Rattle.plain.proofs.Laws.Renumberings.{renumbering_all_live}
+use Rattle.plain.proofs.Laws.Histories.{compaction_state, closing_compaction_number, survivors_compacted, write_number, write_whole}
 use Rattle.shape.specs.Shape.{Words, capacities, shape_of, lists}
 use Rattle.shape.specs.Checked.{Checked}
 use Rattle.shape.specs.Rules.{broken}
-use Rattle.shape.specs.Laws.Judging.{checked_sound}
+use Rattle.shape.proofs.Laws.Judging.{checked_sound}
 use Rattle.shape.specs.Steps.{state_of}
-use Rattle.shape.specs.Laws.Reading.{plain_node_flags, plain_edge_flags}
+use Rattle.shape.proofs.Laws.Reading.{plain_node_flags, plain_edge_flags}
 use Rattle.compact.specs.Calls.{Canonical, compacting_of}
 use Rattle.image_write.specs.Calls.{written_image}
 use Rattle.histories.specs.Closing.{Compacting, Writing, image_in, Closing, NothingMore, compaction_of, writing_of, written_of, Compacts, Writes, Images, Closes}

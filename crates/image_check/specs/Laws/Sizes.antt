@@ -3,7 +3,7 @@ use Rattle.plain.specs.Library.{ℕ, ◌+◌, ◌*◌, ◌≤◌, arith}
 use Rattle.std.proofs.Common.{mul-le-mul_right}
 use Rattle.plain.specs.Bits.{least_width}
 use Rattle.plain.specs.Image.{edge_payload_width, record_width}
-use Rattle.plain.specs.Laws.Width.{width_most}
+use Rattle.plain.proofs.Laws.Width.{width_most}
 
 -- the edges' records take at most 64 bits and a payload each
 pub records_small : (n m : ℕ) → record_width (least_width n) * m ≤ (64 + edge_payload_width) * m

@@ -4,7 +4,7 @@ use Rattle.plain.specs.Library.{ℕ, ◌+◌, ◌-◌, ◌*◌, ◌≤◌, ◌�
 use native.Mathlib.Nat.{mul-zero}
 use Rattle.plain.specs.Bits.{field_at}
 use Rattle.shape.specs.Index.{Rewritten}
-use Rattle.shape.specs.Laws.Indexing.{rewritten_none, rewritten_more, rewritten_all}
+use Rattle.shape.proofs.Laws.Indexing.{rewritten_none, rewritten_more, rewritten_all}
 use Rattle.image_check.specs.Spread.{spread}
 use Rattle.image_check.specs.Laws.Spread.{spread_room, spread_next, further}
 use Rattle.image_read.proofs.read_fields.Statement.{statement}

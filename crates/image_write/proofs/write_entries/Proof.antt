@@ -1,7 +1,7 @@
 -- `image_write::write_entries` meets its contract: after each turn one entry more was written.
 use Rattle.plain.specs.Library.{◌-◌, ◌≤◌, length, get_or, arith, needs}
 use Rattle.plain.specs.Compaction.{rank}
-use Rattle.plain.specs.Laws.Bits.{length_bits_of}
+use Rattle.plain.proofs.Laws.Bits.{length_bits_of}
 use Rattle.liveness.specs.Flags.{live_flags}
 use Rattle.image_write.proofs.Strung.{StrungTo, entry_none, entry_more, entries_all, row_strung}
 use Rattle.image_write.proofs.Writing.{entry_bits, rank_there, next_entry}

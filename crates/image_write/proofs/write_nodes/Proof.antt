@@ -2,7 +2,7 @@
 use Rattle.plain.specs.Library.{◌-◌, ◌^◌, ◌<◌, get_or, arith, needs}
 use Rattle.plain.specs.Reads.{live_slots}
 use Rattle.plain.specs.Image.{node_payload_width}
-use Rattle.plain.specs.Laws.Bits.{length_bits_of}
+use Rattle.plain.proofs.Laws.Bits.{length_bits_of}
 use Rattle.liveness.specs.Flags.{live_flags}
 use Rattle.liveness.specs.Laws.Flags.{length_flags}
 use Rattle.liveness.specs.Laws.Passed.{passed_later}

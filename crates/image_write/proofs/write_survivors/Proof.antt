@@ -1,7 +1,7 @@
 -- `image_write::write_survivors` meets its contract: slots and lists follow each other, at the least widths, and what waits in the pen is written.
 use Rattle.plain.specs.Library.{sym, arith, needs, eqb-true}
 use lib.Seq.{length-take-le}
-use Rattle.plain.specs.Laws.Below.{below_of}
+use Rattle.plain.proofs.Laws.Below.{below_of}
 use Rattle.image_write.proofs.Surviving.{counts_few, lists_fit, end_fits, wrote_image}
 use Rattle.image_write.proofs.write_survivors.Statement.{statement}
 use Rattle.image_write.proofs.write_survivors.Tie as tie

@@ -6,9 +6,9 @@ use Rattle.plain.specs.Devices.{Takes, box}
 use Rattle.plain.specs.Joining.{MapRooms, Sizes, join_answer, map_slices}
 use Rattle.plain.specs.Memory.{Lengths, first_short}
 use Rattle.plain.specs.Numbers.{NONE}
-use Rattle.plain.specs.Laws.Booleans.{below_or_not, by_test}
-use Rattle.plain.specs.Laws.CallCases.{FirstShort, LongEnough, long_or_short, no_slice, one_short, slice_fits}
-use Rattle.plain.specs.Laws.Devices.{box_proper}
+use Rattle.plain.proofs.Laws.Booleans.{below_or_not, by_test}
+use Rattle.plain.proofs.Laws.CallCases.{FirstShort, LongEnough, long_or_short, no_slice, one_short, slice_fits}
+use Rattle.plain.proofs.Laws.Devices.{box_proper}
 use Rattle.memory.specs.Laws.{Roomy, fresh_roomy}
 
 -- ---- 1

@@ -5,8 +5,8 @@ use Rattle.plain.specs.declared.Counts.{Counts}
 use Rattle.plain.specs.Lists.{written}
 use Rattle.plain.specs.Numbers.{NONE}
 use Rattle.plain.specs.Reads.{live_slots}
-use Rattle.plain.specs.Laws.ListLaws.{member_source}
-use Rattle.plain.specs.Laws.Rank.{member_live_slots}
+use Rattle.plain.proofs.Laws.ListLaws.{member_source}
+use Rattle.plain.proofs.Laws.Rank.{member_live_slots}
 use Rattle.liveness.specs.Flags.{live_flags}
 use Rattle.shape.specs.Chains.{In}
 use Rattle.shape.specs.Index.{Rewritten, before, ends_of}
@@ -15,7 +15,7 @@ use Rattle.survivors.specs.Lists.{ListsFit, live_walks}
 use Rattle.survivors.specs.Slots.{Translatable, live_words_of, translated_word}
 use Rattle.join_columns.specs.Sides.{AxisJoinable, AxisJoined, BothEndsFit, BothEntriesFit, EndsFit, EndsReadable, EntriesFit, EntriesReadable, Side, both_edges, both_nodes, new_ends, new_entries, side_ends, side_entries}
 use Rattle.join_columns.specs.Slots.{Copyable}
-use Rattle.survivors.specs.Laws.Slots.{length_live_words}
+use Rattle.survivors.proofs.Laws.Slots.{length_live_words}
 use Rattle.join_columns.specs.Laws.Written.{length_rest, part_rewritten, rest, room_behind, through_fits, with_rest, written_behind, written_length, written_through}
 
 -- ---- ends

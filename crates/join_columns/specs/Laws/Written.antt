@@ -3,12 +3,12 @@ use Rattle.plain.specs.Library.{ℕ, ◌+◌, ◌-◌, ◌<◌, ◌≤◌, ◌�
 use Rattle.plain.specs.Library.{get_or, length, length-append, length-drop, length-map, take, take_at, arith}
 use Rattle.std.proofs.Common.{drop_of_length-le, drop_at, drop-drop, get_or-append-add, get_or-drop, get_or-take, length-take-le, take_all}
 use Rattle.plain.specs.Lists.{from, written}
-use Rattle.plain.specs.Laws.ListLaws.{map_get_or, member_at}
+use Rattle.plain.proofs.Laws.ListLaws.{map_get_or, member_at}
 use Rattle.shape.specs.Chains.{In}
 use Rattle.shape.specs.Index.{Rewritten}
-use Rattle.shape.specs.Laws.Indexing.{map_from_same}
+use Rattle.shape.proofs.Laws.Indexing.{map_from_same}
 use Rattle.survivors.specs.Slots.{Translatable, translated_word}
-use Rattle.survivors.specs.Laws.Slots.{rewritten_list}
+use Rattle.survivors.proofs.Laws.Slots.{rewritten_list}
 use Rattle.join_columns.specs.Sides.{through}
 
 -- a slice is as long as before

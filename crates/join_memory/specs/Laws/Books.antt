@@ -5,20 +5,20 @@ use Rattle.plain.specs.declared.TraversalDirection.{TraversalDirection}
 use Rattle.plain.specs.declared.TraversalDirection.TheVariants.{Incoming, Outgoing}
 use Rattle.plain.specs.Compaction.{Survivors, rank, surviving_list, survivors}
 use Rattle.plain.specs.Joining.{raised}
-use Rattle.plain.specs.Laws.ListLaws.{map_same}
+use Rattle.plain.proofs.Laws.ListLaws.{map_same}
 use Rattle.plain.specs.Lists.{joined}
 use Rattle.plain.specs.Numbers.{LIMIT}
 use Rattle.plain.specs.Plain.{node_flags}
 use Rattle.plain.specs.Reads.{live_slots}
 use Rattle.shape.specs.Checked.{Checked, SlotsChecked}
 use Rattle.shape.specs.Columns.{end_at}
-use Rattle.shape.specs.Laws.Reading.{plain_node_flags}
+use Rattle.shape.proofs.Laws.Reading.{plain_node_flags}
 use Rattle.shape.specs.Shape.{Words, axis_words, edge_capacity, edge_live, lists, node_capacity, node_live}
 use Rattle.adjacency.specs.Laws.StoreWalks.{checked_walkable}
-use Rattle.survivors.specs.Laws.Left.{end_in, ends_left, slot_low}
-use Rattle.survivors.specs.Laws.Lists.{lists_live, lists_renumbered, lists_total}
+use Rattle.survivors.proofs.Laws.Left.{end_in, ends_left, slot_low}
+use Rattle.survivors.proofs.Laws.Lists.{lists_live, lists_renumbered, lists_total}
 use Rattle.survivors.specs.Lists.{live_walks}
-use Rattle.survivors.specs.Laws.Slots.{slots_there}
+use Rattle.survivors.proofs.Laws.Slots.{slots_there}
 use Rattle.join_columns.specs.Sides.{EndsReadable, EntriesReadable, side_ends, side_entries, side_of}
 use Rattle.join_columns.specs.Slots.{LiveReadable}
 

@@ -1,7 +1,7 @@
 -- What follows from a slot's fault, and from there being none.
 use Rattle.plain.specs.Library.{ℕ, ◌≤◌, ◌<◌, ◌≡◌, refl, Bool, true, false, List, get_or, leb, arith, leb-true}
 use Rattle.std.proofs.Common.{leb-false}
-use Rattle.plain.specs.Laws.Booleans.{by_test}
+use Rattle.plain.proofs.Laws.Booleans.{by_test}
 use Rattle.liveness.specs.Faults.{fault_of}
 
 module _ (flags : List Bool) (bound slot absent removed : ℕ) where

@@ -9,7 +9,7 @@ use Rattle.plain.specs.Lists.{from}
 use Rattle.liveness.specs.Flags.{bit, live_bit, live_flags, packed}
 use Rattle.liveness.specs.Laws.Bits.{bit_small, same_bits}
 use Rattle.plain.specs.Reads.{live_count}
-use Rattle.plain.specs.Laws.ListLaws.{count_length}
+use Rattle.plain.proofs.Laws.ListLaws.{count_length}
 
 -- one number more at the end
 from_suc : (a n : ℕ) → from a (suc n) ≡ from a n ++ ((a + n) ∷ [])

@@ -2,8 +2,8 @@
 use Rattle.plain.specs.Library.{ℕ, suc, ◌+◌, ◌≤◌, ◌<◌, ◌≡◌, refl, sym, ap, ◌∙◌, Bool, true, false, ⊎_elim, List, [], ◌∷◌, ◌++◌, append-nil, length, get_or, drop}
 use Rattle.plain.specs.Library.{length-append, append_snoc, add-one, arith}
 use Rattle.plain.specs.Reads.{live_count, live_from, live_slots}
-use Rattle.plain.specs.Laws.Booleans.{below_or_not}
-use Rattle.plain.specs.Laws.Rank.{length_live_slots}
+use Rattle.plain.proofs.Laws.Booleans.{below_or_not}
+use Rattle.plain.proofs.Laws.Rank.{length_live_slots}
 use Rattle.liveness.specs.Flags.{next_live}
 use Rattle.liveness.specs.Laws.Next.{listed_next, listed_end}
 

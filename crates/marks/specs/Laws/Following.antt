@@ -3,8 +3,8 @@ use Rattle.plain.specs.Library.{ℕ, ◌≡◌, refl, sym, ap, subst, ◌∙◌,
 use Rattle.plain.specs.Library.{not-true, not-false}
 use Rattle.std.proofs.lemmas.Bool.{false≢true}
 use Rattle.plain.specs.Lists.{member, distinct, all, keep}
-use Rattle.plain.specs.Laws.Booleans.{by_test, true_false, refuted, and_left, and_right, both_true, or_other, or_false, or_true}
-use Rattle.plain.specs.Laws.ListLaws.{all_of, all_member, member_append, distinct_append}
+use Rattle.plain.proofs.Laws.Booleans.{by_test, true_false, refuted, and_left, and_right, both_true, or_other, or_false, or_true}
+use Rattle.plain.proofs.Laws.ListLaws.{all_of, all_member, member_append, distinct_append}
 use Rattle.marks.specs.Marks.{marked, Marked, Entered, fresh, passes, Followed, Adds}
 use Rattle.marks.specs.Laws.Fresh.{or_swap, passes_none, passes_fails, passes_marked, passes_more}
 

@@ -3,8 +3,8 @@ use Rattle.plain.specs.Library.{ℕ, ◌/◌, ◌%◌, ◌≡◌, refl, sym, ap,
 use Rattle.plain.specs.Library.{length-replicate, get_or-eq_default, eqb, pow_pos, eq-eqb, ne_eqb, not-true}
 use Rattle.std.proofs.lemmas.List.{get_or-replicate}
 use Rattle.plain.specs.Lists.{member, distinct, all}
-use Rattle.plain.specs.Laws.Booleans.{by_test, below_or_not, same_truth, true_false, refuted, and_left, and_right, both_true, and_false, and_true, or_true, or_false}
-use Rattle.plain.specs.Laws.ListLaws.{all_of, all_member}
+use Rattle.plain.proofs.Laws.Booleans.{by_test, below_or_not, same_truth, true_false, refuted, and_left, and_right, both_true, and_false, and_true, or_true, or_false}
+use Rattle.plain.proofs.Laws.ListLaws.{all_of, all_member}
 use Rattle.liveness.specs.Flags.{live_bit}
 use Rattle.liveness.specs.Laws.Bits.{bit_past}
 use Rattle.marks.specs.Marks.{marked, fresh, passes}

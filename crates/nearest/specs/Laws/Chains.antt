@@ -6,8 +6,8 @@ use Prim.Native.Nat.{zero-le}
 use Rattle.std.proofs.Math.Nat.{suc_inj}
 use Rattle.std.proofs.Math.Option.{some-injective}
 use Rattle.plain.specs.Lists.{member, distinct, from, joined}
-use Rattle.plain.specs.Laws.Booleans.{by_test, true_false, below_or_not, or_other, both_true, refuted}
-use Rattle.plain.specs.Laws.ListLaws.{member_first, member_later, distinct_within, distinct_tail, length_from, member_below}
+use Rattle.plain.proofs.Laws.Booleans.{by_test, true_false, below_or_not, or_other, both_true, refuted}
+use Rattle.plain.proofs.Laws.ListLaws.{member_first, member_later, distinct_within, distinct_tail, length_from, member_below}
 use Rattle.nearest.specs.Chains.{position, first_candidate, or_else, Chain, Before, chains, nearest_from, nearest}
 
 -- by cases on a candidate

@@ -7,19 +7,19 @@ use Rattle.plain.specs.declared.TraversalDirection.{TraversalDirection}
 use Rattle.plain.specs.Lists.{distinct, count}
 use Rattle.plain.specs.Reads.{live_count}
 use Rattle.plain.specs.Plain.{list_of, end_of, node_flags, edge_flags}
-use Rattle.plain.specs.Laws.Booleans.{by_test, true_false, and_right, both_true}
-use Rattle.plain.specs.Laws.ListLaws.{member_keep, count_length}
-use Rattle.plain.specs.Laws.Rank.{live_below}
-use Rattle.plain.specs.Laws.Operating.{incident}
+use Rattle.plain.proofs.Laws.Booleans.{by_test, true_false, and_right, both_true}
+use Rattle.plain.proofs.Laws.ListLaws.{member_keep, count_length}
+use Rattle.plain.proofs.Laws.Rank.{live_below}
+use Rattle.plain.proofs.Laws.Operating.{incident}
 use Rattle.liveness.specs.Laws.Flags.{length_flags}
 use Rattle.shape.specs.Columns.{end_at}
 use Rattle.shape.specs.Chains.{In}
 use Rattle.shape.specs.Shape.{Words, Adjacency, node_capacity, edge_capacity, adjacency_in, adjacency_of, hiding, raw, live_in, node_live, edge_live, axis_words, shape_of, plain_of, node_flags_of, walk_of, run_list}
 use Rattle.shape.specs.Steps.{live_entries}
 use Rattle.shape.specs.Checked.{Checked}
-use Rattle.shape.specs.Laws.Chains.{in_none, in_front}
-use Rattle.shape.specs.Laws.Refining.{list_is_walk}
-use Rattle.shape.specs.Laws.Reading.{edge_flags_are, node_flags_are, shape_adjacency, plain_end}
+use Rattle.shape.proofs.Laws.Chains.{in_none, in_front}
+use Rattle.shape.proofs.Laws.Refining.{list_is_walk}
+use Rattle.shape.proofs.Laws.Reading.{edge_flags_are, node_flags_are, shape_adjacency, plain_end}
 use Rattle.runs.specs.Laws.Runs.{entries_are, entries_of, alive_below}
 use Rattle.relocate.specs.Redirects.{Linked, Relocatable, Placed, Redirectable}
 use Rattle.relocate.specs.Moves.{Movable}

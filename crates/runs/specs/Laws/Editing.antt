@@ -2,15 +2,15 @@
 use Rattle.plain.specs.Library.{ℕ, ◌+◌, ◌-◌, ◌*◌, ◌≤◌, ◌<◌, ◌≡◌, refl, sym, ap, ◌∙◌, subst, ◌≢◌, inl, inr, ⊎_elim, Option, none, some, List, length, get_or, eqb}
 use Rattle.plain.specs.Library.{arith, ne_eqb, eqb-true, eqb-false}
 use Rattle.plain.specs.declared.Counts.{Counts}
-use Rattle.plain.specs.Laws.Booleans.{by_test, below_or_not}
+use Rattle.plain.proofs.Laws.Booleans.{by_test, below_or_not}
 use Rattle.shape.specs.Columns.{cell, link_at, first_at, tail_at, count_at, mark_at}
 use Rattle.shape.specs.Chains.{In, Run}
 use Rattle.shape.specs.Shape.{run_list, run_of, ring_of}
 use Rattle.shape.specs.Checked.{Runs, Rings}
 use Rattle.shape.specs.Writes.{OfLinks, OfNode}
 use Rattle.shape.specs.Kept.{Mark, AxisKept, mark_through}
-use Rattle.shape.specs.Laws.Chains.{run_is, run_agree}
-use Rattle.shape.specs.Laws.Frames.{SameRun, run_list_agree, run_of_agree, run_of_unmarked, ring_kept, rings_kept}
+use Rattle.shape.proofs.Laws.Chains.{run_is, run_agree}
+use Rattle.shape.proofs.Laws.Frames.{SameRun, run_list_agree, run_of_agree, run_of_unmarked, ring_kept, rings_kept}
 use Rattle.runs.specs.Runs.{Editable, Edited}
 use Rattle.runs.specs.Laws.Runs.{entries_of, run_of_marked, entries_are}
 

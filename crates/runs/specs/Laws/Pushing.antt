@@ -4,14 +4,14 @@ use Rattle.plain.specs.Library.{set, length-set, length-append, get_or-set_same,
 use Rattle.std.proofs.Common.{zero-le}
 use Rattle.plain.specs.declared.Counts.{Counts}
 use Rattle.plain.specs.Lists.{member, keep}
-use Rattle.plain.specs.Laws.Booleans.{refuted}
+use Rattle.plain.proofs.Laws.Booleans.{refuted}
 use Rattle.liveness.specs.Flags.{live_flags}
 use Rattle.shape.specs.Columns.{cell, link_at, first_at, tail_at, count_at, mark_at}
 use Rattle.shape.specs.Chains.{In, Line, Run}
 use Rattle.shape.specs.Shape.{live_in, run_list}
 use Rattle.shape.specs.Steps.{live_entries}
-use Rattle.shape.specs.Laws.Chains.{in_snoc, line_one, line_more, line_last, run_short, run_empty, run_line}
-use Rattle.shape.specs.Laws.Frames.{run_list_below}
+use Rattle.shape.proofs.Laws.Chains.{in_snoc, line_one, line_more, line_last, run_short, run_empty, run_line}
+use Rattle.shape.proofs.Laws.Frames.{run_list_below}
 use Rattle.runs.specs.Runs.{Editable, Grown, Pushable, Keepable}
 use Rattle.runs.specs.Laws.Editing.{edited, edited_none}
 

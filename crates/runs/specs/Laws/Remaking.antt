@@ -2,13 +2,13 @@
 use Rattle.plain.specs.Library.{ℕ, ◌+◌, ◌*◌, ◌≤◌, ◌<◌, ◌≡◌, refl, ap, ◌∙◌, ◌≢◌, some, List, [], get_or, eqb, arith, eqb-true, eqb-false}
 use Rattle.std.proofs.Common.{le_trans}
 use Rattle.plain.specs.declared.Counts.{Counts}
-use Rattle.plain.specs.Laws.Booleans.{by_test}
+use Rattle.plain.proofs.Laws.Booleans.{by_test}
 use Rattle.shape.specs.Columns.{mark_at}
 use Rattle.shape.specs.Chains.{In}
 use Rattle.shape.specs.Shape.{adjacency_in, Adjacency, raw, base_of, run_list, run_of, ring_of}
 use Rattle.shape.specs.Checked.{Index, Rings}
 use Rattle.shape.specs.Kept.{axis_kept_again}
-use Rattle.shape.specs.Laws.Frames.{base_kept, index_kept}
+use Rattle.shape.proofs.Laws.Frames.{base_kept, index_kept}
 use Rattle.runs.specs.Runs.{Edited}
 use Rattle.runs.specs.Laws.Editing.{same_entries, list_of_run, mark_of_run, edited_ring, edited_rings, edited_kept, edited_writes}
 use Rattle.runs.specs.Overlay.{Ready, Remade}

@@ -1,11 +1,11 @@
 -- Laws of a run by its words: the entries of a node with a mark, and of one with none; and that a live edge is below the bound.
 use Rattle.plain.specs.Library.{ℕ, ◌<◌, ◌≡◌, true, ◌≢◌, Option, none, some, List, [], eqb, ne_eqb, eqb-true, eqb-false}
 use Rattle.plain.specs.declared.Counts.{Counts}
-use Rattle.plain.specs.Laws.Booleans.{by_test}
+use Rattle.plain.proofs.Laws.Booleans.{by_test}
 use Rattle.shape.specs.Columns.{mark_at}
 use Rattle.shape.specs.Shape.{run_list, run_of, live_in}
-use Rattle.shape.specs.Laws.Frames.{run_list_unmarked, run_of_unmarked}
-use Rattle.plain.specs.Laws.Rank.{live_below}
+use Rattle.shape.proofs.Laws.Frames.{run_list_unmarked, run_of_unmarked}
+use Rattle.plain.proofs.Laws.Rank.{live_below}
 use Rattle.liveness.specs.Laws.Flags.{length_flags}
 use Rattle.runs.specs.Overlay.{flags_of}
 

@@ -1,6 +1,6 @@
 -- `strip::operation_at` meets its contract: the operation is decoded from its five words.
 use Rattle.plain.specs.Library.{sym, ◌∙◌, needs}
-use Rattle.plain.specs.Laws.Strips.{operation_at}
+use Rattle.plain.proofs.Laws.Strips.{operation_at}
 use Rattle.strip.proofs.Running.{operation_there}
 use Rattle.strip.proofs.operation_at.Statement.{statement}
 use Rattle.strip.proofs.operation_at.Tie as tie

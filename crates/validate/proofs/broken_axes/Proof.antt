@@ -3,7 +3,7 @@ use Rattle.plain.specs.Library.{◌≡◌, true, needs}
 use Rattle.plain.specs.declared.TraversalDirection.{TraversalDirection}
 use Rattle.plain.specs.declared.TraversalDirection.TheVariants.{Outgoing, Incoming}
 use Rattle.plain.specs.Lists.{all, from}
-use Rattle.plain.specs.Laws.Booleans.{both_true}
+use Rattle.plain.proofs.Laws.Booleans.{both_true}
 use Rattle.shape.specs.Shape.{Words, node_capacity, edge_capacity, axis_words, store}
 use Rattle.shape.specs.Rules.{both_axes, ends_right, rule_3, index_right, rule_4, ring_right, rule_5}
 use Rattle.validate_words.specs.Laws.Passing.{refused, accepted}

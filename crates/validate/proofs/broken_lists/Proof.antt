@@ -1,10 +1,10 @@
 -- `validate::broken_lists` meets its contract: the runs of both directions, then the walks, each known to be right where the quick test has told so.
 use Rattle.plain.specs.Library.{◌≡◌, sym, ◌∙◌, true}
 use Rattle.plain.specs.declared.TraversalDirection.TheVariants.{Outgoing, Incoming}
-use Rattle.plain.specs.Laws.Booleans.{both_true}
+use Rattle.plain.proofs.Laws.Booleans.{both_true}
 use Rattle.shape.specs.Shape.{Words, node_capacity, edge_capacity, node_live, edge_live, shape_of, plain_of, store}
 use Rattle.shape.specs.Rules.{runs_right, rule_6, walks_right, rule_7}
-use Rattle.shape.specs.Laws.Judging.{Structured}
+use Rattle.shape.proofs.Laws.Judging.{Structured}
 use Rattle.validate_words.specs.Laws.Passing.{refused, accepted}
 use Rattle.validate.specs.Broken.{broken_lists}
 use Rattle.validate.proofs.Deciding.{structured, lists_readable, runs_readable, walks_readable, walks_rule}

@@ -2,8 +2,8 @@
 use Rattle.plain.specs.Library.{ℕ, suc, ◌+◌, ◌-◌, ◌≤◌, ◌<◌, ◌≡◌, sym, ap, ◌∙◌, Bool, true, false, cond, ◌&&◌, not, List, ◌∷◌, [], arith, not-true, not-false}
 use Rattle.plain.specs.Library.{ltb-true}
 use Rattle.plain.specs.Lists.{member, all, from, count}
-use Rattle.plain.specs.Laws.Booleans.{by_test, same_truth}
-use Rattle.plain.specs.Laws.ListLaws.{all_of, all_member, member_below}
+use Rattle.plain.proofs.Laws.Booleans.{by_test, same_truth}
+use Rattle.plain.proofs.Laws.ListLaws.{all_of, all_member, member_below}
 
 -- a test passed: what follows decides
 pub passed : {a b r : Bool} → a ≡ true → r ≡ b → r ≡ (a && b)

@@ -6,7 +6,7 @@ use Rattle.plain.specs.declared.Total.{Total}
 use Rattle.plain.specs.Numbers.{NONE}
 use Rattle.plain.specs.Lists.{written}
 use Rattle.plain.specs.Reads.{Reply, no_record, no_total, listing}
-use Rattle.plain.specs.Laws.CallCases.{lent_short, lent_done}
+use Rattle.plain.proofs.Laws.CallCases.{lent_short, lent_done}
 use Rattle.shape.specs.Shape.{Words}
 use Rattle.validate.specs.Judging.{Judged, refusal}
 use Rattle.validate.specs.Laws.Judging.{answer_counts, answer_refused, reply_counts, reply_refused, record_counts, record_refused, total_counts, total_refused}

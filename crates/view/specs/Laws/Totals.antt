@@ -4,11 +4,11 @@ use Rattle.plain.specs.declared.TraversalDirection.{TraversalDirection}
 use Rattle.plain.specs.declared.Total.{Total}
 use Rattle.plain.specs.Reads.{payloads_of, total}
 use Rattle.plain.specs.Calls.{judged_total}
-use Rattle.plain.specs.Laws.Totals.{Totals, totals}
+use Rattle.plain.proofs.Laws.Totals.{Totals, totals}
 use Rattle.shape.specs.Shape.{Words, lists}
 use Rattle.shape.specs.Checked.{Checked}
-use Rattle.shape.specs.Laws.Judging.{checked_sound}
-use Rattle.shape.specs.Laws.Slots.{node_bound_of}
+use Rattle.shape.proofs.Laws.Judging.{checked_sound}
+use Rattle.shape.proofs.Laws.Slots.{node_bound_of}
 use Rattle.view.specs.Calls.{Totalled}
 
 -- "every choice of weights within the ranges sums to between them, and both ends are reached": of what is answered of a node below the bound of a checked store

@@ -1,6 +1,6 @@
 -- `image_check::check::first_broken` meets its contract: rules 1 to 3, and the content.
 use Rattle.plain.specs.Library.{sym, inl, inr, needs}
-use Rattle.plain.specs.Laws.Refusals.{refused_1, refused_2}
+use Rattle.plain.proofs.Laws.Refusals.{refused_1, refused_2}
 use Rattle.image_check.specs.Checks.{Few}
 use Rattle.image_check.proofs.Checking.{other_length, right_length}
 use Rattle.image_check.proofs.check.first_broken.Statement.{statement}

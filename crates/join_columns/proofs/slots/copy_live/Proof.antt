@@ -1,12 +1,12 @@
 -- `join_columns::slots::copy_live` meets its contract. The loop's invariant: the words of the live slots passed stand at the front of `out`, in slot order, all its other words are as they
 -- were. The measure is the number of slots left.
 use Rattle.plain.specs.Library.{ℕ, ◌-◌, ◌<◌, sym, ap, ◌∙◌, length, get_or, arith, needs}
-use Rattle.plain.specs.Laws.Rank.{rank_live}
+use Rattle.plain.proofs.Laws.Rank.{rank_live}
 use Rattle.liveness.specs.Flags.{live_flags}
 use Rattle.shape.specs.Index.{Rewritten}
-use Rattle.shape.specs.Laws.Indexing.{rewritten_none, rewritten_all}
+use Rattle.shape.proofs.Laws.Indexing.{rewritten_none, rewritten_all}
 use Rattle.survivors.specs.Slots.{kept_word}
-use Rattle.survivors.specs.Laws.Turns.{rewritten_next, Passed, passed_none, passed_live, passed_dead, slot_counted, all_counted}
+use Rattle.survivors.proofs.Laws.Turns.{rewritten_next, Passed, passed_none, passed_live, passed_dead, slot_counted, all_counted}
 use Rattle.join_columns.proofs.Copying.{copied_all}
 use Rattle.join_columns.proofs.slots.copy_live.Statement.{statement}
 use Rattle.join_columns.proofs.slots.copy_live.Tie as tie

@@ -3,8 +3,8 @@
 use Rattle.plain.specs.Library.{◌-◌, sym, ◌∙◌, arith, needs}
 use Rattle.liveness.specs.Flags.{live_flags}
 use Rattle.shape.specs.Index.{Rewritten}
-use Rattle.shape.specs.Laws.Indexing.{rewritten_none}
-use Rattle.survivors.specs.Laws.Turns.{kept_already, kept_live, kept_all, rewritten_next, Passed, passed_none, passed_live, passed_dead}
+use Rattle.shape.proofs.Laws.Indexing.{rewritten_none}
+use Rattle.survivors.proofs.Laws.Turns.{kept_already, kept_live, kept_all, rewritten_next, Passed, passed_none, passed_live, passed_dead}
 use Rattle.survivors.specs.Slots.{kept_word}
 use Rattle.survivors.proofs.slots.keep_live.Statement.{statement}
 use Rattle.survivors.proofs.slots.keep_live.Tie as tie

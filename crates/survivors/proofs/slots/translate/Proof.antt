@@ -2,9 +2,9 @@
 -- the number of words left.
 use Rattle.plain.specs.Library.{ℕ, ◌-◌, ◌≤◌, ◌<◌, ◌≡◌, ap, length, get_or, arith}
 use Rattle.shape.specs.Index.{Rewritten}
-use Rattle.shape.specs.Laws.Indexing.{rewritten_none, rewritten_all}
+use Rattle.shape.proofs.Laws.Indexing.{rewritten_none, rewritten_all}
 use Rattle.survivors.specs.Slots.{translated_word}
-use Rattle.survivors.specs.Laws.Turns.{rewritten_next}
+use Rattle.survivors.proofs.Laws.Turns.{rewritten_next}
 use Rattle.survivors.proofs.slots.translate.Statement.{statement}
 use Rattle.survivors.proofs.slots.translate.Tie as tie
 

@@ -5,8 +5,8 @@ use Rattle.plain.specs.Compaction.{renumbering_from}
 use Rattle.plain.specs.Renumbering.{lookup}
 use Rattle.liveness.specs.Flags.{live_flags}
 use Rattle.shape.specs.Index.{Rewritten}
-use Rattle.shape.specs.Laws.Indexing.{rewritten_none}
-use Rattle.survivors.specs.Laws.Turns.{mapped_live, mapped_dead, mapped_all, rewritten_next, Passed, passed_none, passed_live, passed_dead}
+use Rattle.shape.proofs.Laws.Indexing.{rewritten_none}
+use Rattle.survivors.proofs.Laws.Turns.{mapped_live, mapped_dead, mapped_all, rewritten_next, Passed, passed_none, passed_live, passed_dead}
 use Rattle.survivors.proofs.slots.write_map.Statement.{statement}
 use Rattle.survivors.proofs.slots.write_map.Tie as tie
 

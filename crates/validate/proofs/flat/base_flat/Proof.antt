@@ -2,7 +2,7 @@
 -- is the number of entries left.
 use Rattle.plain.specs.Library.{◌-◌, refl, sym, ◌∙◌, inl, inr, arith, not-false, eq-eqb, eqb-true}
 use Rattle.plain.specs.Lists.{from, count}
-use Rattle.plain.specs.Laws.Booleans.{true_false}
+use Rattle.plain.proofs.Laws.Booleans.{true_false}
 use Rattle.shape.specs.Columns.{adjacency_at}
 use Rattle.validate.specs.Flat.{place_shown, EntryPlaced}
 use Rattle.validate_words.specs.Laws.Passing.{Counting, count_start, count_on, count_done}

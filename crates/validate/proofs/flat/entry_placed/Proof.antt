@@ -1,6 +1,6 @@
 -- `validate::flat::entry_placed` meets its contract: where no test fails the entry is placed.
 use Rattle.plain.specs.Library.{refl, needs, ltb-true}
-use Rattle.plain.specs.Laws.Booleans.{true_false}
+use Rattle.plain.proofs.Laws.Booleans.{true_false}
 use Rattle.validate.proofs.Flattening.{place_tested}
 use Rattle.validate.proofs.flat.entry_placed.Statement.{statement}
 use Rattle.validate.proofs.flat.entry_placed.Tie as tie

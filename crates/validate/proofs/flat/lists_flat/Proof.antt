@@ -1,6 +1,6 @@
 -- `validate::flat::lists_flat` meets its contract: each refusal promises nothing, and what is left are laws.
 use Rattle.plain.specs.Library.{refl, sym, ◌∙◌, arith, not-false}
-use Rattle.plain.specs.Laws.Booleans.{true_false}
+use Rattle.plain.proofs.Laws.Booleans.{true_false}
 use Rattle.marks.specs.Laws.Fresh.{clear_map}
 use Rattle.validate.proofs.Listing.{flat_readable, map_long, runs_hold, walks_hold}
 use Rattle.validate.proofs.flat.lists_flat.Statement.{statement}

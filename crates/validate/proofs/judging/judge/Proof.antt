@@ -1,10 +1,10 @@
 -- `validate::judging::judge` meets its contract: the sizes, the live bits of nodes and of edges, and then what is left. The payload words that are lent are words of
 -- 32 bits.
 use Rattle.plain.specs.Library.{ℕ, ◌≡◌, sym, ◌∙◌, true, arith, needs}
-use Rattle.plain.specs.Laws.Booleans.{both_true}
+use Rattle.plain.proofs.Laws.Booleans.{both_true}
 use Rattle.shape.specs.Shape.{Words, store}
 use Rattle.shape.specs.Rules.{broken, rule_1, live_agrees, rule_2}
-use Rattle.shape.specs.Laws.Judging.{sizes_sound}
+use Rattle.shape.proofs.Laws.Judging.{sizes_sound}
 use Rattle.validate_words.specs.Laws.Passing.{refused, accepted}
 use Rattle.validate.specs.Broken.{Counted}
 use Rattle.validate.specs.Judging.{Judged}

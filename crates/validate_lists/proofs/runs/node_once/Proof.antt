@@ -1,8 +1,8 @@
 -- `validate_lists::runs::node_once` meets its contract: no run; a run, where no more is asked; or strictly, a run with no ring behind it, or both, one after the other.
 use Rattle.plain.specs.Library.{refl, needs, not-true, not-false}
-use Rattle.plain.specs.Laws.Booleans.{true_false}
+use Rattle.plain.proofs.Laws.Booleans.{true_false}
 use Rattle.liveness.specs.Flags.{live_flags}
-use Rattle.shape.specs.Laws.Frames.{run_list_unmarked}
+use Rattle.shape.proofs.Laws.Frames.{run_list_unmarked}
 use Rattle.marks.specs.Laws.Following.{followed_yes}
 use Rattle.validate_lists.proofs.Running.{no_run, followed_so}
 use Rattle.validate_lists.proofs.Once.{node_plain, plain_adds, node_bare, node_ring}

@@ -3,7 +3,7 @@
 -- of nodes left.
 use Rattle.plain.specs.Library.{◌-◌, ◌≡◌, refl, sym, ◌∙◌, true, false, length, arith, not-true, not-false}
 use Rattle.plain.specs.Lists.{distinct, from}
-use Rattle.plain.specs.Laws.Booleans.{true_false}
+use Rattle.plain.proofs.Laws.Booleans.{true_false}
 use Rattle.liveness.specs.Flags.{live_flags}
 use Rattle.shape.specs.Rules.{runs_right}
 use Rattle.marks.specs.Marks.{marked}

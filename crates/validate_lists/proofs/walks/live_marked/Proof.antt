@@ -1,7 +1,7 @@
 -- `validate_lists::walks::live_marked` meets its contract. The loop's invariant: the slots from e on decide. The measure is the number of slots left.
 use Rattle.plain.specs.Library.{ℕ, ◌-◌, ◌/◌, ◌%◌, ◌≤◌, ◌<◌, ◌≡◌, sym, ◌∙◌, true, ⊎_elim, List, get_or, arith, needs, ltb-true, eq-eqb, eqb-true}
-use Rattle.plain.specs.Laws.Booleans.{by_test, below_or_not}
-use Rattle.plain.specs.Laws.ListLaws.{all_of, member_below}
+use Rattle.plain.proofs.Laws.Booleans.{by_test, below_or_not}
+use Rattle.plain.proofs.Laws.ListLaws.{all_of, member_below}
 use Rattle.liveness.specs.Flags.{bit, live_bit, live_flags}
 use Rattle.liveness.specs.Laws.Flags.{flag_at}
 use Rattle.plain.specs.Lists.{all, from}

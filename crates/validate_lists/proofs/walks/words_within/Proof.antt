@@ -1,7 +1,7 @@
 -- `validate_lists::walks::words_within` meets its contract. The loop's invariant: the bits of the words before i are bits of those of the other map. The measure is the number
 -- of words left.
 use Rattle.plain.specs.Library.{ℕ, ◌-◌, ◌≤◌, ◌<◌, ◌≡◌, refl, ⊎_elim, get_or, arith}
-use Rattle.plain.specs.Laws.Booleans.{true_false, below_or_not}
+use Rattle.plain.proofs.Laws.Booleans.{true_false, below_or_not}
 use Rattle.validate_lists.specs.Walks.{Within}
 use Rattle.validate_lists.proofs.Within.{within_and}
 use Rattle.validate_lists.proofs.walks.words_within.Statement.{statement}

@@ -1,7 +1,7 @@
 -- `validate_words::axes::offsets_ascend` meets its contract. The loop's invariant: what was found and the offsets from x on decide. The measure is the number of offsets left.
 use Rattle.plain.specs.Library.{suc, ◌-◌, ◌≡◌, sym, ap, ◌∙◌, Bool, ◌&&◌, ◌⊎◌, ⊎_elim, leb, add-one, arith, lt-leb, le-leb}
 use Rattle.plain.specs.Lists.{all, from}
-use Rattle.plain.specs.Laws.Booleans.{and_true, and_false}
+use Rattle.plain.proofs.Laws.Booleans.{and_true, and_false}
 use Rattle.shape.specs.Columns.{cell}
 use Rattle.validate_words.specs.Laws.Passing.{rest, rest_first, rest_more, rest_fails, rest_none}
 use Rattle.validate_words.proofs.axes.offsets_ascend.Statement.{statement}

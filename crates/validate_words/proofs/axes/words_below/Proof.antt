@@ -1,7 +1,7 @@
 -- `validate_words::axes::words_below` meets its contract. The loop's invariant: what was found and the words from i on decide. The measure is the number of words left.
 use Rattle.plain.specs.Library.{◌-◌, ◌≡◌, sym, ap, ◌∙◌, Bool, ◌&&◌, ◌⊎◌, ⊎_elim, ltb, arith, lt-ltb, le-ltb}
 use Rattle.plain.specs.Lists.{all, from}
-use Rattle.plain.specs.Laws.Booleans.{and_true, and_false}
+use Rattle.plain.proofs.Laws.Booleans.{and_true, and_false}
 use Rattle.shape.specs.Columns.{cell}
 use Rattle.validate_words.specs.Laws.Passing.{rest, rest_first, rest_more, rest_fails, rest_none}
 use Rattle.validate_words.proofs.axes.words_below.Statement.{statement}

@@ -2,7 +2,7 @@
 use Rattle.plain.specs.Library.{◌≤◌, ◌≡◌, refl, sym, ◌∙◌, true, arith, needs, le-leb, lt-leb}
 use Rattle.plain.specs.Numbers.{LIMIT}
 use Rattle.shape.specs.Rules.{slots_right}
-use Rattle.shape.specs.Laws.Judging.{slots_sound}
+use Rattle.shape.proofs.Laws.Judging.{slots_sound}
 use Rattle.validate_words.specs.Sizes.{sizes_test}
 use Rattle.validate_words.specs.Laws.Passing.{passed}
 use Rattle.validate_words.proofs.counts.sizes_right.Statement.{statement}

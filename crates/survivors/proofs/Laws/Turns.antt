@@ -1,0 +1,167 @@
+-- One turn of a loop over slots: what a live slot and a dead one do to the count of live slots, to the map and to the words moved down, and that no word moves where
+-- every slot is live. For compaction and for joining.
+use Rattle.plain.specs.Library.{ℕ, ◌+◌, ◌<◌, ◌≤◌, suc, zero, ◌-◌, ◌∙◌, ◌≡◌, ap, refl, sym, ap₂, Bool, cond, false, true, ◌⊎◌, inl, inr, List, [], ◌∷◌, get_or}
+use Rattle.plain.specs.Library.{length, set, replicate, ext_get_or, zero-add, add-one, arith}
+use Rattle.std.proofs.Common.{add-zero}
+use Rattle.plain.proofs.Laws.Rank.{live_slot_rank, rank_end, live_count_all_live, live_from_all_live}
+use Rattle.plain.proofs.Laws.Booleans.{below_or_not}
+use Rattle.plain.proofs.Laws.ListLaws.{count_length, get_or_from}
+use Rattle.plain.proofs.Laws.Renumberings.{length_renumbering, lookup_from}
+use Rattle.plain.specs.Compaction.{rank, renumbering_from}
+use Rattle.plain.specs.Reads.{live_count, live_slots}
+use Rattle.plain.specs.Lists.{count, written}
+use Rattle.plain.specs.Numbers.{NONE}
+use Rattle.plain.specs.Renumbering.{lookup}
+use Rattle.liveness.specs.Laws.Flags.{length_flags}
+use Rattle.liveness.specs.Flags.{live_flags}
+use Rattle.shape.specs.Index.{Rewritten}
+use Rattle.shape.proofs.Laws.Indexing.{rewritten_set, rewritten_again, rewritten_all, rewritten_as, rewritten_here}
+use Rattle.shape.specs.Columns.{cell}
+use Rattle.survivors.specs.Slots.{kept_word, translated_word}
+use Rattle.survivors.proofs.Laws.Slots.{rewritten_written}
+
+-- one word more at the front
+pub rewritten_next : {entry now : List ℕ} {i : ℕ} {f : ℕ → ℕ} (v : ℕ) → Rewritten entry now 0 i f → i < length entry → v ≡ f i
+    → Rewritten entry (set now i v) 0 (i + 1) f
+rewritten_next {i = i} {f = f} v r room new =
+    rewritten_set (i + 1) i i v f r (omega arith) (omega arith) (sym (zero-add i)) (omega arith) new (λ x h e. (omega arith, refl))
+
+-- a slot's rank, from that of the slot before
+rank_suc : (flags : List Bool) (x : ℕ) → rank flags (suc x) ≡ rank flags x + cond (get_or flags x false) 1 0
+unfolding rank
+rank_suc [] zero = refl
+rank_suc [] (suc x) = refl
+rank_suc (flag ∷ flags) zero = omega arith
+rank_suc (flag ∷ flags) (suc x) = let rest = rank_suc flags x in omega arith
+
+-- The slots before `slot` are passed; their live ones are counted from `first` on, and `number` is the next.
+pub record Passed (live : List ℕ) (bound first slot number : ℕ) : Type 0 where
+  pub within : slot ≤ bound
+  pub ranked : number ≡ first + rank (live_flags live bound) slot
+  pub few : number ≤ first + slot
+
+-- no slot is passed
+pub passed_none : (live : List ℕ) (bound first : ℕ) → Passed live bound first 0 first
+unfolding rank
+passed_none live bound first = record { within = omega arith; ranked = sym (add-zero first); few = omega arith }
+
+module _ {live : List ℕ} {bound first slot number : ℕ} (p : Passed live bound first slot number) where
+  -- the flags of all slots
+  abbrev flags : List Bool
+  flags = live_flags live bound
+
+  -- a live slot
+  pub passed_live : slot < bound → get_or flags slot false ≡ true → Passed live bound first (slot + 1) (number + 1)
+  passed_live h alive =
+      let step = rw alive at (rank_suc flags slot) in
+      let before = p.ranked in
+      let low = p.few in
+      record { within = omega arith; ranked = rw (add-one slot) (omega arith); few = omega arith }
+
+  -- a dead slot
+  pub passed_dead : slot < bound → get_or flags slot false ≡ false → Passed live bound first (slot + 1) number
+  passed_dead h dead =
+      let step = rw dead at (rank_suc flags slot) in
+      let before = p.ranked in
+      let low = p.few in
+      record { within = omega arith; ranked = rw (add-one slot) (omega arith); few = omega arith }
+
+  -- what the map holds at the slot
+  mapped : (flag : Bool) → get_or flags slot false ≡ flag → cond flag number NONE ≡ lookup (renumbering_from first flags) slot
+  mapped flag h = sym (lookup_from first flags slot ∙ ap₂ (λ (b : Bool) (n : ℕ). cond b n NONE) h (sym p.ranked))
+
+  -- a live slot gets its number
+  pub mapped_live : get_or flags slot false ≡ true → number ≡ lookup (renumbering_from first flags) slot
+  mapped_live alive = mapped true alive
+
+  -- a dead slot gets none
+  pub mapped_dead : get_or flags slot false ≡ false → NONE ≡ lookup (renumbering_from first flags) slot
+  mapped_dead dead = mapped false dead
+
+  -- the map is whole
+  pub mapped_all : {entry now : List ℕ} → Rewritten entry now 0 slot (lookup (renumbering_from first flags)) → bound ≤ slot → bound ≤ length entry
+      → now ≡ written (renumbering_from first flags) entry
+  unfolding lookup
+  mapped_all r h room =
+      let long = length_renumbering first flags ∙ length_flags live bound in
+      let low = p.within in
+      rewritten_written (renumbering_from first flags) NONE (rewritten_all (length (renumbering_from first flags)) r (omega arith) (omega arith)) (omega arith)
+
+-- ---- slots counted from 0 on
+
+module _ {live : List ℕ} {bound slot number : ℕ} (p : Passed live bound 0 slot number) where
+  -- as many as are live
+  counted : number ≡ rank (live_flags live bound) slot
+  counted = p.ranked ∙ zero-add (rank (live_flags live bound) slot)
+
+  -- the live slot stands at its rank
+  pub slot_counted : get_or (live_flags live bound) slot false ≡ true → get_or (live_slots (live_flags live bound)) number 0 ≡ slot
+  slot_counted alive = ap (λ (i : ℕ). get_or (live_slots (live_flags live bound)) i 0) counted ∙ live_slot_rank (live_flags live bound) slot 0 alive
+
+  -- all are passed
+  pub all_counted : bound ≤ slot → number ≡ live_count (live_flags live bound)
+  all_counted h = let long = length_flags live bound in counted ∙ rank_end (live_flags live bound) slot (omega arith)
+
+-- ---- words rewritten
+
+-- every word rewritten to itself
+pub rewritten_same : {entry exit : List ℕ} {at n : ℕ} {f : ℕ → ℕ} → Rewritten entry exit at n f → ((x : ℕ) → x < n → f x ≡ cell entry at x) → exit ≡ entry
+rewritten_same {entry = entry} {exit = exit} {at = at} {n = n} r same =
+    ext_get_or 0 exit entry r.long (λ i h. each i (below_or_not i at) (below_or_not i (at + n)))
+  where
+    each : (i : ℕ) → (i < at) ⊎ (at ≤ i) → (i < at + n) ⊎ (at + n ≤ i) → get_or exit i 0 ≡ get_or entry i 0
+    each i (inl low) inside = r.below i low
+    each i (inr h) (inr past) = r.above i past
+    each i (inr h) (inl inside) =
+        let place : at + (i - at) ≡ i = omega arith in
+        ap (λ (z : ℕ). get_or exit z 0) (sym place)
+        ∙ r.within (i - at) (omega arith)
+        ∙ same (i - at) (omega arith)
+        ∙ ap (λ (z : ℕ). get_or entry z 0) place
+
+-- words moved and then put through a map are what the map holds at the words that were moved
+pub rewritten_through : {a b c : List ℕ} {n : ℕ} {f : ℕ → ℕ} (entries : List ℕ) → Rewritten a b 0 n f → Rewritten b c 0 n (translated_word b entries)
+    → Rewritten a c 0 n (λ i. get_or entries (f i) 0)
+rewritten_through {b = b} {f = f} entries r s =
+    rewritten_as (λ i. get_or entries (f i) 0) (rewritten_again r s)
+    (λ i h. ap (λ (w : ℕ). get_or entries w 0) (ap (λ (z : ℕ). get_or b z 0) (sym (zero-add i)) ∙ r.within i h))
+
+-- ---- words moved down
+
+module _ {live : List ℕ} {bound slot number : ℕ} (p : Passed live bound 0 slot number) where
+  module _ {entry now : List ℕ} (r : Rewritten entry now 0 number (kept_word entry (live_flags live bound))) where
+    -- the word of a live slot is still where it was, and goes to the slot's rank
+    pub kept_live : get_or (live_flags live bound) slot false ≡ true → get_or now slot 0 ≡ kept_word entry (live_flags live bound) number
+    kept_live alive = let low = p.few in r.above slot (omega arith) ∙ ap (λ (x : ℕ). get_or entry x 0) (sym (slot_counted p alive))
+
+    -- all are moved
+    pub kept_all : bound ≤ slot → Rewritten entry now 0 (live_count (live_flags live bound)) (kept_word entry (live_flags live bound))
+    kept_all h = let count = all_counted p h in rewritten_all (live_count (live_flags live bound)) r (omega arith) (omega arith)
+
+-- ---- where every slot is live
+
+-- as many as there are slots
+all_flags : (flags : List Bool) → live_count flags ≡ length flags → flags ≡ replicate (length flags) true
+unfolding count
+all_flags [] full = refl
+all_flags (true ∷ flags) full = ap (λ (l : List Bool). true ∷ l) (all_flags flags (omega arith))
+all_flags (false ∷ flags) full = absurd (omega (arith, count_length (λ f. f) flags))
+
+module _ (flags : List Bool) (bound : ℕ) (all : flags ≡ replicate bound true) where
+  -- live slot number i is slot i
+  slot_all_live : (i : ℕ) → i < live_count flags → get_or (live_slots flags) i 0 ≡ i
+  slot_all_live i h =
+      let few = ap live_count all ∙ live_count_all_live bound in
+      ap (λ (l : List ℕ). get_or l i 0) (ap live_slots all ∙ live_from_all_live 0 bound) ∙ get_or_from 0 bound i 0 (omega arith) ∙ zero-add i
+
+  -- no word moves
+  pub kept_all_live : {entry exit : List ℕ} → Rewritten entry exit 0 (live_count flags) (kept_word entry flags) → exit ≡ entry
+  kept_all_live {entry = entry} r = rewritten_same r (λ i h. ap (λ (x : ℕ). get_or entry x 0) (slot_all_live i h ∙ sym (zero-add i)))
+
+-- so the words are as kept
+pub kept_already : (words live : List ℕ) (bound : ℕ) → live_count (live_flags live bound) ≡ bound
+    → Rewritten words words 0 (live_count (live_flags live bound)) (kept_word words (live_flags live bound))
+kept_already words live bound full =
+    let flags = live_flags live bound in
+    let all : flags ≡ replicate (length flags) true = all_flags flags (full ∙ sym (length_flags live bound)) in
+    rewritten_here (λ i h. ap (λ (x : ℕ). get_or words x 0) (zero-add i ∙ sym (slot_all_live flags (length flags) all i h)))
