@@ -1,6 +1,8 @@
 // Fields of bits in lent bytes, most significant bit first: the least width of a count, and reading a field at a bit; writing is by the pen. All functions are
 // internal: the field's room is required. What a field is stands in crate `plain`, specs/Bits.antt.
 
+#![tactic(auto)]
+
 pub mod pen;
 
 ghost use Rattle.plain.specs.Library.{◌+◌, ◌*◌, ◌/◌, ◌%◌, ◌^◌, ◌<◌, ◌≤◌, ◌≡◌, length};

@@ -1,5 +1,7 @@
 // Compaction: the dead slots are dropped, the live ones numbered from 0 in slot order, and the delta folded back into the compressed base. Port of compact.rs.
 
+#![tactic(auto)]
+
 pub mod base;
 
 ghost use Rattle.plain.specs.Library.{◌≡◌};

@@ -1,6 +1,8 @@
 // A walk over one node's adjacency, as a value: a cursor of four numbers, stepped over two columns of an axis. It reads the base part or
 // the run, whichever the node has, and then the ring.
 
+#![tactic(auto)]
+
 ghost use Rattle.plain.specs.Library.{◌*◌, ◌<◌, ◌≤◌, ◌≡◌, false, map, length};
 ghost use Rattle.plain.specs.Numbers.{NONE as none};
 ghost use Rattle.plain.specs.Lists.{written};

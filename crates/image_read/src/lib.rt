@@ -1,6 +1,8 @@
 // Reading an image into a store's memory: the bytes are checked, and what they hold is put in place of all that was there, all of it in the base. The result is
 // what compaction leaves.
 
+#![tactic(auto)]
+
 ghost use Rattle.plain.specs.Library.{◌≡◌, length};
 ghost use Rattle.plain.specs.Bits.{fields_at};
 ghost use Rattle.plain.specs.Devices.{box, skid, Proper};

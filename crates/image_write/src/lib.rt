@@ -2,6 +2,8 @@
 // 01, "The image"; document 02, No. 2: "Writing an image now answers for every store, and gives what compaction followed by writing would give, while the store keeps
 // every word."
 
+#![tactic(auto)]
+
 ghost use Rattle.plain.specs.Library.{◌<◌, ◌≤◌, ◌≡◌, map, length};
 ghost use Rattle.plain.specs.Numbers.{LIMIT};
 ghost use Rattle.plain.specs.Lists.{written};

@@ -1,6 +1,8 @@
 // Two books joined: the survivors of two checked stores, the first's and then the second's, in a third lent memory as a compact store, with the maps of both. Document 02,
 // request 6. The Rust has no counterpart.
 
+#![tactic(auto)]
+
 ghost use Rattle.shape.specs.Lent.{lent, at_entry, at_exit};
 ghost use Rattle.join.specs.Calls.{no_counts, lent_maps, JoinOf};
 

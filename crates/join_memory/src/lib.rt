@@ -1,5 +1,7 @@
 // The third memory of two joined books: the maps, then both directions by them, then the payloads. Internal: the books have been checked, and there is room.
 
+#![tactic(auto)]
+
 ghost use Rattle.shape.specs.Lent.{lent, at_entry, at_exit};
 ghost use Rattle.join_memory.specs.Settling.{no_counts, lent_maps, Settleable, Settled};
 

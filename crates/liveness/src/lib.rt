@@ -1,6 +1,8 @@
 // Which slots are live: a bit a slot, packed into lent words, 64 slots a word, the lowest bit first. All functions are internal: where
 // the words may be shorter than the slots need, the length is required. What the words mean is `live_flags` of specs/Flags.antt.
 
+#![tactic(auto)]
+
 ghost use Rattle.plain.specs.Library.{◌*◌, ◌<◌, ◌≤◌, ◌≡◌, false, length, get_or};
 ghost use Rattle.std.specs.Prelude.{min};
 ghost use Rattle.plain.specs.Reads.{live_count};

@@ -4,6 +4,8 @@
 // A read that fails is not the end of the input: nothing is booked then, standard output stays empty, and a line on standard error says so. A program of this
 // language has no exit status to tell it by.
 
+#![tactic(auto)]
+
 ghost use Rattle.std.specs.Prelude.{◌≤◌, length};
 
 use lotstrip_text::rooms::{INPUT, TEXT};

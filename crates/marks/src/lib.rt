@@ -1,5 +1,7 @@
 // A mark map: a bit an edge, an array of the call itself that is clear at the start. For rules 6 and 7 of the check and rule 6 of an image: no edge twice.
 
+#![tactic(auto)]
+
 ghost use Rattle.plain.specs.Library.{◌*◌, ◌<◌, ◌≡◌, true, not, length, eqb};
 ghost use Rattle.marks.specs.Marks.{Marked, Entered};
 

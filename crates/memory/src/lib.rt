@@ -1,6 +1,8 @@
 // The lengths of a store's memory, judged as numbers: capacities within a device's limits, the words that each slice needs, and the first slice that is too short.
 // Making a store and reading an image answer by these functions alone, so that no length is worked out twice.
 
+#![tactic(auto)]
+
 ghost use Rattle.plain.specs.Library.{◌≡◌};
 ghost use Rattle.plain.specs.Memory.{first_short, other_slices, live_words, axis_length};
 ghost use Rattle.plain.specs.Calls.{fresh, short_answer, reading};

@@ -2,6 +2,8 @@
 // whose first edge stands earliest in the out-list, then its second, and so on. A search backwards from the second lot gives each lot its distance, and the way
 // forward takes at each lot the first transfer of its out-list that leads one nearer. Linear in the store.
 
+#![tactic(auto)]
+
 pub mod backwards;
 pub mod forwards;
 

@@ -1,5 +1,7 @@
 // An operation of a strip from its words: "the code of an operation, 1 to 9", and the words that have to be 0.
 
+#![tactic(auto)]
+
 ghost use Rattle.plain.specs.Library.{◌≡◌};
 ghost use Rattle.plain.specs.Operations.{decoded, unused as unused_of};
 

@@ -1,6 +1,8 @@
 // What the program and the definitions share: slot numbers and limits, the direction of an axis, an operation, the counts of a
 // store and the answers of its calls. The definitions of document 01 over these types stand in specs/.
 
+#![tactic(auto)]
+
 pub mod numbers;
 
 // "None" where the Rust has an `Option<Id>`.

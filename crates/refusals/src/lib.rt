@@ -1,5 +1,7 @@
 // The operations of a strip on a checked store, each with document 01's refusals in their order. All functions are internal: the strip has checked the store.
 
+#![tactic(auto)]
+
 ghost use Rattle.plain.specs.Library.{◌≡◌, cond};
 ghost use Rattle.plain.specs.Numbers.{NONE as none};
 ghost use Rattle.plain.specs.declared.Operation.TheVariants.{AddNode, AddEdge, RemoveEdge, RemoveNode, Redirect, Move, SetPayload};

@@ -13,5 +13,7 @@
 // and writes it from its first dead entry on; so the dead entries that a walk steps over are of edges removed since the run's last edit. Compaction puts every
 // run back into the index.
 
+#![tactic(auto)]
+
 pub mod moves;
 pub mod redirects;

@@ -1,6 +1,8 @@
 // Renumberings: maps from old slots to new ones that compactions leave, NONE where a slot did not survive. `lookup`, `compose` and
 // `is_identity` are public entries: any words are legal input.
 
+#![tactic(auto)]
+
 ghost use Rattle.plain.specs.Library.{◌≡◌};
 ghost use Rattle.plain.specs.Renumbering.{lookup as found, is_identity_map};
 ghost use Rattle.renumbering.specs.Calls.{through, Lookup, Compose, IsIdentity};

@@ -1,5 +1,7 @@
 // Recorded calls: how they are read from standard input, and how an answer is printed. For the program replay_main and the two crates with its calls.
 
+#![tactic(auto)]
+
 pub mod input;
 pub mod print;
 

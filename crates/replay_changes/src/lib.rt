@@ -1,5 +1,7 @@
 // Recorded calls that change the store, for the program replay_main: a strip, a compaction, an image read. Each prints what was answered and written.
 
+#![tactic(auto)]
+
 use plain::{Changed, Counts};
 use replay::{Book, Call, input, print};
 

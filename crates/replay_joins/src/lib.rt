@@ -1,5 +1,7 @@
 // A recorded join: of the store with itself.
 
+#![tactic(auto)]
+
 use plain::Counts;
 use replay::{Call, print};
 

@@ -8,6 +8,8 @@
 // each, in the last four words), 16 and 17 total out and in, 18 and 19 fresh and reading an image on the skid (as 0 and 15), 20 nearest lot (two lots, words lent for the work and for
 // the chain), 22 the store joined with itself (words lent for each of the four maps).
 
+#![tactic(auto)]
+
 use plain::{Changed, Counts, Slots};
 use replay::{Book, Call, input, print};
 

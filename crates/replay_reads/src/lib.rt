@@ -1,5 +1,7 @@
 // Recorded calls that leave the store as it is, for the program replay_main, by the kinds that it lists. Each prints a line, or some.
 
+#![tactic(auto)]
+
 use plain::{Answer, Counts, TraversalDirection};
 use replay::{Call, print};
 

@@ -1,6 +1,8 @@
 // The run of one node: a chain of edges with first, last and length, and a mark that the node has it. Port of relocate/runs.rs. All functions are internal. What a call asks and promises of the words is a record of
 // specs/Runs.antt; `edge_capacity` and `node_capacity` are those of the axis.
 
+#![tactic(auto)]
+
 pub mod overlay;
 
 ghost use Rattle.plain.specs.Library.{◌*◌, ◌≡◌, [], ◌∷◌};

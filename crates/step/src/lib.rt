@@ -1,5 +1,7 @@
 // One operation of a strip on a checked store: the function of its case. Internal: the strip has checked the store.
 
+#![tactic(auto)]
+
 ghost use Rattle.shape.specs.Checked.{Checked};
 ghost use Rattle.shape.specs.Lent.{lent, at_entry, at_exit};
 ghost use Rattle.refusals.specs.Step.{StepOf};

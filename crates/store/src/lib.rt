@@ -1,6 +1,8 @@
 // The store: operations on a checked store. Port of store.rs. All functions are internal: they require a checked store, by its name in crate `shape`, and what an
 // operation's refusals leave. What they promise is a record of specs/Operations.antt.
 
+#![tactic(auto)]
+
 ghost use Rattle.plain.specs.Library.{◌≤◌, ◌≡◌};
 ghost use Rattle.plain.specs.declared.Operation.TheVariants.{AddNode, AddEdge, SetPayload};
 ghost use Rattle.shape.specs.Checked.{Checked};

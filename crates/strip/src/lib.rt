@@ -1,5 +1,7 @@
 // A fresh store, and the strip: document 01's list of operations on a store, behind the check. Port of what store.rs offers to its callers.
 
+#![tactic(auto)]
+
 ghost use Rattle.plain.specs.Library.{◌+◌, ◌*◌, ◌≤◌, ◌≡◌, length, get_or, set};
 ghost use Rattle.plain.specs.declared.Operation.TheVariants.{Unknown};
 ghost use Rattle.plain.specs.Operations.{operation_words, operations};

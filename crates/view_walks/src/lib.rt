@@ -1,6 +1,8 @@
 // Public reads of a node's list: degree, total, walk, and the far ends of a walk (successors or predecessors). "Walk: 1, 5, 2." "Degree and node payload: 1, 5."
 // "A total refuses 1, then 5".
 
+#![tactic(auto)]
+
 pub mod finding;
 
 ghost use Rattle.plain.specs.Library.{◌≡◌};

@@ -11,25 +11,25 @@ use Rattle.shape.specs.Fields.{Column, ends, adjacency, next, links, last, first
 -- ---- every word of an axis has a place
 
 -- word i in a column that begins at b, or else behind its c words
-in_or_behind : {ws : List ℕ} {ce cn i : ℕ} (column : Column) (b c : ℕ) → b ≤ i → begins ce cn column ≡ b
+in_or_behind : (ws : List ℕ) {ce cn i : ℕ} (column : Column) (b c : ℕ) → b ≤ i → begins ce cn column ≡ b
     → ((x : ℕ) → x < c → b + x ≡ i → InColumn ws ce cn column x)
     → (b + c ≤ i → (column : Column) × (x : ℕ) × InColumn ws ce cn column x × (i ≡ begins ce cn column + x))
     → (column : Column) × (x : ℕ) × InColumn ws ce cn column x × (i ≡ begins ce cn column + x)
-in_or_behind {i = i} column b c low is within behind =
+in_or_behind ws {i = i} column b c low is within behind =
     ⊎_elim (λ h. (column, i - b, within (i - b) (omega arith) (omega arith), rw is (omega arith))) behind (below_or_not i (b + c))
 
 pub axis_place : (ws : List ℕ) (ce cn i : ℕ) → i < length ws
     → (column : Column) × (x : ℕ) × InColumn ws ce cn column x × (i ≡ begins ce cn column + x)
 axis_place ws ce cn i there =
-    in_or_behind ends 0 ce (omega arith) refl (λ x h q. h)
-    (λ l₁. in_or_behind adjacency ce ce (omega arith) refl (λ x h q. h)
-    (λ l₂. in_or_behind next (2 * ce) ce (omega arith) refl (λ x h q. h)
-    (λ l₃. in_or_behind links (3 * ce) ce (omega arith) refl (λ x h q. h)
-    (λ l₄. in_or_behind last (4 * ce) cn (omega arith) refl (λ x h q. h)
-    (λ l₅. in_or_behind first (4 * ce + cn) cn (omega arith) refl (λ x h q. h)
-    (λ l₆. in_or_behind tail (4 * ce + 2 * cn) cn (omega arith) refl (λ x h q. h)
-    (λ l₇. in_or_behind count (4 * ce + 3 * cn) cn (omega arith) refl (λ x h q. h)
-    (λ l₈. in_or_behind marks (4 * ce + 4 * cn) cn (omega arith) refl (λ x h q. h)
+    in_or_behind ws ends 0 ce (omega arith) refl (λ x h q. h)
+    (λ l₁. in_or_behind ws adjacency ce ce (omega arith) refl (λ x h q. h)
+    (λ l₂. in_or_behind ws next (2 * ce) ce (omega arith) refl (λ x h q. h)
+    (λ l₃. in_or_behind ws links (3 * ce) ce (omega arith) refl (λ x h q. h)
+    (λ l₄. in_or_behind ws last (4 * ce) cn (omega arith) refl (λ x h q. h)
+    (λ l₅. in_or_behind ws first (4 * ce + cn) cn (omega arith) refl (λ x h q. h)
+    (λ l₆. in_or_behind ws tail (4 * ce + 2 * cn) cn (omega arith) refl (λ x h q. h)
+    (λ l₇. in_or_behind ws count (4 * ce + 3 * cn) cn (omega arith) refl (λ x h q. h)
+    (λ l₈. in_or_behind ws marks (4 * ce + 4 * cn) cn (omega arith) refl (λ x h q. h)
     (λ l₉. (offsets, i - (4 * ce + 5 * cn), omega arith, omega arith))))))))))
 
 -- ---- what calls leave

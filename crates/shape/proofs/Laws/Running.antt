@@ -23,7 +23,7 @@ pub run_refines : {caps : Capacities} {s : Shape} {ops : List Operation} → Pro
 unfolding shape_run run
 run_refines h b no_more = refl
 run_refines {caps} {s} h b (one_more {x} {xs} f fs) =
-    run_refines (step_proper h x f) (step_based caps b x) fs ∙ ap (λ (t : State). run caps t xs) (step_state h b x)
+    run_refines {s = shape_step caps s x} (step_proper h x f) (step_based caps b x) fs ∙ ap (λ (t : State). run caps t xs) (step_state h b x)
 
 -- one operation more
 pub shape_run_snoc : (caps : Capacities) (s : Shape) (ops : List Operation) (x : Operation)
