@@ -14,7 +14,7 @@ use cursor::{AdjacencyCursor, Found, Step};
 
 // `entries` is what a walk reads before the ring: the compressed index's edge numbers, or in their place the run links, where the walk is linked. `next` is the
 // ring links.
-#[derive(Drop)]
+#[derive(Clone, Copy)]
 pub struct Axis<'a> {
     pub offsets: &'a [u32],
     pub entries: &'a [u32],

@@ -8,7 +8,7 @@ ghost use Rattle.adjacency.specs.Rings.{Appendable, Appended, Openable, Opened, 
 use plain::NONE;
 
 // The first and the last edge of a ring; both NONE where it is empty.
-#[derive(Drop)]
+#[derive(Clone, Copy)]
 pub struct RingEnds {
     pub first: u32,
     pub last: u32,

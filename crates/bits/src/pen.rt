@@ -9,7 +9,7 @@ ghost use Rattle.bits.specs.Penned.{Ready, Puts, Penned, reach, waiting};
 use crate::{cut, raise};
 
 // The bytes before `at` are written; `count` bits, fewer than 32, wait in `pending`.
-#[derive(Drop)]
+#[derive(Clone, Copy)]
 pub struct Pen {
     pub at: usize,
     pub pending: u64,

@@ -16,7 +16,7 @@ use plain::NONE;
 // Where a walk stands. Of a base part `base` and `base_end` are positions in the adjacency column. Of a run `base` is the entry to read next
 // and `base_end` how many are left. `delta` is the ring's entry to read next, NONE where none is left, and `delta_last` the ring's last.
 #[repr(C)]
-#[derive(Drop)]
+#[derive(Clone, Copy)]
 pub struct AdjacencyCursor {
     pub base: u32,
     pub base_end: u32,
@@ -25,14 +25,14 @@ pub struct AdjacencyCursor {
 }
 
 // What a step found.
-#[derive(Drop)]
+#[derive(Clone, Copy)]
 pub enum Found {
     Edge(u32),
     Done,
 }
 
 // What a step found, and the cursor behind it.
-#[derive(Drop)]
+#[derive(Clone, Copy)]
 pub struct Step {
     pub cursor: AdjacencyCursor,
     pub found: Found,
@@ -40,7 +40,7 @@ pub struct Step {
 
 // Where a walk starts, and whether it reads a run.
 #[repr(C)]
-#[derive(Drop)]
+#[derive(Clone, Copy)]
 pub struct Start {
     pub linked: bool,
     pub cursor: AdjacencyCursor,
@@ -48,7 +48,7 @@ pub struct Start {
 
 // The sum of the lowest and the sum of the highest weights of some edges.
 #[repr(C)]
-#[derive(Drop)]
+#[derive(Clone, Copy)]
 pub struct Sums {
     pub low: u64,
     pub high: u64,

@@ -12,7 +12,7 @@ use plain::{Answer, Counts, NONE, numbers};
 use validate::judging;
 
 // The lengths of the slices lent for the four maps.
-#[derive(Drop)]
+#[derive(Clone, Copy)]
 pub struct MapRooms {
     pub first_nodes: usize,
     pub first_edges: usize,

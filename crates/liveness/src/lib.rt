@@ -13,7 +13,7 @@ ghost use Rattle.liveness.specs.Ranks.{RanksFit, Ranked};
 ghost use Rattle.liveness.specs.Faults.{fault_of};
 
 // What counting the live slots answers.
-#[derive(Drop)]
+#[derive(Clone, Copy)]
 pub enum Counted {
     // The words have the packed shape, and this many slots are live.
     Live(usize),

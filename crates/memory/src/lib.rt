@@ -11,7 +11,7 @@ ghost use Rattle.memory.specs.Lengths.{caps, measured, device_of, lacking as lac
 use plain::{Answer, LIMIT, numbers};
 
 // The lengths of a store's slices, in parameter order. Those of the nodes' payloads and of the edges' lows are the capacities.
-#[derive(Drop)]
+#[derive(Clone, Copy)]
 pub struct Lengths {
     pub nodes: usize,
     pub lows: usize,
@@ -23,7 +23,7 @@ pub struct Lengths {
 }
 
 // The most nodes and edges that a device takes, and the number that it refuses more with.
-#[derive(Drop)]
+#[derive(Clone, Copy)]
 pub struct Limits {
     pub nodes: u32,
     pub edges: u32,

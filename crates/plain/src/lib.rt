@@ -15,7 +15,7 @@ pub const LIMIT: u32 = 32768;
 pub const OPERATION_WORDS: usize = 5;
 
 // Direction in which a walk follows edges.
-#[derive(Drop)]
+#[derive(Clone, Copy)]
 pub enum TraversalDirection {
     // From source to target: an edge is in the list of its source.
     Outgoing,
@@ -25,14 +25,14 @@ pub enum TraversalDirection {
 
 // The payload of an edge: its lowest and its highest weight.
 #[repr(C)]
-#[derive(Drop)]
+#[derive(Clone, Copy)]
 pub struct EdgePayload {
     pub low: u32,
     pub high: u32,
 }
 
 // One entry of a strip.
-#[derive(Drop)]
+#[derive(Clone, Copy)]
 pub enum Operation {
     AddNode {
         payload: u32,
@@ -70,7 +70,7 @@ pub enum Operation {
 
 // The counts of one kind of slot: all slots, those that the compressed base holds, those that are live.
 #[repr(C)]
-#[derive(Drop)]
+#[derive(Clone, Copy)]
 pub struct Slots {
     pub bound: u32,
     pub base: u32,
@@ -79,7 +79,7 @@ pub struct Slots {
 
 // The counts of a store, by value beside its seven slices. Any values are legal input: the check judges them.
 #[repr(C)]
-#[derive(Drop)]
+#[derive(Clone, Copy)]
 pub struct Counts {
     pub nodes: Slots,
     pub edges: Slots,
@@ -87,7 +87,7 @@ pub struct Counts {
 
 // What a call answers: the number and the value of document 01's table. The value is wide enough for any length or capacity.
 #[repr(C)]
-#[derive(Drop)]
+#[derive(Clone, Copy)]
 pub struct Answer {
     pub number: u32,
     pub value: u64,
@@ -95,7 +95,7 @@ pub struct Answer {
 
 // What a call answers that makes or changes a store: number and value, and the counts afterwards.
 #[repr(C)]
-#[derive(Drop)]
+#[derive(Clone, Copy)]
 pub struct Changed {
     pub number: u32,
     pub value: u64,
@@ -104,7 +104,7 @@ pub struct Changed {
 
 // What reading a record answers: the edge's ends and payload beside number and value; all three are 0 where it is refused.
 #[repr(C)]
-#[derive(Drop)]
+#[derive(Clone, Copy)]
 pub struct Record {
     pub number: u32,
     pub value: u64,
@@ -115,7 +115,7 @@ pub struct Record {
 
 // What a total answers: the sums of the lows and of the highs of a list beside number and value; both are 0 where it is refused.
 #[repr(C)]
-#[derive(Drop)]
+#[derive(Clone, Copy)]
 pub struct Total {
     pub number: u32,
     pub value: u64,

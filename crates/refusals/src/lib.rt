@@ -16,7 +16,7 @@ use plain::{Counts, EdgePayload, TraversalDirection, numbers};
 use store::Removal;
 
 // What an operation comes to: its number and value, and the counts afterwards.
-#[derive(Drop)]
+#[derive(Clone, Copy)]
 pub struct Stepped {
     pub number: u32,
     pub value: u32,

@@ -64,7 +64,7 @@ pub fn keep_one(
 
 // A run, divided before its first dead entry: `length` entries in front of it, which are live, `last` the last of these, and `left` entries from `next` on. Where
 // there is none in front, `last` says nothing, and where none is dead, `left` is 0.
-#[derive(Drop)]
+#[derive(Clone, Copy)]
 pub struct Front {
     pub length: u32,
     pub last: u32,

@@ -15,7 +15,7 @@ use plain::{Counts, Slots, TraversalDirection};
 use relocate::{moves, redirects};
 
 // What removing answers: the counts, and whether something live was there.
-#[derive(Drop)]
+#[derive(Clone, Copy)]
 pub struct Removal {
     pub counts: Counts,
     pub removed: bool,
