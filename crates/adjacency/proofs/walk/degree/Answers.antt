@@ -1,0 +1,23 @@
+-- `adjacency::walk::degree` meets its contract: with removed edges the walk is counted, and without the run or base part and the ring are.
+use Rattle.plain.specs.Library.{sym, ◌∙◌, arith}
+use Rattle.cursor.specs.Laws.Cursor.{ring_ready}
+use Rattle.cursor.specs.Laws.Stepping.{base_within}
+use Rattle.adjacency.specs.Laws.Walk.{given_degree, walk_short}
+use Rattle.adjacency.proofs.walk.degree.Goals as goal
+
+pub part_count-requires : goal.part_count-requires
+part_count-requires c = λ q. (base_within c.start-start.ensures.ready q).0
+
+pub count-requires : goal.count-requires
+count-requires c =
+    rw (c.with_base-ring.ensures, c.next_of-next.ensures)
+    (record { ready = ring_ready c.start-start.ensures.ready; live_long = omega arith })
+
+pub returns : goal.returns
+returns c =
+    given_degree c.requires c.start-start.ensures (sym c.tombstoned.ensures ∙ c.if-tombstoned.false)
+    c.next_of-next.ensures c.with_base-ring.ensures c.part_count.ensures c.count.ensures
+
+pub overflow_add-result : goal.overflow_add-result
+overflow_add-result c =
+    omega (arith, returns c, walk_short c.requires c.start-start.ensures)
