@@ -1,5 +1,5 @@
 -- Following a list of entries and marking each, up to the first that does not pass.
-use Rattle.plain.specs.Library.{ℕ, ◌≡◌, refl, sym, ap, subst, ◌∙◌, Bool, true, false, ◌&&◌, ◌||◌, not, ◌⊎◌, inl, inr, ⊎_elim, List, [], ◌∷◌, ◌++◌, length, eqb}
+use Rattle.plain.specs.Library.{ℕ, ◌≡◌, refl, sym, ap, subst, ◌∙◌, Bool, true, false, ◌&&◌, ◌||◌, not, inl, inr, ⊎_elim, List, [], ◌∷◌, ◌++◌, length, eqb}
 use Rattle.plain.specs.Library.{not-true, not-false}
 use Rattle.std.proofs.lemmas.Bool.{false≢true}
 use Rattle.plain.specs.Lists.{member, distinct, all, keep}
