@@ -3,6 +3,8 @@
 ghost use Rattle.plain.specs.Library.{◌+◌, ◌≤◌, ◌<◌, length};
 
 use crate::Call;
+use std::io;
+use std::io::{ErrorKind, Read};
 
 // What a hexadecimal digit stands for, of which the letters are small; any other byte gives some number too.
 fn digit(byte: u8) -> u64
@@ -41,19 +43,24 @@ fn decode(line: &[u8; 45]) -> Call {
 // The kind that stands for the end of the input.
 pub const END: u32 = 4294967295;
 
-// The next call of the input.
-pub fn next() -> Call {
+// The next call of the input; where less than a line is left, the end. A read that fails is answered.
+pub fn next(rt: &impl Input) -> io::Result<Call> {
     let mut line: [u8; 45] = [0; 45];
-    if io::read_full(0, &mut line) < 45 {
-        return Call {
-            kind: END,
-            first: 0,
-            second: 0,
-            third: 0,
-            fourth: 0,
-        };
+    match rt.reader().read_exact(&mut line) {
+        Ok(()) => Ok(decode(&line)),
+        Err(error) => {
+            if error.kind() == ErrorKind::UnexpectedEof {
+                return Ok(Call {
+                    kind: END,
+                    first: 0,
+                    second: 0,
+                    third: 0,
+                    fourth: 0,
+                });
+            }
+            Err(error)
+        }
     }
-    decode(&line)
 }
 
 // Puts the five words of an operation at `at`.
@@ -68,18 +75,19 @@ fn put_operation(words: &mut [u32], at: usize, operation: Call)
 }
 
 // Reads the operations of a strip, a line each, to the start of `words`; what is left of a shorter input is 0.
-pub fn read_operations(words: &mut [u32], lines: u32) {
+pub fn read_operations(rt: &impl Input, words: &mut [u32], lines: u32) -> io::Result<()> {
     let mut left = lines;
     let mut at: usize = 0;
     while left > 0 {
-        let operation = next();
+        let operation = next(rt)?;
         if words.len() < at + 5 {
-            return;
+            return Ok(());
         }
         put_operation(words, at, operation);
         at += 5;
         left -= 1;
     }
+    Ok(())
 }
 
 // Puts the four bytes of a word at `at`, most significant first.
@@ -93,13 +101,13 @@ fn put_word(bytes: &mut [u8], at: usize, word: u32)
 }
 
 // Reads bytes, sixteen a line, to the start of `bytes`; what is left of a shorter input is 0.
-pub fn read_bytes(bytes: &mut [u8], lines: u32) {
+pub fn read_bytes(rt: &impl Input, bytes: &mut [u8], lines: u32) -> io::Result<()> {
     let mut left = lines;
     let mut at: usize = 0;
     while left > 0 {
-        let line = next();
+        let line = next(rt)?;
         if bytes.len() < at + 16 {
-            return;
+            return Ok(());
         }
         put_word(bytes, at, line.first);
         put_word(bytes, at + 4, line.second);
@@ -108,4 +116,5 @@ pub fn read_bytes(bytes: &mut [u8], lines: u32) {
         at += 16;
         left -= 1;
     }
+    Ok(())
 }

@@ -8,7 +8,7 @@ pub mod print;
 use plain::Counts;
 
 // A call as it is recorded, or the five words of another line.
-#[derive(Drop)]
+#[derive(Clone, Copy)]
 pub struct Call {
     pub kind: u32,
     pub first: u32,
@@ -19,7 +19,7 @@ pub struct Call {
 
 // The store that calls are made on: its counts and capacities, and memory for every store that is recorded. It goes from call to call by value, so that only the
 // function that makes a call lends its slices: a slice that is lent on and on is dear to prove.
-#[derive(Drop)]
+#[derive(Clone, Copy)]
 pub struct Book {
     pub counts: Counts,
     pub node_capacity: u32,

@@ -4,9 +4,10 @@
 
 use plain::{Changed, Counts};
 use replay::{Book, Call, input, print};
+use std::io;
 
 // A strip, whole.
-pub fn strip_of(book: Book, call: Call) -> Book {
+pub fn strip_of(rt: &(impl Input + Print), book: Book, call: Call) -> io::Result<Book> {
     let node_capacity = book.node_capacity;
     let edge_capacity = book.edge_capacity;
     let mut nodes = book.nodes;
@@ -18,7 +19,7 @@ pub fn strip_of(book: Book, call: Call) -> Book {
     let mut incoming = book.incoming;
     let mut words: [u32; 4096] = [0; 4096];
     let mut answers: [u32; 2048] = [0; 2048];
-    input::read_operations(&mut words, call.third);
+    input::read_operations(rt, &mut words, call.third)?;
     let n = print::within(node_capacity, &nodes);
     let e = print::within(edge_capacity, &lows);
     let length = print::within(call.first, &words);
@@ -36,13 +37,14 @@ pub fn strip_of(book: Book, call: Call) -> Book {
         &mut answers[..room],
     );
     print::print_written(
+        rt,
         changed.number,
         changed.value,
         &answers,
         print::wide(call.second),
-    );
+    )?;
     let counts = changed.counts;
-    Book {
+    Ok(Book {
         counts,
         node_capacity,
         edge_capacity,
@@ -53,11 +55,11 @@ pub fn strip_of(book: Book, call: Call) -> Book {
         live_edges,
         outgoing,
         incoming,
-    }
+    })
 }
 
 // A compaction with slices of the recorded lengths; where it is done, maps and work.
-pub fn compact(book: Book, call: Call) -> Book {
+pub fn compact(rt: &impl Print, book: Book, call: Call) -> io::Result<Book> {
     let node_capacity = book.node_capacity;
     let edge_capacity = book.edge_capacity;
     let mut nodes = book.nodes;
@@ -89,25 +91,28 @@ pub fn compact(book: Book, call: Call) -> Book {
         &mut work[..third],
     );
     print::print_written(
+        rt,
         changed.number,
         changed.value,
         &node_map,
         print::wide(call.first),
-    );
+    )?;
     print::print_written(
+        rt,
         changed.number,
         changed.value,
         &edge_map,
         print::wide(call.second),
-    );
+    )?;
     print::print_written(
+        rt,
         changed.number,
         changed.value,
         &work,
         print::wide(call.third),
-    );
+    )?;
     let counts = changed.counts;
-    Book {
+    Ok(Book {
         counts,
         node_capacity,
         edge_capacity,
@@ -118,7 +123,7 @@ pub fn compact(book: Book, call: Call) -> Book {
         live_edges,
         outgoing,
         incoming,
-    }
+    })
 }
 
 // An image read on a box or on the skid, by the kind of call.
@@ -145,7 +150,7 @@ fn read_on(
 }
 
 // An image read in place of all.
-pub fn read_image(book: Book, call: Call) -> Book {
+pub fn read_image(rt: &(impl Input + Print), book: Book, call: Call) -> io::Result<Book> {
     let node_capacity = book.node_capacity;
     let edge_capacity = book.edge_capacity;
     let mut nodes = book.nodes;
@@ -156,7 +161,7 @@ pub fn read_image(book: Book, call: Call) -> Book {
     let mut outgoing = book.outgoing;
     let mut incoming = book.incoming;
     let mut bytes: [u8; 4096] = [0; 4096];
-    input::read_bytes(&mut bytes, call.second);
+    input::read_bytes(rt, &mut bytes, call.second)?;
     let n = print::within(node_capacity, &nodes);
     let e = print::within(edge_capacity, &lows);
     let length = print::within_bytes(call.first, &bytes);
@@ -172,8 +177,8 @@ pub fn read_image(book: Book, call: Call) -> Book {
         &mut incoming,
         &bytes[..length],
     );
-    let counts = print::print_changed(changed);
-    Book {
+    let counts = print::print_changed(rt, changed)?;
+    Ok(Book {
         counts,
         node_capacity,
         edge_capacity,
@@ -184,5 +189,5 @@ pub fn read_image(book: Book, call: Call) -> Book {
         live_edges,
         outgoing,
         incoming,
-    }
+    })
 }

@@ -12,6 +12,7 @@
 
 use plain::{Changed, Counts, Slots};
 use replay::{Book, Call, input, print};
+use std::io;
 
 // A fresh store, on a box or on the skid.
 fn made(
@@ -35,7 +36,7 @@ fn made(
 }
 
 // A fresh store of other capacities in the same memory.
-fn fresh(book: Book, call: Call) -> Book {
+fn fresh(rt: &impl Print, book: Book, call: Call) -> io::Result<Book> {
     let nodes = book.nodes;
     let lows = book.lows;
     let highs = book.highs;
@@ -55,8 +56,8 @@ fn fresh(book: Book, call: Call) -> Book {
         &outgoing,
         &incoming,
     );
-    let counts = print::print_changed(changed);
-    Book {
+    let counts = print::print_changed(rt, changed)?;
+    Ok(Book {
         counts,
         node_capacity: call.first,
         edge_capacity: call.second,
@@ -67,11 +68,11 @@ fn fresh(book: Book, call: Call) -> Book {
         live_edges,
         outgoing,
         incoming,
-    }
+    })
 }
 
 // One call that leaves the store as it is, on slices of its capacities.
-fn read(book: Book, call: Call) {
+fn read(rt: &impl Print, book: Book, call: Call) -> io::Result<()> {
     let nodes = book.nodes;
     let lows = book.lows;
     let highs = book.highs;
@@ -82,7 +83,8 @@ fn read(book: Book, call: Call) {
     let n = print::within(book.node_capacity, &nodes);
     let e = print::within(book.edge_capacity, &lows);
     if call.kind == 22 {
-        replay_joins::join_with_itself(
+        return replay_joins::join_with_itself(
+            rt,
             book.counts,
             &nodes[..n],
             &lows[..e],
@@ -93,9 +95,9 @@ fn read(book: Book, call: Call) {
             &incoming,
             call,
         );
-        return;
     }
     replay_reads::read(
+        rt,
         book.counts,
         &nodes[..n],
         &lows[..e],
@@ -105,43 +107,44 @@ fn read(book: Book, call: Call) {
         &outgoing,
         &incoming,
         call,
-    );
+    )
 }
 
 // One call on the store; the store afterwards.
-fn step(book: Book, call: Call) -> Book {
+fn step(rt: &(impl Input + Print), book: Book, call: Call) -> io::Result<Book> {
     let kind = call.kind;
     if kind == 0 || kind == 18 {
-        return fresh(book, call);
+        return fresh(rt, book, call);
     }
     if kind == 1 {
-        return replay_changes::strip_of(book, call);
+        return replay_changes::strip_of(rt, book, call);
     }
     if kind == 12 {
-        return replay_changes::compact(book, call);
+        return replay_changes::compact(rt, book, call);
     }
     if kind == 15 || kind == 19 {
-        return replay_changes::read_image(book, call);
+        return replay_changes::read_image(rt, book, call);
     }
-    read(book, call);
-    book
+    read(rt, book, call)?;
+    Ok(book)
 }
 
 // The calls of the input in turn. A proved loop has to end, and nothing says that the input does: it counts from a number that no input uses up.
-fn run(book: Book) {
+fn run(rt: &(impl Input + Print), book: Book) -> io::Result<()> {
     let mut book = book;
     let mut calls: u64 = 18446744073709551615;
     while calls > 0 {
-        let call = input::next();
+        let call = input::next(rt)?;
         if call.kind == input::END {
-            return;
+            return Ok(());
         }
-        book = step(book, call);
+        book = step(rt, book, call)?;
         calls -= 1;
     }
+    Ok(())
 }
 
-fn main() {
+fn main(rt: HostRuntime) -> io::Result<()> {
     let none = Slots {
         bound: 0,
         base: 0,
@@ -158,16 +161,19 @@ fn main() {
     let live_edges: [u64; 16] = [0; 16];
     let outgoing: [u32; 7169] = [0; 7169];
     let incoming: [u32; 7169] = [0; 7169];
-    run(Book {
-        counts,
-        node_capacity: 0,
-        edge_capacity: 0,
-        nodes,
-        lows,
-        highs,
-        live_nodes,
-        live_edges,
-        outgoing,
-        incoming,
-    });
+    run(
+        &rt,
+        Book {
+            counts,
+            node_capacity: 0,
+            edge_capacity: 0,
+            nodes,
+            lows,
+            highs,
+            live_nodes,
+            live_edges,
+            outgoing,
+            incoming,
+        },
+    )
 }

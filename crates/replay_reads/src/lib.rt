@@ -4,9 +4,11 @@
 
 use plain::{Answer, Counts, TraversalDirection};
 use replay::{Call, print};
+use std::io;
 
 // The image into lent bytes, and those that were written.
 pub fn print_image(
+    rt: &impl Print,
     counts: Counts,
     nodes: &[u32],
     lows: &[u32],
@@ -17,20 +19,22 @@ pub fn print_image(
     incoming: &[u32],
     work: &mut [u32],
     bytes: &mut [u8],
-) {
+) -> io::Result<()> {
     let answered = image_write::write_image(
         counts, nodes, lows, highs, live_nodes, live_edges, outgoing, incoming, work, bytes,
     );
-    print::number(print::wide(answered.number));
-    io::print_decimal(1, answered.value);
+    print::number(rt, print::wide(answered.number))?;
+    let value = answered.value;
+    print!(rt; "{value}")?;
     if answered.number == 0 {
-        print::print_bytes(bytes, answered.value);
+        print::print_bytes(rt, bytes, answered.value)?;
     }
-    io::write_all(1, b"\n");
+    println!(rt)
 }
 
 // The image with a work slice and into bytes of the recorded lengths.
 fn write_image(
+    rt: &impl Print,
     counts: Counts,
     nodes: &[u32],
     lows: &[u32],
@@ -40,12 +44,13 @@ fn write_image(
     outgoing: &[u32],
     incoming: &[u32],
     call: Call,
-) {
+) -> io::Result<()> {
     let mut work: [u32; 2048] = [0; 2048];
     let mut bytes: [u8; 4096] = [0; 4096];
     let lent = print::within(call.first, &work);
     let room = print::within_bytes(call.second, &bytes);
     print_image(
+        rt,
         counts,
         nodes,
         lows,
@@ -56,11 +61,12 @@ fn write_image(
         incoming,
         &mut work[..lent],
         &mut bytes[..room],
-    );
+    )
 }
 
 // A list into a slice of the recorded length.
 fn read_list<'a>(
+    rt: &impl Print,
     counts: Counts,
     nodes: &[u32],
     lows: &[u32],
@@ -70,7 +76,7 @@ fn read_list<'a>(
     outgoing: &'a [u32],
     incoming: &'a [u32],
     call: Call,
-) {
+) -> io::Result<()> {
     let mut slots: [u32; 2048] = [0; 2048];
     let room = print::within(call.second, &slots);
     let answered = list_answer(
@@ -85,7 +91,7 @@ fn read_list<'a>(
         call,
         &mut slots[..room],
     );
-    print::print_written(answered.number, answered.value, &slots, answered.value);
+    print::print_written(rt, answered.number, answered.value, &slots, answered.value)
 }
 
 fn list_answer<'a>(
@@ -142,6 +148,7 @@ fn list_answer<'a>(
 
 // Bounds, counts, whether the store is empty and whether it is compact.
 fn read_whole(
+    rt: &impl Print,
     counts: Counts,
     nodes: &[u32],
     lows: &[u32],
@@ -150,46 +157,53 @@ fn read_whole(
     live_edges: &[u64],
     outgoing: &[u32],
     incoming: &[u32],
-) {
+) -> io::Result<()> {
     print::number(
+        rt,
         view::whole::node_bound(
             counts, nodes, lows, highs, live_nodes, live_edges, outgoing, incoming,
         )
         .value,
-    );
+    )?;
     print::number(
+        rt,
         view::whole::edge_bound(
             counts, nodes, lows, highs, live_nodes, live_edges, outgoing, incoming,
         )
         .value,
-    );
+    )?;
     print::number(
+        rt,
         view::whole::node_count(
             counts, nodes, lows, highs, live_nodes, live_edges, outgoing, incoming,
         )
         .value,
-    );
+    )?;
     print::number(
+        rt,
         view::whole::edge_count(
             counts, nodes, lows, highs, live_nodes, live_edges, outgoing, incoming,
         )
         .value,
-    );
+    )?;
     print::number(
+        rt,
         view::whole::is_empty(
             counts, nodes, lows, highs, live_nodes, live_edges, outgoing, incoming,
         )
         .value,
-    );
+    )?;
     print::last(
+        rt,
         view::compactness::is_compact(
             counts, nodes, lows, highs, live_nodes, live_edges, outgoing, incoming,
         )
         .value,
-    );
+    )
 }
 
 fn read_node<'a>(
+    rt: &impl Print,
     counts: Counts,
     nodes: &[u32],
     lows: &[u32],
@@ -199,15 +213,52 @@ fn read_node<'a>(
     outgoing: &'a [u32],
     incoming: &'a [u32],
     call: Call,
-) {
+) -> io::Result<()> {
     if call.kind == 6 {
-        print::print_answer(view::slots::node_payload(
-            counts, nodes, lows, highs, live_nodes, live_edges, outgoing, incoming, call.first,
-        ));
-        return;
+        return print::print_answer(
+            rt,
+            view::slots::node_payload(
+                counts, nodes, lows, highs, live_nodes, live_edges, outgoing, incoming, call.first,
+            ),
+        );
     }
     if call.kind == 10 {
-        print::print_answer(view_walks::degree(
+        return print::print_answer(
+            rt,
+            view_walks::degree(
+                counts,
+                nodes,
+                lows,
+                highs,
+                live_nodes,
+                live_edges,
+                outgoing,
+                incoming,
+                TraversalDirection::Outgoing,
+                call.first,
+            ),
+        );
+    }
+    if call.kind == 11 {
+        return print::print_answer(
+            rt,
+            view_walks::degree(
+                counts,
+                nodes,
+                lows,
+                highs,
+                live_nodes,
+                live_edges,
+                outgoing,
+                incoming,
+                TraversalDirection::Incoming,
+                call.first,
+            ),
+        );
+    }
+    print::print_answer(
+        rt,
+        view_walks::finding::find(
             counts,
             nodes,
             lows,
@@ -216,13 +267,72 @@ fn read_node<'a>(
             live_edges,
             outgoing,
             incoming,
-            TraversalDirection::Outgoing,
             call.first,
-        ));
-        return;
+            call.second,
+        ),
+    )
+}
+
+fn read_record(
+    rt: &impl Print,
+    counts: Counts,
+    nodes: &[u32],
+    lows: &[u32],
+    highs: &[u32],
+    live_nodes: &[u64],
+    live_edges: &[u64],
+    outgoing: &[u32],
+    incoming: &[u32],
+    call: Call,
+) -> io::Result<()> {
+    if call.kind == 7 {
+        return print::print_record(
+            rt,
+            view::slots::edge_record(
+                counts, nodes, lows, highs, live_nodes, live_edges, outgoing, incoming, call.first,
+            ),
+        );
     }
-    if call.kind == 11 {
-        print::print_answer(view_walks::degree(
+    print::print_record(
+        rt,
+        view::slots::live_edge_record(
+            counts, nodes, lows, highs, live_nodes, live_edges, outgoing, incoming, call.first,
+        ),
+    )
+}
+
+fn read_total<'a>(
+    rt: &impl Print,
+    counts: Counts,
+    nodes: &[u32],
+    lows: &[u32],
+    highs: &[u32],
+    live_nodes: &[u64],
+    live_edges: &[u64],
+    outgoing: &'a [u32],
+    incoming: &'a [u32],
+    call: Call,
+) -> io::Result<()> {
+    if call.kind == 16 {
+        return print::print_total(
+            rt,
+            view_walks::total(
+                counts,
+                nodes,
+                lows,
+                highs,
+                live_nodes,
+                live_edges,
+                outgoing,
+                incoming,
+                TraversalDirection::Outgoing,
+                call.first,
+            ),
+        );
+    }
+    print::print_total(
+        rt,
+        view_walks::total(
             counts,
             nodes,
             lows,
@@ -233,83 +343,8 @@ fn read_node<'a>(
             incoming,
             TraversalDirection::Incoming,
             call.first,
-        ));
-        return;
-    }
-    print::print_answer(view_walks::finding::find(
-        counts,
-        nodes,
-        lows,
-        highs,
-        live_nodes,
-        live_edges,
-        outgoing,
-        incoming,
-        call.first,
-        call.second,
-    ));
-}
-
-fn read_record(
-    counts: Counts,
-    nodes: &[u32],
-    lows: &[u32],
-    highs: &[u32],
-    live_nodes: &[u64],
-    live_edges: &[u64],
-    outgoing: &[u32],
-    incoming: &[u32],
-    call: Call,
-) {
-    if call.kind == 7 {
-        print::print_record(view::slots::edge_record(
-            counts, nodes, lows, highs, live_nodes, live_edges, outgoing, incoming, call.first,
-        ));
-        return;
-    }
-    print::print_record(view::slots::live_edge_record(
-        counts, nodes, lows, highs, live_nodes, live_edges, outgoing, incoming, call.first,
-    ));
-}
-
-fn read_total<'a>(
-    counts: Counts,
-    nodes: &[u32],
-    lows: &[u32],
-    highs: &[u32],
-    live_nodes: &[u64],
-    live_edges: &[u64],
-    outgoing: &'a [u32],
-    incoming: &'a [u32],
-    call: Call,
-) {
-    if call.kind == 16 {
-        print::print_total(view_walks::total(
-            counts,
-            nodes,
-            lows,
-            highs,
-            live_nodes,
-            live_edges,
-            outgoing,
-            incoming,
-            TraversalDirection::Outgoing,
-            call.first,
-        ));
-        return;
-    }
-    print::print_total(view_walks::total(
-        counts,
-        nodes,
-        lows,
-        highs,
-        live_nodes,
-        live_edges,
-        outgoing,
-        incoming,
-        TraversalDirection::Incoming,
-        call.first,
-    ));
+        ),
+    )
 }
 
 // How many words are clear.
@@ -328,6 +363,7 @@ fn clear_words(words: &[u32; 2048]) -> u64 {
 
 // The nearest lot with slices of the recorded lengths. No word of the work slice is clear before; behind number and value, how many then are.
 fn read_nearest(
+    rt: &impl Print,
     counts: Counts,
     nodes: &[u32],
     lows: &[u32],
@@ -337,7 +373,7 @@ fn read_nearest(
     outgoing: &[u32],
     incoming: &[u32],
     call: Call,
-) {
+) -> io::Result<()> {
     let mut work: [u32; 2048] = [1; 2048];
     let mut chain: [u32; 2048] = [0; 2048];
     let lent = print::within(call.third, &work);
@@ -356,16 +392,18 @@ fn read_nearest(
         &mut work[..lent],
         &mut chain[..room],
     );
-    print::number(print::wide(answered.number));
-    print::number(answered.value);
-    io::print_decimal(1, clear_words(&work));
+    print::number(rt, print::wide(answered.number))?;
+    print::number(rt, answered.value)?;
+    let clear = clear_words(&work);
+    print!(rt; "{clear}")?;
     if answered.number == 0 {
-        print::print_entries(&chain, answered.value);
+        print::print_entries(rt, &chain, answered.value)?;
     }
-    io::write_all(1, b"\n");
+    println!(rt)
 }
 
 pub fn read<'a>(
+    rt: &impl Print,
     counts: Counts,
     nodes: &[u32],
     lows: &[u32],
@@ -375,45 +413,39 @@ pub fn read<'a>(
     outgoing: &'a [u32],
     incoming: &'a [u32],
     call: Call,
-) {
+) -> io::Result<()> {
     let kind = call.kind;
     if kind <= 5 {
-        read_list(
-            counts, nodes, lows, highs, live_nodes, live_edges, outgoing, incoming, call,
+        return read_list(
+            rt, counts, nodes, lows, highs, live_nodes, live_edges, outgoing, incoming, call,
         );
-        return;
     }
     if kind == 9 {
-        read_whole(
-            counts, nodes, lows, highs, live_nodes, live_edges, outgoing, incoming,
+        return read_whole(
+            rt, counts, nodes, lows, highs, live_nodes, live_edges, outgoing, incoming,
         );
-        return;
     }
     if kind == 14 {
-        write_image(
-            counts, nodes, lows, highs, live_nodes, live_edges, outgoing, incoming, call,
+        return write_image(
+            rt, counts, nodes, lows, highs, live_nodes, live_edges, outgoing, incoming, call,
         );
-        return;
     }
     if kind == 7 || kind == 8 {
-        read_record(
-            counts, nodes, lows, highs, live_nodes, live_edges, outgoing, incoming, call,
+        return read_record(
+            rt, counts, nodes, lows, highs, live_nodes, live_edges, outgoing, incoming, call,
         );
-        return;
     }
     if kind == 16 || kind == 17 {
-        read_total(
-            counts, nodes, lows, highs, live_nodes, live_edges, outgoing, incoming, call,
+        return read_total(
+            rt, counts, nodes, lows, highs, live_nodes, live_edges, outgoing, incoming, call,
         );
-        return;
     }
     if kind == 20 {
-        read_nearest(
-            counts, nodes, lows, highs, live_nodes, live_edges, outgoing, incoming, call,
+        return read_nearest(
+            rt, counts, nodes, lows, highs, live_nodes, live_edges, outgoing, incoming, call,
         );
-        return;
     }
     read_node(
-        counts, nodes, lows, highs, live_nodes, live_edges, outgoing, incoming, call,
-    );
+        rt, counts, nodes, lows, highs, live_nodes, live_edges, outgoing, incoming, call,
+    )
 }
