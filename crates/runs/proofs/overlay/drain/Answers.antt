@@ -1,0 +1,55 @@
+-- `runs::overlay::drain` meets its contract. The invariant is `Draining`; the measure is the length of what is to come of the ring.
+use Rattle.plain.specs.Library.{◌<◌, ◌∙◌, length, arith}
+use Rattle.runs.proofs.Draining.{Draining, to_come, drain_readable, drain_none, drain_start, drain_below, drain_keep, drain_more, drain_less, drain_last}
+use Rattle.runs.proofs.overlay.drain.Goals.{At-loop-next}
+use Rattle.runs.proofs.overlay.drain.Goals as goal
+
+-- the present entry is an edge
+next_in : (c : At-loop-next) → c.loop-next.next < c.args.edge_capacity
+next_in c = omega (arith, drain_below c.requires c.loop-next.invariant, c.requires.ready.editable.edges_within)
+
+pub ring_ends-ends-requires : goal.ring_ends-ends-requires
+ring_ends-ends-requires c = drain_readable c.requires
+
+pub returns-then-last : goal.returns-then-last
+returns-then-last c = drain_none c.requires c.ring_ends-ends.ensures c.if-last.true
+
+pub loop-next-init : goal.loop-next-init
+loop-next-init c = drain_start c.requires c.ring_ends-ends.ensures c.if-last.false
+
+pub overflow_cast-at : goal.overflow_cast-at
+overflow_cast-at c = omega (arith, next_in (goal.at.overflow_cast-at c).At-loop-next)
+
+pub overflow_add-at : goal.overflow_add-at
+overflow_add-at c = omega (arith, next_in (goal.at.overflow_add-at c).At-loop-next)
+
+pub offset_bounds-axis-at : goal.offset_bounds-axis-at
+offset_bounds-axis-at c = omega (arith, next_in (goal.at.offset_bounds-axis-at c).At-loop-next)
+
+pub bounds-axis-at : goal.bounds-axis-at
+bounds-axis-at c = omega (arith, next_in (goal.at.bounds-axis-at c).At-loop-next, c.loop-next.invariant.long)
+
+pub keep_one-requires : goal.keep_one-requires
+keep_one-requires c = drain_keep c.requires c.loop-next.invariant
+
+pub loop-next-smaller : goal.loop-next-smaller
+loop-next-smaller c =
+    drain_less c.requires c.loop-next.invariant c.loop-next-test.true
+
+pub loop-next-preserved : goal.loop-next-preserved
+loop-next-preserved c =
+    drain_more c.requires c.loop-next.invariant c.loop-next-test.true c.keep_one.auto.axis c.keep_one.ensures
+
+pub keep_one-requires-2 : goal.keep_one-requires-2
+keep_one-requires-2 c = drain_keep c.requires c.loop-next.invariant
+
+pub detach-requires : goal.detach-requires
+detach-requires c =
+    record { edges_within = c.keep_one-2.ensures.editable.sized.edges_within; room = omega (arith, c.keep_one-2.ensures.editable) }
+
+pub shape_of-axis : goal.shape_of-axis
+shape_of-axis c = c.detach.auto.axis ∙ c.keep_one-2.auto.axis ∙ c.loop-next.invariant.long
+
+pub returns : goal.returns
+returns c =
+    drain_last c.requires c.loop-next.invariant c.loop-next-test.false c.keep_one-2.auto.axis c.keep_one-2.ensures c.detach.auto.axis c.detach.ensures

@@ -1,0 +1,10 @@
+-- `runs::overlay::drain` meets its contract. The invariant is `Draining`; the measure is the length of what is to come of the ring.
+use Rattle.plain.specs.Library.{◌<◌, ◌∙◌, length, arith}
+use Rattle.runs.proofs.Draining.{Draining, to_come, drain_readable, drain_none, drain_start, drain_below, drain_keep, drain_more, drain_less, drain_last}
+use Rattle.runs.proofs.overlay.drain.Given as goal
+
+abbrev pub invariant-loop-next : goal.invariant-loop-next
+invariant-loop-next l = Draining l.initial.axis l.axis l.edge_capacity l.node_capacity l.counts l.live l.node l.last l.next
+
+abbrev pub decreases-loop-next : goal.decreases-loop-next
+decreases-loop-next l = length (to_come l.initial.axis l.edge_capacity l.counts l.last l.next)
