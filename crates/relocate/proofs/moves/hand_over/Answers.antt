@@ -1,0 +1,47 @@
+-- `relocate::moves::hand_over` meets its contract: the stores of its ways are those of `hand_first` and `hand_more`.
+use Rattle.plain.specs.Library.{◌<◌, ◌≢◌, length-set, arith}
+use Rattle.shape.specs.Columns.{tail_at, count_at}
+use Rattle.relocate.proofs.Handing.{hand_short, hand_last, hand_none, hand_first, hand_more}
+use Rattle.relocate.proofs.moves.hand_over.Goals.{Else-moved-eq0, Else-present-eq0}
+use Rattle.relocate.proofs.moves.hand_over.Goals as goal
+
+-- there are entries to hand over
+some_moved : (c : Else-moved-eq0) → let a = c.args in count_at a.axis.now a.edge_capacity a.node_capacity a.old ≢ 0
+some_moved c = c.if-moved-eq0.false
+
+-- the last entry of the second run is an edge
+last_in : (c : Else-present-eq0) → let a = c.args in tail_at a.axis.now a.edge_capacity a.node_capacity a.new < a.edge_capacity
+last_in c = hand_last c.requires c.if-present-eq0.false
+
+pub returns-then-moved-eq0 : goal.returns-then-moved-eq0
+returns-then-moved-eq0 c = hand_none c.requires c.if-moved-eq0.true
+
+pub overflow_add-axis : goal.overflow_add-axis
+overflow_add-axis c = omega (arith, hand_short c.requires, c.requires.editable.sized.edges_within)
+
+pub bounds-axis-count-2 : goal.bounds-axis-count-2
+bounds-axis-count-2 c = simp length-set (omega arith)
+
+pub bounds-axis-tail-2 : goal.bounds-axis-tail-2
+bounds-axis-tail-2 c = simp length-set (omega arith)
+
+pub bounds-axis-firsts-then-present-eq0 : goal.bounds-axis-firsts-then-present-eq0
+bounds-axis-firsts-then-present-eq0 c = simp length-set (omega arith)
+
+pub returns-then-present-eq0 : goal.returns-then-present-eq0
+returns-then-present-eq0 c = hand_first c.requires (some_moved (goal.at.returns-then-present-eq0 c).Else-moved-eq0) c.if-present-eq0.true
+
+pub overflow_cast-axis : goal.overflow_cast-axis
+overflow_cast-axis c = omega (arith, last_in c)
+
+pub overflow_add-axis-2 : goal.overflow_add-axis-2
+overflow_add-axis-2 c = omega (arith, last_in c)
+
+pub offset_bounds-axis-edge_capacity : goal.offset_bounds-axis-edge_capacity
+offset_bounds-axis-edge_capacity c = omega (arith, last_in c)
+
+pub bounds-axis-edge_capacity : goal.bounds-axis-edge_capacity
+bounds-axis-edge_capacity c = simp length-set (omega (arith, last_in c))
+
+pub returns : goal.returns
+returns c = hand_more c.requires (some_moved (goal.at.returns c).Else-moved-eq0) c.if-present-eq0.false
