@@ -7,7 +7,7 @@ use Rattle.plain.specs.Reads.{payloads_of}
 use Rattle.plain.proofs.Laws.ListLaws.{map_same}
 use Rattle.plain.proofs.Laws.Totals.{list_within}
 use Rattle.shape.specs.Chains.{In}
-use Rattle.shape.specs.Shape.{Words, node_capacity, edge_capacity, node_live, edge_payload_at, axis_words, plain_of, lists}
+use Rattle.shape.specs.Shape.{Words, node_capacity, edge_capacity, node_live, edge_payload_at, plain_of, lists}
 use Rattle.shape.specs.Checked.{Checked}
 use Rattle.shape.proofs.Laws.Reading.{edge_at}
 use Rattle.cursor.specs.declared.Sums.{Sums}

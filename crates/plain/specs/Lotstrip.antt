@@ -2,7 +2,6 @@
 use Rattle.plain.specs.Library.{ℕ, zero, suc, ◌+◌, ◌*◌, ◌/◌, ◌%◌, cond, not, List, [], ◌∷◌, ◌++◌, length, eqb, ltb}
 use Prim.Native.Char.{code}
 use Prim.Native.String.{String}
-use Prim.Native.String
 use Rattle.plain.specs.Operations.{operations, operation_words}
 use Rattle.plain.specs.Step.{Capacities, State, run, answers}
 use Rattle.plain.specs.Compaction.{survivors}

@@ -1,5 +1,5 @@
 -- The entry before another in a list: the loop that finds it along a chain, and what it says of the list.
-use Rattle.plain.specs.Library.{ℕ, ◌+◌, ◌-◌, ◌*◌, ◌≤◌, ◌<◌, ◌≡◌, refl, sym, ap, ap₂, ◌∙◌, true, false, not, ◌≢◌, List, [], ◌∷◌, ◌++◌, eqb, arith, eq-eqb}
+use Rattle.plain.specs.Library.{ℕ, ◌-◌, ◌*◌, ◌≤◌, ◌<◌, ◌≡◌, refl, sym, ap, ap₂, ◌∙◌, true, false, not, ◌≢◌, List, [], ◌∷◌, ◌++◌, eqb, arith, eq-eqb}
 use Rattle.plain.specs.Library.{ne_eqb, eqb-true}
 use Rattle.plain.specs.Numbers.{NONE}
 use Rattle.plain.specs.Lists.{member, without, distinct}

@@ -14,7 +14,7 @@ use Rattle.plain.proofs.Laws.Deleting.{keep_all}
 use Rattle.shape.proofs.Laws.Taking.{keep_agree}
 use Rattle.shape.proofs.Laws.CheckedShape.{raw_below}
 use Rattle.shape.specs.Columns.{cell}
-use Rattle.shape.specs.Chains.{ring, In}
+use Rattle.shape.specs.Chains.{In}
 use Rattle.shape.specs.Shape.{adjacency_in, part, raw, live_in}
 use Rattle.shape.proofs.Laws.Chains.{in_none}
 use Rattle.cursor.specs.declared.AdjacencyCursor.{AdjacencyCursor}

@@ -1,8 +1,7 @@
 -- `liveness::write_ranks` meets its contract: the counts before the words passed are there.
-use Rattle.plain.specs.Library.{◌-◌, ◌*◌, ◌≤◌, ◌≡◌, refl, sym, subst, length, length-set, arith}
+use Rattle.plain.specs.Library.{◌*◌, ◌≡◌, refl, sym, subst, length-set, arith}
 use lib.Count.{ones-le}
 use Rattle.plain.specs.Memory.{live_words}
-use Rattle.plain.specs.Reads.{live_count}
 use Rattle.plain.specs.Lists.{from, count}
 use Rattle.liveness.specs.Flags.{live_flags}
 use Rattle.liveness.proofs.WordFlags.{count_turn}

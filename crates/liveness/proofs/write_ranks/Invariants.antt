@@ -1,14 +1,9 @@
 -- `liveness::write_ranks` meets its contract: the counts before the words passed are there.
-use Rattle.plain.specs.Library.{◌-◌, ◌*◌, ◌≤◌, ◌≡◌, refl, sym, subst, length, length-set, arith}
-use lib.Count.{ones-le}
+use Rattle.plain.specs.Library.{◌-◌, ◌*◌, ◌≤◌, ◌≡◌, length}
 use Rattle.plain.specs.Memory.{live_words}
 use Rattle.plain.specs.Reads.{live_count}
-use Rattle.plain.specs.Lists.{from, count}
 use Rattle.liveness.specs.Flags.{live_flags}
-use Rattle.liveness.proofs.WordFlags.{count_turn}
-use Rattle.liveness.specs.Laws.Flags.{count_le}
 use Rattle.liveness.specs.Ranks.{RankedTo}
-use Rattle.liveness.proofs.Ranking.{ranks_start, ranks_turn}
 use Rattle.liveness.proofs.write_ranks.Given as goal
 
 abbrev pub invariant-loop-i : goal.invariant-loop-i

@@ -20,7 +20,7 @@ use Rattle.plain.specs.Devices.{Device, Takes}
 use Rattle.plain.specs.Calls.{strip, short_answer, within, fresh, compaction_slices, compacting, compaction, write_image, reading_slices, asked, reading, read_image}
 use Rattle.plain.proofs.Laws.Booleans.{below_or_not}
 use Rattle.plain.proofs.Laws.Operating.{edge_below}
-use Rattle.plain.proofs.Laws.Cases.{Absent, Removed, Live, live, fault_absent, fault_below}
+use Rattle.plain.proofs.Laws.Cases.{Absent, Removed, Live, fault_absent, fault_below}
 
 -- ---- lent slices
 

@@ -1,6 +1,5 @@
 -- `runs::append_live` meets its contract. The invariant is `Appending`; the measure is how many entries are left.
-use Rattle.plain.specs.Library.{◌<◌, arith}
-use Rattle.runs.proofs.Sweeping.{Appending, append_start, append_below, append_keep, append_more, append_end}
+use Rattle.runs.proofs.Sweeping.{Appending}
 use Rattle.runs.proofs.append_live.Given as goal
 
 abbrev pub invariant-loop-left : goal.invariant-loop-left

@@ -1,6 +1,5 @@
 -- `runs::live_front` meets its contract. The invariant is `Scanning`; the measure is how many entries are left.
-use Rattle.plain.specs.Library.{◌<◌, sym, ◌∙◌, arith, not-false}
-use Rattle.runs.proofs.Scanning.{Scanning, scan_start, scan_below, scan_more, scan_sum, scan_dead, scan_all}
+use Rattle.runs.proofs.Scanning.{Scanning}
 use Rattle.runs.proofs.live_front.Given as goal
 
 abbrev pub invariant-loop-left : goal.invariant-loop-left

@@ -1,5 +1,4 @@
 -- `runs::sweep` meets its contract, from what `live_front`, `shorten` and `append_live` ensure.
-use Rattle.plain.specs.Library.{not-true}
 use Rattle.runs.proofs.Sweeping.{sweep_none, sweep_clean, sweep_shorten, sweep_append, sweep_done}
 use Rattle.runs.proofs.sweep.Goals as goal
 

@@ -1,10 +1,8 @@
 -- `adjacency::clear::clear_left` meets its contract. The loop's invariant is `Clearing`, the measure how many entries remain.
-use Rattle.plain.specs.Library.{length, arith}
+use Rattle.plain.specs.Library.{length}
 use Rattle.cursor.specs.Cursor.{remaining}
 use Rattle.adjacency.specs.Walk.{entries_column, next_column}
-use Rattle.cursor.specs.Laws.Reading.{sought_less}
-use Rattle.adjacency.specs.Laws.Clear.{retired_then}
-use Rattle.adjacency.proofs.Clearing.{Clearing, clearing_start, clearing_next, clearing_on, clearing_end, retired_few}
+use Rattle.adjacency.proofs.Clearing.{Clearing}
 use Rattle.adjacency.proofs.clear.clear_left.Given as goal
 
 abbrev pub invariant-loop-edge : goal.invariant-loop-edge

@@ -1,11 +1,9 @@
 -- `cursor::AdjacencyCursor::count` meets its contract. The loop's invariant is `Walked`, the measure how many entries remain, listed or not.
-use Rattle.plain.specs.Library.{◌+◌, ◌≤◌, sym, ap, ◌∙◌, ⊎_elim, length, arith}
+use Rattle.plain.specs.Library.{◌+◌, ◌≤◌, sym, ap, ◌∙◌, length, arith}
 use Rattle.plain.specs.Numbers.{NONE, LIMIT}
-use Rattle.liveness.specs.Flags.{live_flags}
-use Rattle.cursor.specs.Cursor.{remaining, listed}
 use Rattle.cursor.specs.Laws.Cursor.{turn_less}
 use Rattle.cursor.proofs.Seeking.{seek_start, seek_listed, seek_done}
-use Rattle.cursor.proofs.Reading.{Walked, walked_start, walked_on, walked_skip, walked_end, walked_few}
+use Rattle.cursor.proofs.Reading.{walked_start, walked_on, walked_skip, walked_end, walked_few}
 use Rattle.cursor.proofs.AdjacencyCursor.count.Goals.{At-loop-edge, then-is_listed, else-is_listed}
 use Rattle.cursor.proofs.AdjacencyCursor.count.Goals as goal
 
@@ -40,6 +38,6 @@ loop-edge-preserved c =
     let i = c.loop-edge.invariant in
     let q = c.in-Edge.is in
     elim c.if-is_listed.branch [
-      then-is_listed w ↦ rw w.n-is (walked_on i (seek_listed (seek_start i.ready) c.step-step.ensures q (sym c.is_listed.ensures ∙ w.if-is_listed.true)) q)
-    | else-is_listed w ↦ rw w.n-is (walked_skip i.ready c.step-step.ensures q (sym c.is_listed.ensures ∙ w.if-is_listed.false) i)
+      | then-is_listed w ↦ rw w.n-is (walked_on i (seek_listed (seek_start i.ready) c.step-step.ensures q (sym c.is_listed.ensures ∙ w.if-is_listed.true)) q)
+      | else-is_listed w ↦ rw w.n-is (walked_skip i.ready c.step-step.ensures q (sym c.is_listed.ensures ∙ w.if-is_listed.false) i)
     ]

@@ -1,10 +1,7 @@
 -- `cursor::AdjacencyCursor::find` meets its contract. The loop's invariant is `Searching`, the measure how many entries remain, listed or not.
-use Rattle.plain.specs.Library.{sym, ◌∙◌, ⊎_elim, length, lt_of_lt_of_le, eq-eqb, ne_eqb}
-use Rattle.liveness.specs.Flags.{live_flags}
-use Rattle.cursor.specs.Cursor.{remaining, listed}
+use Rattle.plain.specs.Library.{sym, ◌∙◌, lt_of_lt_of_le, eq-eqb, ne_eqb}
 use Rattle.cursor.specs.Laws.Cursor.{turn_less, step_below}
-use Rattle.cursor.specs.Finding.{ends_at}
-use Rattle.cursor.specs.Laws.Finding.{Searching, search_start, search_found, search_none, search_skip, search_on}
+use Rattle.cursor.specs.Laws.Finding.{search_start, search_found, search_none, search_skip, search_on}
 use Rattle.cursor.proofs.AdjacencyCursor.find.Goals.{then-ends-edge+else-is_listed, else-ends-edge}
 use Rattle.cursor.proofs.AdjacencyCursor.find.Goals as goal
 
@@ -38,6 +35,6 @@ pub loop-edge-preserved : goal.loop-edge-preserved
 loop-edge-preserved c =
     let q = c.in-Edge.is in
     elim c.if-ends-edge.branch [
-      then-ends-edge+else-is_listed w ↦ search_skip c.loop-edge.invariant c.step-step.ensures q (sym w.is_listed.ensures ∙ w.if-is_listed.false)
-    | else-ends-edge w ↦ search_on c.loop-edge.invariant c.step-step.ensures q (ne_eqb _ _ w.if-ends-edge.false)
+      | then-ends-edge+else-is_listed w ↦ search_skip c.loop-edge.invariant c.step-step.ensures q (sym w.is_listed.ensures ∙ w.if-is_listed.false)
+      | else-ends-edge w ↦ search_on c.loop-edge.invariant c.step-step.ensures q (ne_eqb _ _ w.if-ends-edge.false)
     ]

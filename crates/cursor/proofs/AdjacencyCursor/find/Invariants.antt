@@ -1,10 +1,9 @@
 -- `cursor::AdjacencyCursor::find` meets its contract. The loop's invariant is `Searching`, the measure how many entries remain, listed or not.
-use Rattle.plain.specs.Library.{sym, ◌∙◌, ⊎_elim, length, lt_of_lt_of_le, eq-eqb, ne_eqb}
+use Rattle.plain.specs.Library.{length}
 use Rattle.liveness.specs.Flags.{live_flags}
 use Rattle.cursor.specs.Cursor.{remaining, listed}
-use Rattle.cursor.specs.Laws.Cursor.{turn_less, step_below}
 use Rattle.cursor.specs.Finding.{ends_at}
-use Rattle.cursor.specs.Laws.Finding.{Searching, search_start, search_found, search_none, search_skip, search_on}
+use Rattle.cursor.specs.Laws.Finding.{Searching}
 use Rattle.cursor.proofs.AdjacencyCursor.find.Given as goal
 
 abbrev pub invariant-loop-edge : goal.invariant-loop-edge

@@ -1,9 +1,7 @@
 -- `cursor::AdjacencyCursor::seek` meets its contract. The loop's invariant is `Seeking`, the measure how many entries remain.
-use Rattle.plain.specs.Library.{refl, sym, ◌∙◌, length}
-use Rattle.liveness.specs.Flags.{live_flags}
-use Rattle.cursor.specs.Cursor.{remaining, listed}
+use Rattle.plain.specs.Library.{refl, sym, ◌∙◌}
 use Rattle.cursor.specs.Laws.Cursor.{turn_less}
-use Rattle.cursor.proofs.Seeking.{Seeking, seek_listed, seek_done, seek_on}
+use Rattle.cursor.proofs.Seeking.{seek_listed, seek_done, seek_on}
 use Rattle.cursor.proofs.AdjacencyCursor.seek.Goals as goal
 
 pub loop-edge-init : goal.loop-edge-init

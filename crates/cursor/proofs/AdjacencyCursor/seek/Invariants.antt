@@ -1,9 +1,8 @@
 -- `cursor::AdjacencyCursor::seek` meets its contract. The loop's invariant is `Seeking`, the measure how many entries remain.
-use Rattle.plain.specs.Library.{refl, sym, ◌∙◌, length}
+use Rattle.plain.specs.Library.{length}
 use Rattle.liveness.specs.Flags.{live_flags}
 use Rattle.cursor.specs.Cursor.{remaining, listed}
-use Rattle.cursor.specs.Laws.Cursor.{turn_less}
-use Rattle.cursor.proofs.Seeking.{Seeking, seek_listed, seek_done, seek_on}
+use Rattle.cursor.proofs.Seeking.{Seeking}
 use Rattle.cursor.proofs.AdjacencyCursor.seek.Given as goal
 
 abbrev pub invariant-loop-edge : goal.invariant-loop-edge

@@ -1,9 +1,7 @@
 -- `cursor::AdjacencyCursor::total` meets its contract. The loop's invariant is `Summing`, the measure how many entries remain, listed or not.
-use Rattle.plain.specs.Library.{sym, ◌∙◌, ⊎_elim, length, lt_of_lt_of_le, arith}
-use Rattle.liveness.specs.Flags.{live_flags}
-use Rattle.cursor.specs.Cursor.{word, remaining, listed}
+use Rattle.plain.specs.Library.{sym, ◌∙◌, lt_of_lt_of_le, arith}
 use Rattle.cursor.specs.Laws.Cursor.{turn_less, step_below}
-use Rattle.cursor.proofs.Summing.{Summing, summing_start, low_room, high_room, summing_on, summing_skip, summing_end}
+use Rattle.cursor.proofs.Summing.{summing_start, low_room, high_room, summing_on, summing_skip, summing_end}
 use Rattle.cursor.proofs.AdjacencyCursor.total.Goals.{then-is_listed, else-is_listed}
 use Rattle.cursor.proofs.AdjacencyCursor.total.Goals as goal
 
@@ -57,6 +55,6 @@ loop-edge-preserved c =
     let q = c.in-Edge.is in
     let e = c.in-Edge.edge in
     elim c.if-is_listed.branch [
-      then-is_listed w ↦ rw (w.low-is, w.high-is) (summing_on i c.step-step.ensures q (sym c.is_listed.ensures ∙ w.if-is_listed.true) (omega (arith, c.type_inv.lows e)) (omega (arith, c.type_inv.highs e)))
-    | else-is_listed w ↦ rw (w.low-is, w.high-is) (summing_skip i c.step-step.ensures q (sym c.is_listed.ensures ∙ w.if-is_listed.false))
+      | then-is_listed w ↦ rw (w.low-is, w.high-is) (summing_on i c.step-step.ensures q (sym c.is_listed.ensures ∙ w.if-is_listed.true) (omega (arith, c.type_inv.lows e)) (omega (arith, c.type_inv.highs e)))
+      | else-is_listed w ↦ rw (w.low-is, w.high-is) (summing_skip i c.step-step.ensures q (sym c.is_listed.ensures ∙ w.if-is_listed.false))
     ]

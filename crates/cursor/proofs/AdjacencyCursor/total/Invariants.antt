@@ -1,9 +1,8 @@
 -- `cursor::AdjacencyCursor::total` meets its contract. The loop's invariant is `Summing`, the measure how many entries remain, listed or not.
-use Rattle.plain.specs.Library.{sym, ◌∙◌, ⊎_elim, length, lt_of_lt_of_le, arith}
+use Rattle.plain.specs.Library.{length}
 use Rattle.liveness.specs.Flags.{live_flags}
 use Rattle.cursor.specs.Cursor.{word, remaining, listed}
-use Rattle.cursor.specs.Laws.Cursor.{turn_less, step_below}
-use Rattle.cursor.proofs.Summing.{Summing, summing_start, low_room, high_room, summing_on, summing_skip, summing_end}
+use Rattle.cursor.proofs.Summing.{Summing}
 use Rattle.cursor.proofs.AdjacencyCursor.total.Given as goal
 
 abbrev pub invariant-loop-edge : goal.invariant-loop-edge

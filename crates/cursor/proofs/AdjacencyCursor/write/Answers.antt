@@ -1,13 +1,11 @@
 -- `cursor::AdjacencyCursor::write` meets its contract. The loop's invariant is `Writing`, with each entry itself; the measure is how many entries
 -- remain, listed or not.
-use Rattle.plain.specs.Library.{◌+◌, ◌≤◌, sym, ap, ◌∙◌, ⊎_elim, length, arith}
+use Rattle.plain.specs.Library.{◌+◌, ◌≤◌, sym, ap, ◌∙◌, length, arith}
 use mathlib.Core.List.{map-id}
 use Rattle.plain.specs.Numbers.{NONE, LIMIT}
-use Rattle.liveness.specs.Flags.{live_flags}
-use Rattle.cursor.specs.Cursor.{remaining, listed}
 use Rattle.cursor.specs.Laws.Cursor.{turn_less}
 use Rattle.cursor.proofs.Seeking.{seek_start, seek_listed, seek_done}
-use Rattle.cursor.proofs.Reading.{walked_few, walked_end, Writing, writing_start, writing_room, writing_on, writing_skip, writing_end}
+use Rattle.cursor.proofs.Reading.{walked_few, walked_end, writing_start, writing_room, writing_on, writing_skip, writing_end}
 use Rattle.cursor.proofs.AdjacencyCursor.write.Goals.{At-loop-edge, then-is_listed, else-is_listed}
 use Rattle.cursor.proofs.AdjacencyCursor.write.Goals as goal
 
@@ -55,6 +53,6 @@ loop-edge-preserved c =
     let i = c.loop-edge.invariant in
     let q = c.in-Edge.is in
     elim c.if-is_listed.branch [
-      then-is_listed w ↦ rw (w.out-is, w.n-is) (writing_on i (seek_listed (seek_start i.walked.ready) c.step-step.ensures q (sym c.is_listed.ensures ∙ w.if-is_listed.true)) q)
-    | else-is_listed w ↦ rw (w.out-is, w.n-is) (writing_skip i c.step-step.ensures q (sym c.is_listed.ensures ∙ w.if-is_listed.false))
+      | then-is_listed w ↦ rw (w.out-is, w.n-is) (writing_on i (seek_listed (seek_start i.walked.ready) c.step-step.ensures q (sym c.is_listed.ensures ∙ w.if-is_listed.true)) q)
+      | else-is_listed w ↦ rw (w.out-is, w.n-is) (writing_skip i c.step-step.ensures q (sym c.is_listed.ensures ∙ w.if-is_listed.false))
     ]

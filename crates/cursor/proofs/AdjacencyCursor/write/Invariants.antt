@@ -1,13 +1,9 @@
 -- `cursor::AdjacencyCursor::write` meets its contract. The loop's invariant is `Writing`, with each entry itself; the measure is how many entries
 -- remain, listed or not.
-use Rattle.plain.specs.Library.{◌+◌, ◌≤◌, sym, ap, ◌∙◌, ⊎_elim, length, arith}
-use mathlib.Core.List.{map-id}
-use Rattle.plain.specs.Numbers.{NONE, LIMIT}
+use Rattle.plain.specs.Library.{length}
 use Rattle.liveness.specs.Flags.{live_flags}
 use Rattle.cursor.specs.Cursor.{remaining, listed}
-use Rattle.cursor.specs.Laws.Cursor.{turn_less}
-use Rattle.cursor.proofs.Seeking.{seek_start, seek_listed, seek_done}
-use Rattle.cursor.proofs.Reading.{walked_few, walked_end, Writing, writing_start, writing_room, writing_on, writing_skip, writing_end}
+use Rattle.cursor.proofs.Reading.{Writing}
 use Rattle.cursor.proofs.AdjacencyCursor.write.Given as goal
 
 abbrev pub invariant-loop-edge : goal.invariant-loop-edge

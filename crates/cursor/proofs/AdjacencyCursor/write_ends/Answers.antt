@@ -1,12 +1,10 @@
 -- `cursor::AdjacencyCursor::write_ends` meets its contract. The loop's invariant is `Writing`, with the end of each entry; the measure is how many
 -- entries remain, listed or not.
-use Rattle.plain.specs.Library.{◌+◌, ◌≤◌, sym, ◌∙◌, ⊎_elim, length, lt_of_lt_of_le, arith}
+use Rattle.plain.specs.Library.{◌+◌, ◌≤◌, sym, ◌∙◌, lt_of_lt_of_le, arith}
 use Rattle.plain.specs.Numbers.{NONE, LIMIT}
-use Rattle.liveness.specs.Flags.{live_flags}
-use Rattle.cursor.specs.Cursor.{word, remaining, listed}
 use Rattle.cursor.specs.Laws.Cursor.{turn_less, step_below}
 use Rattle.cursor.proofs.Seeking.{seek_start, seek_listed, seek_done}
-use Rattle.cursor.proofs.Reading.{walked_few, Writing, writing_start, writing_room, writing_on, writing_skip, writing_end}
+use Rattle.cursor.proofs.Reading.{walked_few, writing_start, writing_room, writing_on, writing_skip, writing_end}
 use Rattle.cursor.proofs.AdjacencyCursor.write_ends.Goals.{At-loop-edge, then-is_listed, else-is_listed}
 use Rattle.cursor.proofs.AdjacencyCursor.write_ends.Goals as goal
 
@@ -57,6 +55,6 @@ loop-edge-preserved c =
     let i = c.loop-edge.invariant in
     let q = c.in-Edge.is in
     elim c.if-is_listed.branch [
-      then-is_listed w ↦ rw (w.out-is, w.n-is) (writing_on i (seek_listed (seek_start i.walked.ready) c.step-step.ensures q (sym c.is_listed.ensures ∙ w.if-is_listed.true)) q)
-    | else-is_listed w ↦ rw (w.out-is, w.n-is) (writing_skip i c.step-step.ensures q (sym c.is_listed.ensures ∙ w.if-is_listed.false))
+      | then-is_listed w ↦ rw (w.out-is, w.n-is) (writing_on i (seek_listed (seek_start i.walked.ready) c.step-step.ensures q (sym c.is_listed.ensures ∙ w.if-is_listed.true)) q)
+      | else-is_listed w ↦ rw (w.out-is, w.n-is) (writing_skip i c.step-step.ensures q (sym c.is_listed.ensures ∙ w.if-is_listed.false))
     ]

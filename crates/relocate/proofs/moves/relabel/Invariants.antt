@@ -1,6 +1,5 @@
 -- `relocate::moves::relabel` meets its contract. The invariant is `Relabelling`; the measure is how many entries are left.
-use Rattle.plain.specs.Library.{◌*◌, ◌≤◌, ◌<◌, length, arith}
-use Rattle.relocate.proofs.Moving.{Relabelling, relabel_start, relabel_below, relabel_more, relabel_end}
+use Rattle.relocate.proofs.Moving.{Relabelling}
 use Rattle.relocate.proofs.moves.relabel.Given as goal
 
 abbrev pub invariant-loop-left : goal.invariant-loop-left

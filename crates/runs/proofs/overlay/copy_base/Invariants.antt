@@ -1,6 +1,6 @@
 -- `runs::overlay::copy_base` meets its contract. The invariant is `Copying`; the measure is how many entries are to come.
-use Rattle.plain.specs.Library.{◌-◌, ◌<◌, arith}
-use Rattle.runs.proofs.Starting.{Copying, copy_based, copy_start, copy_keep, copy_more, copy_end}
+use Rattle.plain.specs.Library.{◌-◌}
+use Rattle.runs.proofs.Starting.{Copying}
 use Rattle.runs.proofs.overlay.copy_base.Given as goal
 
 abbrev pub invariant-loop-at : goal.invariant-loop-at

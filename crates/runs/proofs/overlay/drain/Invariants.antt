@@ -1,6 +1,6 @@
 -- `runs::overlay::drain` meets its contract. The invariant is `Draining`; the measure is the length of what is to come of the ring.
-use Rattle.plain.specs.Library.{◌<◌, ◌∙◌, length, arith}
-use Rattle.runs.proofs.Draining.{Draining, to_come, drain_readable, drain_none, drain_start, drain_below, drain_keep, drain_more, drain_less, drain_last}
+use Rattle.plain.specs.Library.{length}
+use Rattle.runs.proofs.Draining.{Draining, to_come}
 use Rattle.runs.proofs.overlay.drain.Given as goal
 
 abbrev pub invariant-loop-next : goal.invariant-loop-next
