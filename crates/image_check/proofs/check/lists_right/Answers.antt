@@ -1,0 +1,46 @@
+-- `image_check::check::lists_right` meets its contract. The loop's invariant: the entries from `at` on decide, those before are marked. The measure is the number of
+-- entries left.
+use Rattle.plain.specs.Library.{sym, arith}
+use Rattle.image_check.proofs.Checking.{column_fewer}
+use Rattle.image_check.proofs.Ordering.{order_start, order_room, order_past, order_descends, order_marked, order_more, order_done}
+use Rattle.image_check.proofs.check.lists_right.Goals as goal
+
+pub loop-i-init : goal.loop-i-init
+loop-i-init c = order_start _ _ _ _ _ _ c.requires.within
+
+pub read_field-edge-requires : goal.read_field-edge-requires
+read_field-edge-requires c = let room = order_room c.loop-i.invariant c.loop-i-test.true in omega (arith, c.requires)
+
+pub returns-then-edge-m : goal.returns-then-edge-m
+returns-then-edge-m c =
+    order_past c.loop-i.invariant c.loop-i-test.true c.read_field-edge.ensures c.if-edge-m.true
+
+pub field_of-end-requires : goal.field_of-end-requires
+field_of-end-requires c = column_fewer _ c.requires.ends c.if-edge-m.false
+
+pub returns-then-end-last : goal.returns-then-end-last
+returns-then-end-last c =
+    order_descends c.loop-i.invariant c.loop-i-test.true c.read_field-edge.ensures c.field_of-end.ensures c.if-end-last.true
+
+pub slice_bounds-mark-end : goal.slice_bounds-mark-end
+slice_bounds-mark-end c = sym c.loop-i.invariant.long
+
+pub mark-requires : goal.mark-requires
+mark-requires c = omega (arith, c.loop-i.invariant.long)
+
+pub returns-then-not-mark : goal.returns-then-not-mark
+returns-then-not-mark c =
+    order_marked c.loop-i.invariant c.loop-i-test.true c.read_field-edge.ensures c.mark.ensures c.if-not-mark.true
+
+pub overflow_add-at : goal.overflow_add-at
+overflow_add-at c =
+    let room = order_room c.loop-i.invariant c.loop-i-test.true in
+    omega (arith, c.requires)
+
+pub loop-i-preserved : goal.loop-i-preserved
+loop-i-preserved c =
+    order_more c.loop-i.invariant c.loop-i-test.true c.read_field-edge.ensures c.field_of-end.ensures c.if-edge-m.false c.if-end-last.false
+    c.mark.ensures c.if-not-mark.false c.mark.auto.seen
+
+pub returns : goal.returns
+returns c = order_done c.loop-i.invariant c.loop-i-test.false
