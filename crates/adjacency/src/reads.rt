@@ -39,10 +39,10 @@ pub fn degree<'a>(
     direction: TraversalDirection,
     node: u32,
 ) -> usize
-    requires checked { Checked (lent counts nodes lows highs live_nodes live_edges outgoing incoming) }
+    requires checked { Checked (lent counts nodes.now lows.now highs.now live_nodes.now live_edges.now outgoing.now incoming.now) }
     requires node_lt_bound { node < counts.nodes.bound }
     ensures { result ≡ length (list_of direction (lists
-        (at_entry counts nodes lows highs live_nodes live_edges outgoing incoming)) node) }
+        (at_entry counts nodes.now lows.now highs.now live_nodes.now live_edges.now outgoing.now incoming.now)) node) }
 {
     let slots = counts.nodes;
     let bound = slots.bound as usize;
@@ -65,10 +65,10 @@ pub fn total<'a>(
     direction: TraversalDirection,
     node: u32,
 ) -> Sums
-    requires checked { Checked (lent counts nodes lows highs live_nodes live_edges outgoing incoming) }
+    requires checked { Checked (lent counts nodes.now lows.now highs.now live_nodes.now live_edges.now outgoing.now incoming.now) }
     requires node_lt_bound { node < counts.nodes.bound }
     ensures { result ≡ sums_in direction (lists
-        (at_entry counts nodes lows highs live_nodes live_edges outgoing incoming)) node }
+        (at_entry counts nodes.now lows.now highs.now live_nodes.now live_edges.now outgoing.now incoming.now)) node }
 {
     let slots = counts.nodes;
     let bound = slots.bound as usize;

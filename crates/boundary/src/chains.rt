@@ -21,7 +21,7 @@ pub extern "C" fn lot_nearest(
     chain: &mut [u32],
 ) -> Answer
     ensures { NearestOf
-        (at_entry counts nodes lows highs live_nodes live_edges outgoing incoming)
+        (at_entry counts nodes.now lows.now highs.now live_nodes.now live_edges.now outgoing.now incoming.now)
         first second work.old chain.old result work.new chain.new }
 {
     nearest::nearest(

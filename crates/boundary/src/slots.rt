@@ -20,7 +20,7 @@ pub extern "C" fn lot_node_payload(
     node: u32,
 ) -> Answer
     ensures { Answered
-        (at_entry counts nodes lows highs live_nodes live_edges outgoing incoming)
+        (at_entry counts nodes.now lows.now highs.now live_nodes.now live_edges.now outgoing.now incoming.now)
         (λ w. node_payload (lists w) node) result }
 {
     view::slots::node_payload(
@@ -41,7 +41,7 @@ pub extern "C" fn lot_edge_record(
     edge: u32,
 ) -> Record
     ensures { Recorded
-        (at_entry counts nodes lows highs live_nodes live_edges outgoing incoming)
+        (at_entry counts nodes.now lows.now highs.now live_nodes.now live_edges.now outgoing.now incoming.now)
         (λ w. edge_record (lists w) edge) result }
 {
     view::slots::edge_record(
@@ -62,7 +62,7 @@ pub extern "C" fn lot_live_edge_record(
     edge: u32,
 ) -> Record
     ensures { Recorded
-        (at_entry counts nodes lows highs live_nodes live_edges outgoing incoming)
+        (at_entry counts nodes.now lows.now highs.now live_nodes.now live_edges.now outgoing.now incoming.now)
         (λ w. live_edge_record (lists w) edge) result }
 {
     view::slots::live_edge_record(
@@ -83,7 +83,7 @@ pub extern "C" fn lot_contains_node(
     node: u32,
 ) -> Answer
     ensures { Answered
-        (at_entry counts nodes lows highs live_nodes live_edges outgoing incoming)
+        (at_entry counts nodes.now lows.now highs.now live_nodes.now live_edges.now outgoing.now incoming.now)
         (λ w. contains_node (lists w) node) result }
 {
     view::slots::contains_node(
@@ -104,7 +104,7 @@ pub extern "C" fn lot_contains_edge(
     edge: u32,
 ) -> Answer
     ensures { Answered
-        (at_entry counts nodes lows highs live_nodes live_edges outgoing incoming)
+        (at_entry counts nodes.now lows.now highs.now live_nodes.now live_edges.now outgoing.now incoming.now)
         (λ w. contains_edge (lists w) edge) result }
 {
     view::slots::contains_edge(

@@ -18,7 +18,7 @@ pub extern "C" fn lot_fresh(
     incoming: &[u32],
 ) -> Changed
     ensures { FreshOf box
-        (at_entry result.counts nodes lows highs live_nodes live_edges outgoing incoming)
+        (at_entry result.counts nodes.now lows.now highs.now live_nodes.now live_edges.now outgoing.now incoming.now)
         result.number result.value }
 {
     strip::fresh(
@@ -37,7 +37,7 @@ pub extern "C" fn lot_skid_fresh(
     incoming: &[u32],
 ) -> Changed
     ensures { FreshOf skid
-        (at_entry result.counts nodes lows highs live_nodes live_edges outgoing incoming)
+        (at_entry result.counts nodes.now lows.now highs.now live_nodes.now live_edges.now outgoing.now incoming.now)
         result.number result.value }
 {
     strip::skid_fresh(
@@ -59,9 +59,9 @@ pub extern "C" fn lot_strip(
     answers: &mut [u32],
 ) -> Changed
     ensures { StripOf
-        (at_entry counts nodes lows highs live_nodes live_edges outgoing incoming)
+        (at_entry counts nodes.old lows.old highs.old live_nodes.old live_edges.old outgoing.old incoming.old)
         words.now answers.old result.number result.value
-        (at_exit result.counts nodes lows highs live_nodes live_edges outgoing incoming)
+        (at_exit result.counts nodes.new lows.new highs.new live_nodes.new live_edges.new outgoing.new incoming.new)
         answers.new }
 {
     strip::strip(

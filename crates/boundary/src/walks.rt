@@ -21,7 +21,7 @@ pub extern "C" fn lot_out_degree<'a>(
     node: u32,
 ) -> Answer
     ensures { Answered
-        (at_entry counts nodes lows highs live_nodes live_edges outgoing incoming)
+        (at_entry counts nodes.now lows.now highs.now live_nodes.now live_edges.now outgoing.now incoming.now)
         (λ w. degree_of Outgoing (lists w) node) result }
 {
     view_walks::degree(
@@ -51,7 +51,7 @@ pub extern "C" fn lot_in_degree<'a>(
     node: u32,
 ) -> Answer
     ensures { Answered
-        (at_entry counts nodes lows highs live_nodes live_edges outgoing incoming)
+        (at_entry counts nodes.now lows.now highs.now live_nodes.now live_edges.now outgoing.now incoming.now)
         (λ w. degree_of Incoming (lists w) node) result }
 {
     view_walks::degree(
@@ -81,7 +81,7 @@ pub extern "C" fn lot_out_total<'a>(
     node: u32,
 ) -> Total
     ensures { Totalled
-        (at_entry counts nodes lows highs live_nodes live_edges outgoing incoming)
+        (at_entry counts nodes.now lows.now highs.now live_nodes.now live_edges.now outgoing.now incoming.now)
         (λ w. total_of Outgoing (lists w) node) result }
 {
     view_walks::total(
@@ -111,7 +111,7 @@ pub extern "C" fn lot_in_total<'a>(
     node: u32,
 ) -> Total
     ensures { Totalled
-        (at_entry counts nodes lows highs live_nodes live_edges outgoing incoming)
+        (at_entry counts nodes.now lows.now highs.now live_nodes.now live_edges.now outgoing.now incoming.now)
         (λ w. total_of Incoming (lists w) node) result }
 {
     view_walks::total(
@@ -142,7 +142,7 @@ pub extern "C" fn lot_outgoing<'a>(
     slots: &mut [u32],
 ) -> Answer
     ensures { Replied
-        (at_entry counts nodes lows highs live_nodes live_edges outgoing incoming)
+        (at_entry counts nodes.now lows.now highs.now live_nodes.now live_edges.now outgoing.now incoming.now)
         (λ w room. walk_of Outgoing (lists w) node room) slots.old result slots.new }
 {
     view_walks::walk(
@@ -174,7 +174,7 @@ pub extern "C" fn lot_incoming<'a>(
     slots: &mut [u32],
 ) -> Answer
     ensures { Replied
-        (at_entry counts nodes lows highs live_nodes live_edges outgoing incoming)
+        (at_entry counts nodes.now lows.now highs.now live_nodes.now live_edges.now outgoing.now incoming.now)
         (λ w room. walk_of Incoming (lists w) node room) slots.old result slots.new }
 {
     view_walks::walk(
@@ -206,7 +206,7 @@ pub extern "C" fn lot_successors<'a>(
     slots: &mut [u32],
 ) -> Answer
     ensures { Replied
-        (at_entry counts nodes lows highs live_nodes live_edges outgoing incoming)
+        (at_entry counts nodes.now lows.now highs.now live_nodes.now live_edges.now outgoing.now incoming.now)
         (λ w room. neighbors_of Outgoing (lists w) node room) slots.old result slots.new }
 {
     view_walks::neighbors(
@@ -238,7 +238,7 @@ pub extern "C" fn lot_predecessors<'a>(
     slots: &mut [u32],
 ) -> Answer
     ensures { Replied
-        (at_entry counts nodes lows highs live_nodes live_edges outgoing incoming)
+        (at_entry counts nodes.now lows.now highs.now live_nodes.now live_edges.now outgoing.now incoming.now)
         (λ w room. neighbors_of Incoming (lists w) node room) slots.old result slots.new }
 {
     view_walks::neighbors(
@@ -270,7 +270,7 @@ pub extern "C" fn lot_find(
     second: u32,
 ) -> Answer
     ensures { Answered
-        (at_entry counts nodes lows highs live_nodes live_edges outgoing incoming)
+        (at_entry counts nodes.now lows.now highs.now live_nodes.now live_edges.now outgoing.now incoming.now)
         (λ w. find_of (lists w) first second) result }
 {
     view_walks::finding::find(

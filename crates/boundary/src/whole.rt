@@ -22,7 +22,7 @@ pub extern "C" fn lot_check(
     outgoing: &[u32],
     incoming: &[u32],
 ) -> Answer
-    ensures { result ≡ check_answer (broken (at_entry counts nodes lows highs live_nodes live_edges outgoing incoming)) }
+    ensures { result ≡ check_answer (broken (at_entry counts nodes.now lows.now highs.now live_nodes.now live_edges.now outgoing.now incoming.now)) }
 {
     validate::check(
         counts, nodes, lows, highs, live_nodes, live_edges, outgoing, incoming,
@@ -41,7 +41,7 @@ pub extern "C" fn lot_node_bound(
     incoming: &[u32],
 ) -> Answer
     ensures { Answered
-        (at_entry counts nodes lows highs live_nodes live_edges outgoing incoming)
+        (at_entry counts nodes.now lows.now highs.now live_nodes.now live_edges.now outgoing.now incoming.now)
         (λ w. node_bound_answer (lists w)) result }
 {
     view::whole::node_bound(
@@ -61,7 +61,7 @@ pub extern "C" fn lot_edge_bound(
     incoming: &[u32],
 ) -> Answer
     ensures { Answered
-        (at_entry counts nodes lows highs live_nodes live_edges outgoing incoming)
+        (at_entry counts nodes.now lows.now highs.now live_nodes.now live_edges.now outgoing.now incoming.now)
         (λ w. edge_bound_answer (lists w)) result }
 {
     view::whole::edge_bound(
@@ -81,7 +81,7 @@ pub extern "C" fn lot_node_count(
     incoming: &[u32],
 ) -> Answer
     ensures { Answered
-        (at_entry counts nodes lows highs live_nodes live_edges outgoing incoming)
+        (at_entry counts nodes.now lows.now highs.now live_nodes.now live_edges.now outgoing.now incoming.now)
         (λ w. node_count (lists w)) result }
 {
     view::whole::node_count(
@@ -101,7 +101,7 @@ pub extern "C" fn lot_edge_count(
     incoming: &[u32],
 ) -> Answer
     ensures { Answered
-        (at_entry counts nodes lows highs live_nodes live_edges outgoing incoming)
+        (at_entry counts nodes.now lows.now highs.now live_nodes.now live_edges.now outgoing.now incoming.now)
         (λ w. edge_count (lists w)) result }
 {
     view::whole::edge_count(
@@ -121,7 +121,7 @@ pub extern "C" fn lot_is_empty(
     incoming: &[u32],
 ) -> Answer
     ensures { Answered
-        (at_entry counts nodes lows highs live_nodes live_edges outgoing incoming)
+        (at_entry counts nodes.now lows.now highs.now live_nodes.now live_edges.now outgoing.now incoming.now)
         (λ w. is_empty (lists w)) result }
 {
     view::whole::is_empty(
@@ -141,7 +141,7 @@ pub extern "C" fn lot_is_compact(
     incoming: &[u32],
 ) -> Answer
     ensures { Answered
-        (at_entry counts nodes lows highs live_nodes live_edges outgoing incoming)
+        (at_entry counts nodes.now lows.now highs.now live_nodes.now live_edges.now outgoing.now incoming.now)
         (λ w. is_compact (state_of (shape_of w))) result }
 {
     view::compactness::is_compact(
@@ -162,7 +162,7 @@ pub extern "C" fn lot_node_ids(
     slots: &mut [u32],
 ) -> Answer
     ensures { Replied
-        (at_entry counts nodes lows highs live_nodes live_edges outgoing incoming)
+        (at_entry counts nodes.now lows.now highs.now live_nodes.now live_edges.now outgoing.now incoming.now)
         (λ w room. node_slots (lists w) room) slots.old result slots.new }
 {
     view::ids::node_ids(
@@ -183,7 +183,7 @@ pub extern "C" fn lot_edge_ids(
     slots: &mut [u32],
 ) -> Answer
     ensures { Replied
-        (at_entry counts nodes lows highs live_nodes live_edges outgoing incoming)
+        (at_entry counts nodes.now lows.now highs.now live_nodes.now live_edges.now outgoing.now incoming.now)
         (λ w room. edge_slots (lists w) room) slots.old result slots.new }
 {
     view::ids::edge_ids(

@@ -20,9 +20,9 @@ pub extern "C" fn lot_compact(
     work: &mut [u32],
 ) -> Changed
     ensures { CompactOf
-        (at_entry counts nodes lows highs live_nodes live_edges outgoing incoming)
+        (at_entry counts nodes.old lows.old highs.old live_nodes.old live_edges.old outgoing.old incoming.old)
         node_map.old edge_map.old work.old result.number result.value
-        (at_exit result.counts nodes lows highs live_nodes live_edges outgoing incoming)
+        (at_exit result.counts nodes.new lows.new highs.new live_nodes.new live_edges.new outgoing.new incoming.new)
         node_map.new edge_map.new work.new }
 {
     compact::compact(

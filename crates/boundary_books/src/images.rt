@@ -21,7 +21,7 @@ pub extern "C" fn lot_write_image(
     bytes: &mut [u8],
 ) -> Answer
     ensures { WriteOf
-        (at_entry counts nodes lows highs live_nodes live_edges outgoing incoming)
+        (at_entry counts nodes.now lows.now highs.now live_nodes.now live_edges.now outgoing.now incoming.now)
         work.old bytes.old result work.new bytes.new }
 {
     image_write::write_image(
@@ -42,9 +42,9 @@ pub extern "C" fn lot_read_image(
     bytes: &[u8],
 ) -> Changed
     ensures { ReadOf box
-        (at_entry counts nodes lows highs live_nodes live_edges outgoing incoming)
+        (at_entry counts nodes.old lows.old highs.old live_nodes.old live_edges.old outgoing.old incoming.old)
         bytes.now result.number result.value
-        (at_exit result.counts nodes lows highs live_nodes live_edges outgoing incoming) }
+        (at_exit result.counts nodes.new lows.new highs.new live_nodes.new live_edges.new outgoing.new incoming.new) }
 {
     image_read::read_image(
         counts, nodes, lows, highs, live_nodes, live_edges, outgoing, incoming, bytes,
@@ -64,9 +64,9 @@ pub extern "C" fn lot_skid_read_image(
     bytes: &[u8],
 ) -> Changed
     ensures { ReadOf skid
-        (at_entry counts nodes lows highs live_nodes live_edges outgoing incoming)
+        (at_entry counts nodes.old lows.old highs.old live_nodes.old live_edges.old outgoing.old incoming.old)
         bytes.now result.number result.value
-        (at_exit result.counts nodes lows highs live_nodes live_edges outgoing incoming) }
+        (at_exit result.counts nodes.new lows.new highs.new live_nodes.new live_edges.new outgoing.new incoming.new) }
 {
     image_read::skid_read_image(
         counts, nodes, lows, highs, live_nodes, live_edges, outgoing, incoming, bytes,

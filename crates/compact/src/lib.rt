@@ -41,11 +41,11 @@ fn drop_dead(
     node_map: &[u32],
     work: &[u32],
 ) -> Counts
-    requires { Droppable (lent counts nodes lows highs live_nodes live_edges outgoing incoming) node_map.now work.now }
+    requires { Droppable (lent counts nodes.old lows.old highs.old live_nodes.old live_edges.old outgoing.old incoming.old) node_map.now work.now }
     ensures { Dropped
-        (at_entry counts nodes lows highs live_nodes live_edges outgoing incoming)
+        (at_entry counts nodes.old lows.old highs.old live_nodes.old live_edges.old outgoing.old incoming.old)
         node_map.now work.now
-        (at_exit result nodes lows highs live_nodes live_edges outgoing incoming) }
+        (at_exit result nodes.new lows.new highs.new live_nodes.new live_edges.new outgoing.new incoming.new) }
 {
     let node_slots = counts.nodes;
     let edge_slots = counts.edges;
@@ -98,11 +98,11 @@ fn settle(
     edge_map: &mut [u32],
     work: &mut [u32],
 ) -> Counts
-    requires { Settleable (lent counts nodes lows highs live_nodes live_edges outgoing incoming) node_map.old edge_map.old work.old }
+    requires { Settleable (lent counts nodes.old lows.old highs.old live_nodes.old live_edges.old outgoing.old incoming.old) node_map.old edge_map.old work.old }
     ensures { Settling
-        (at_entry counts nodes lows highs live_nodes live_edges outgoing incoming)
+        (at_entry counts nodes.old lows.old highs.old live_nodes.old live_edges.old outgoing.old incoming.old)
         node_map.old edge_map.old work.old
-        (at_exit result nodes lows highs live_nodes live_edges outgoing incoming)
+        (at_exit result nodes.new lows.new highs.new live_nodes.new live_edges.new outgoing.new incoming.new)
         node_map.new edge_map.new work.new }
 {
     let node_slots = counts.nodes;
@@ -169,9 +169,9 @@ pub fn compact(
     work: &mut [u32],
 ) -> Changed
     ensures { CompactOf
-        (at_entry counts nodes lows highs live_nodes live_edges outgoing incoming)
+        (at_entry counts nodes.old lows.old highs.old live_nodes.old live_edges.old outgoing.old incoming.old)
         node_map.old edge_map.old work.old result.number result.value
-        (at_exit result.counts nodes lows highs live_nodes live_edges outgoing incoming)
+        (at_exit result.counts nodes.new lows.new highs.new live_nodes.new live_edges.new outgoing.new incoming.new)
         node_map.new edge_map.new work.new }
 {
     let rule = validate::judging::judge(

@@ -216,9 +216,9 @@ fn place(
 ) -> Counts
     requires { Accepted (lengths (length nodes.old) (length lows.old) (length highs.old) (length live_nodes.old) (length live_edges.old) (length outgoing.old) (length incoming.old)) bytes.now }
     ensures { ImagePlaced
-        (at_entry result nodes lows highs live_nodes live_edges outgoing incoming)
+        (at_entry result nodes.old lows.old highs.old live_nodes.old live_edges.old outgoing.old incoming.old)
         bytes.now
-        (at_exit result nodes lows highs live_nodes live_edges outgoing incoming) }
+        (at_exit result nodes.new lows.new highs.new live_nodes.new live_edges.new outgoing.new incoming.new) }
 {
     let count_nodes = bits::read_field(bytes, 0, places::COUNT_WIDTH);
     let count_edges = bits::read_field(bytes, places::EDGE_COUNT_START, places::COUNT_WIDTH);
@@ -268,9 +268,9 @@ fn read_within(
 ) -> Changed
     requires { Proper (device_of limits) }
     ensures { ReadOf (device_of limits)
-        (at_entry counts nodes lows highs live_nodes live_edges outgoing incoming)
+        (at_entry counts nodes.old lows.old highs.old live_nodes.old live_edges.old outgoing.old incoming.old)
         bytes.now result.number result.value
-        (at_exit result.counts nodes lows highs live_nodes live_edges outgoing incoming) }
+        (at_exit result.counts nodes.new lows.new highs.new live_nodes.new live_edges.new outgoing.new incoming.new) }
 {
     let told = answer(
         limits,
@@ -317,9 +317,9 @@ pub fn read_image(
     bytes: &[u8],
 ) -> Changed
     ensures { ReadOf box
-        (at_entry counts nodes lows highs live_nodes live_edges outgoing incoming)
+        (at_entry counts nodes.old lows.old highs.old live_nodes.old live_edges.old outgoing.old incoming.old)
         bytes.now result.number result.value
-        (at_exit result.counts nodes lows highs live_nodes live_edges outgoing incoming) }
+        (at_exit result.counts nodes.new lows.new highs.new live_nodes.new live_edges.new outgoing.new incoming.new) }
 {
     read_within(
         Limits::BOX,
@@ -348,9 +348,9 @@ pub fn skid_read_image(
     bytes: &[u8],
 ) -> Changed
     ensures { ReadOf skid
-        (at_entry counts nodes lows highs live_nodes live_edges outgoing incoming)
+        (at_entry counts nodes.old lows.old highs.old live_nodes.old live_edges.old outgoing.old incoming.old)
         bytes.now result.number result.value
-        (at_exit result.counts nodes lows highs live_nodes live_edges outgoing incoming) }
+        (at_exit result.counts nodes.new lows.new highs.new live_nodes.new live_edges.new outgoing.new incoming.new) }
 {
     read_within(
         Limits::SKID,

@@ -206,9 +206,9 @@ fn write_slots(
     width: u32,
     bytes: &mut [u8],
 ) -> Pen
-    requires { SlotsFit (lent counts nodes lows highs live_nodes live_edges outgoing incoming) width bytes.old }
+    requires { SlotsFit (lent counts nodes.now lows.now highs.now live_nodes.now live_edges.now outgoing.now incoming.now) width bytes.old }
     ensures { Penned bytes.old fresh
-        (slot_bits width (survivors (lists (at_entry counts nodes lows highs live_nodes live_edges outgoing incoming)))) bytes.new result }
+        (slot_bits width (survivors (lists (at_entry counts nodes.now lows.now highs.now live_nodes.now live_edges.now outgoing.now incoming.now)))) bytes.new result }
 {
     let node_slots = counts.nodes;
     let edge_slots = counts.edges;
@@ -265,9 +265,9 @@ fn write_survivors(
     work: &[u32],
     bytes: &mut [u8],
 )
-    requires { ImageFits (lent counts nodes lows highs live_nodes live_edges outgoing incoming) work.now bytes.old }
+    requires { ImageFits (lent counts nodes.now lows.now highs.now live_nodes.now live_edges.now outgoing.now incoming.now) work.now bytes.old }
     ensures { bytes.new ≡ written
-        (image (survivors (lists (at_entry counts nodes lows highs live_nodes live_edges outgoing incoming)))) bytes.old }
+        (image (survivors (lists (at_entry counts nodes.now lows.now highs.now live_nodes.now live_edges.now outgoing.now incoming.now)))) bytes.old }
 {
     let node_slots = counts.nodes;
     let edge_slots = counts.edges;
@@ -304,7 +304,7 @@ pub fn write_image(
     bytes: &mut [u8],
 ) -> Answer
     ensures { WriteOf
-        (at_entry counts nodes lows highs live_nodes live_edges outgoing incoming)
+        (at_entry counts nodes.now lows.now highs.now live_nodes.now live_edges.now outgoing.now incoming.now)
         work.old bytes.old result work.new bytes.new }
 {
     let rule = judge(

@@ -44,12 +44,12 @@ pub fn join(
     second_edge_map: &mut [u32],
 ) -> Changed
     ensures { JoinOf
-        (at_entry first first_nodes first_lows first_highs first_live_nodes first_live_edges first_outgoing first_incoming)
-        (at_entry second second_nodes second_lows second_highs second_live_nodes second_live_edges second_outgoing second_incoming)
-        (at_entry no_counts nodes lows highs live_nodes live_edges outgoing incoming)
+        (at_entry first first_nodes.now first_lows.now first_highs.now first_live_nodes.now first_live_edges.now first_outgoing.now first_incoming.now)
+        (at_entry second second_nodes.now second_lows.now second_highs.now second_live_nodes.now second_live_edges.now second_outgoing.now second_incoming.now)
+        (at_entry no_counts nodes.old lows.old highs.old live_nodes.old live_edges.old outgoing.old incoming.old)
         (lent_maps first_node_map.old first_edge_map.old second_node_map.old second_edge_map.old)
         result.number result.value
-        (at_exit result.counts nodes lows highs live_nodes live_edges outgoing incoming)
+        (at_exit result.counts nodes.new lows.new highs.new live_nodes.new live_edges.new outgoing.new incoming.new)
         (lent_maps first_node_map.new first_edge_map.new second_node_map.new second_edge_map.new) }
 {
     let rule_first = judging::judge(

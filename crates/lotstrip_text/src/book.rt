@@ -25,7 +25,7 @@ fn run_strip(
 ) -> Counts
     requires { Bookable nodes.old lows.old highs.old live_nodes.old live_edges.old outgoing.old incoming.old words.now answers.old }
     ensures { Booked words.now answers.old
-        (at_exit result nodes lows highs live_nodes live_edges outgoing incoming)
+        (at_exit result nodes.new lows.new highs.new live_nodes.new live_edges.new outgoing.new incoming.new)
         answers.new }
 {
     let made = strip::fresh(
@@ -59,9 +59,9 @@ fn print_image(
     incoming: &[u32; AXIS],
     bytes: &mut [u8],
 ) -> usize
-    requires { Printable (lent counts nodes lows highs live_nodes live_edges outgoing incoming) bytes.old }
+    requires { Printable (lent counts nodes.now lows.now highs.now live_nodes.now live_edges.now outgoing.now incoming.now) bytes.old }
     ensures { Printed
-        (at_entry counts nodes lows highs live_nodes live_edges outgoing incoming)
+        (at_entry counts nodes.now lows.now highs.now live_nodes.now live_edges.now outgoing.now incoming.now)
         bytes.old result bytes.new }
 {
     let mut work: [u32; WORK] = [0; WORK];

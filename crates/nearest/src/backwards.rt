@@ -123,9 +123,9 @@ fn drain(
     goal: u32,
     work: &mut [u32],
 )
-    requires { Drain (lent counts nodes lows highs live_nodes live_edges outgoing incoming) first goal work.old }
+    requires { Drain (lent counts nodes.now lows.now highs.now live_nodes.now live_edges.now outgoing.now incoming.now) first goal work.old }
     ensures { Drained
-        (at_entry counts nodes lows highs live_nodes live_edges outgoing incoming)
+        (at_entry counts nodes.now lows.now highs.now live_nodes.now live_edges.now outgoing.now incoming.now)
         first goal work.old work.new }
 {
     let mut head: usize = 0;
@@ -176,9 +176,9 @@ pub fn search(
     goal: u32,
     work: &mut [u32],
 ) -> u32
-    requires { Asked (lent counts nodes lows highs live_nodes live_edges outgoing incoming) first goal work.old }
+    requires { Asked (lent counts nodes.now lows.now highs.now live_nodes.now live_edges.now outgoing.now incoming.now) first goal work.old }
     ensures { Sought
-        (at_entry counts nodes lows highs live_nodes live_edges outgoing incoming)
+        (at_entry counts nodes.now lows.now highs.now live_nodes.now live_edges.now outgoing.now incoming.now)
         first goal work.old work.new result }
 {
     index::fill_words(work, 0, nodes.len(), 0);

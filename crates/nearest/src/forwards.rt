@@ -106,9 +106,9 @@ pub fn write_way(
     from: u32,
     chain: &mut [u32],
 )
-    requires { Forward (lent counts nodes lows highs live_nodes live_edges outgoing incoming) work.now goal left from chain.old }
+    requires { Forward (lent counts nodes.now lows.now highs.now live_nodes.now live_edges.now outgoing.now incoming.now) work.now goal left from chain.old }
     ensures { chain.new ≡ written (way_in
-        (at_entry counts nodes lows highs live_nodes live_edges outgoing incoming)
+        (at_entry counts nodes.now lows.now highs.now live_nodes.now live_edges.now outgoing.now incoming.now)
         work.now left from) chain.old }
 {
     let mut lot = from;

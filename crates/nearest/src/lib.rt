@@ -33,7 +33,7 @@ fn refusal(
     room: usize,
 ) -> Answer
     ensures { Refused
-        (at_entry counts nodes lows highs live_nodes live_edges outgoing incoming)
+        (at_entry counts nodes.now lows.now highs.now live_nodes.now live_edges.now outgoing.now incoming.now)
         first second room result }
 {
     let rule = judge(
@@ -97,9 +97,9 @@ fn find_chain(
     work: &mut [u32],
     chain: &mut [u32],
 ) -> Answer
-    requires { Asked (lent counts nodes lows highs live_nodes live_edges outgoing incoming) first second work.old }
+    requires { Asked (lent counts nodes.now lows.now highs.now live_nodes.now live_edges.now outgoing.now incoming.now) first second work.old }
     ensures { Found
-        (at_entry counts nodes lows highs live_nodes live_edges outgoing incoming)
+        (at_entry counts nodes.now lows.now highs.now live_nodes.now live_edges.now outgoing.now incoming.now)
         first second work.old chain.old result work.new chain.new }
 {
     let room = chain.len();
@@ -144,9 +144,9 @@ fn nearest_chain(
     work: &mut [u32],
     chain: &mut [u32],
 ) -> Answer
-    requires { Asked (lent counts nodes lows highs live_nodes live_edges outgoing incoming) first second work.old }
+    requires { Asked (lent counts nodes.now lows.now highs.now live_nodes.now live_edges.now outgoing.now incoming.now) first second work.old }
     ensures { Answered
-        (at_entry counts nodes lows highs live_nodes live_edges outgoing incoming)
+        (at_entry counts nodes.now lows.now highs.now live_nodes.now live_edges.now outgoing.now incoming.now)
         first second work.old chain.old result work.new chain.new }
 {
     let answer = find_chain(
@@ -174,7 +174,7 @@ pub fn nearest(
     chain: &mut [u32],
 ) -> Answer
     ensures { NearestOf
-        (at_entry counts nodes lows highs live_nodes live_edges outgoing incoming)
+        (at_entry counts nodes.now lows.now highs.now live_nodes.now live_edges.now outgoing.now incoming.now)
         first second work.old chain.old result work.new chain.new }
 {
     let answer = refusal(

@@ -78,10 +78,10 @@ pub fn add_node(
     incoming: &mut [u32],
     payload: u32,
 ) -> Stepped
-    requires { Checked (lent counts nodes lows highs live_nodes live_edges outgoing incoming) }
+    requires { Checked (lent counts nodes.old lows.now highs.now live_nodes.old live_edges.now outgoing.old incoming.old) }
     ensures { StepOf (AddNode payload)
-        (at_entry counts nodes lows highs live_nodes live_edges outgoing incoming)
-        (at_exit result.counts nodes lows highs live_nodes live_edges outgoing incoming)
+        (at_entry counts nodes.old lows.now highs.now live_nodes.old live_edges.now outgoing.old incoming.old)
+        (at_exit result.counts nodes.new lows.now highs.now live_nodes.new live_edges.now outgoing.new incoming.new)
         result.number result.value }
 {
     let slots = counts.nodes;
@@ -109,10 +109,10 @@ pub fn add_edge(
     target: u32,
     payload: EdgePayload,
 ) -> Stepped
-    requires { Checked (lent counts nodes lows highs live_nodes live_edges outgoing incoming) }
+    requires { Checked (lent counts nodes.now lows.old highs.old live_nodes.now live_edges.old outgoing.old incoming.old) }
     ensures { StepOf (AddEdge source target payload)
-        (at_entry counts nodes lows highs live_nodes live_edges outgoing incoming)
-        (at_exit result.counts nodes lows highs live_nodes live_edges outgoing incoming)
+        (at_entry counts nodes.now lows.old highs.old live_nodes.now live_edges.old outgoing.old incoming.old)
+        (at_exit result.counts nodes.now lows.new highs.new live_nodes.now live_edges.new outgoing.new incoming.new)
         result.number result.value }
 {
     let inverted = payload_fault(payload);
@@ -174,10 +174,10 @@ pub fn remove_edge(
     incoming: &[u32],
     edge: u32,
 ) -> Stepped
-    requires { Checked (lent counts nodes lows highs live_nodes live_edges outgoing incoming) }
+    requires { Checked (lent counts nodes.now lows.now highs.now live_nodes.now live_edges.old outgoing.now incoming.now) }
     ensures { StepOf (RemoveEdge edge)
-        (at_entry counts nodes lows highs live_nodes live_edges outgoing incoming)
-        (at_exit result.counts nodes lows highs live_nodes live_edges outgoing incoming)
+        (at_entry counts nodes.now lows.now highs.now live_nodes.now live_edges.old outgoing.now incoming.now)
+        (at_exit result.counts nodes.now lows.now highs.now live_nodes.now live_edges.new outgoing.now incoming.now)
         result.number result.value }
 {
     let removal = store::remove_edge(
@@ -198,10 +198,10 @@ pub fn remove_node(
     incoming: &[u32],
     node: u32,
 ) -> Stepped
-    requires { Checked (lent counts nodes lows highs live_nodes live_edges outgoing incoming) }
+    requires { Checked (lent counts nodes.now lows.now highs.now live_nodes.old live_edges.old outgoing.now incoming.now) }
     ensures { StepOf (RemoveNode node)
-        (at_entry counts nodes lows highs live_nodes live_edges outgoing incoming)
-        (at_exit result.counts nodes lows highs live_nodes live_edges outgoing incoming)
+        (at_entry counts nodes.now lows.now highs.now live_nodes.old live_edges.old outgoing.now incoming.now)
+        (at_exit result.counts nodes.now lows.now highs.now live_nodes.new live_edges.new outgoing.now incoming.now)
         result.number result.value }
 {
     let removal = store::remove_node(
@@ -224,10 +224,10 @@ pub fn redirect(
     edge: u32,
     node: u32,
 ) -> Stepped
-    requires { Checked (lent counts nodes lows highs live_nodes live_edges outgoing incoming) }
+    requires { Checked (lent counts nodes.now lows.now highs.now live_nodes.now live_edges.now outgoing.old incoming.old) }
     ensures { StepOf (Redirect direction edge node)
-        (at_entry counts nodes lows highs live_nodes live_edges outgoing incoming)
-        (at_exit result.counts nodes lows highs live_nodes live_edges outgoing incoming)
+        (at_entry counts nodes.now lows.now highs.now live_nodes.now live_edges.now outgoing.old incoming.old)
+        (at_exit result.counts nodes.now lows.now highs.now live_nodes.now live_edges.now outgoing.new incoming.new)
         result.number result.value }
 {
     let others = counts.nodes;
@@ -273,10 +273,10 @@ pub fn move_adjacency(
     old: u32,
     new: u32,
 ) -> Stepped
-    requires { Checked (lent counts nodes lows highs live_nodes live_edges outgoing incoming) }
+    requires { Checked (lent counts nodes.now lows.now highs.now live_nodes.now live_edges.now outgoing.old incoming.old) }
     ensures { StepOf (Move direction old new)
-        (at_entry counts nodes lows highs live_nodes live_edges outgoing incoming)
-        (at_exit result.counts nodes lows highs live_nodes live_edges outgoing incoming)
+        (at_entry counts nodes.now lows.now highs.now live_nodes.now live_edges.now outgoing.old incoming.old)
+        (at_exit result.counts nodes.now lows.now highs.now live_nodes.now live_edges.now outgoing.new incoming.new)
         result.number result.value }
 {
     let slots = counts.nodes;
@@ -321,10 +321,10 @@ pub fn set_payload(
     edge: u32,
     payload: EdgePayload,
 ) -> Stepped
-    requires { Checked (lent counts nodes lows highs live_nodes live_edges outgoing incoming) }
+    requires { Checked (lent counts nodes.now lows.old highs.old live_nodes.now live_edges.now outgoing.now incoming.now) }
     ensures { StepOf (SetPayload edge payload)
-        (at_entry counts nodes lows highs live_nodes live_edges outgoing incoming)
-        (at_exit result.counts nodes lows highs live_nodes live_edges outgoing incoming)
+        (at_entry counts nodes.now lows.old highs.old live_nodes.now live_edges.now outgoing.now incoming.now)
+        (at_exit result.counts nodes.now lows.new highs.new live_nodes.now live_edges.now outgoing.now incoming.now)
         result.number result.value }
 {
     let inverted = payload_fault(payload);

@@ -21,10 +21,10 @@ pub fn step(
     incoming: &mut [u32],
     operation: Operation,
 ) -> Stepped
-    requires { Checked (lent counts nodes lows highs live_nodes live_edges outgoing incoming) }
+    requires { Checked (lent counts nodes.old lows.old highs.old live_nodes.old live_edges.old outgoing.old incoming.old) }
     ensures { StepOf operation
-        (at_entry counts nodes lows highs live_nodes live_edges outgoing incoming)
-        (at_exit result.counts nodes lows highs live_nodes live_edges outgoing incoming)
+        (at_entry counts nodes.old lows.old highs.old live_nodes.old live_edges.old outgoing.old incoming.old)
+        (at_exit result.counts nodes.new lows.new highs.new live_nodes.new live_edges.new outgoing.new incoming.new)
         result.number result.value }
 {
     match operation {

@@ -57,10 +57,10 @@ pub fn add_node(
     incoming: &mut [u32],
     payload: u32,
 ) -> Counts
-    requires { NodeAddable (lent counts nodes lows highs live_nodes live_edges outgoing incoming) }
+    requires { NodeAddable (lent counts nodes.old lows.now highs.now live_nodes.old live_edges.now outgoing.old incoming.old) }
     ensures { Acted (AddNode payload)
-        (at_entry counts nodes lows highs live_nodes live_edges outgoing incoming)
-        (at_exit result nodes lows highs live_nodes live_edges outgoing incoming) }
+        (at_entry counts nodes.old lows.now highs.now live_nodes.old live_edges.now outgoing.old incoming.old)
+        (at_exit result nodes.new lows.now highs.now live_nodes.new live_edges.now outgoing.new incoming.new) }
 {
     let slots = counts.nodes;
     let others = counts.edges;
@@ -92,10 +92,10 @@ pub fn add_edge(
     low: u32,
     high: u32,
 ) -> Counts
-    requires { EdgeAddable (lent counts nodes lows highs live_nodes live_edges outgoing incoming) source target (weighing low high) }
+    requires { EdgeAddable (lent counts nodes.now lows.old highs.old live_nodes.now live_edges.old outgoing.old incoming.old) source target (weighing low high) }
     ensures { Acted (AddEdge source target (weighing low high))
-        (at_entry counts nodes lows highs live_nodes live_edges outgoing incoming)
-        (at_exit result nodes lows highs live_nodes live_edges outgoing incoming) }
+        (at_entry counts nodes.now lows.old highs.old live_nodes.now live_edges.old outgoing.old incoming.old)
+        (at_exit result nodes.now lows.new highs.new live_nodes.now live_edges.new outgoing.new incoming.new) }
 {
     let others = counts.nodes;
     let slots = counts.edges;
@@ -144,11 +144,11 @@ pub fn remove_edge(
     incoming: &[u32],
     edge: u32,
 ) -> Removal
-    requires { Checked (lent counts nodes lows highs live_nodes live_edges outgoing incoming) }
+    requires { Checked (lent counts nodes.now lows.now highs.now live_nodes.now live_edges.old outgoing.now incoming.now) }
     ensures { RemovedEdge edge
-        (at_entry counts nodes lows highs live_nodes live_edges outgoing incoming)
+        (at_entry counts nodes.now lows.now highs.now live_nodes.now live_edges.old outgoing.now incoming.now)
         result.removed
-        (at_exit result.counts nodes lows highs live_nodes live_edges outgoing incoming) }
+        (at_exit result.counts nodes.now lows.now highs.now live_nodes.now live_edges.new outgoing.now incoming.now) }
 {
     let others = counts.nodes;
     let slots = counts.edges;
@@ -182,11 +182,11 @@ pub fn remove_node(
     incoming: &[u32],
     node: u32,
 ) -> Removal
-    requires { Checked (lent counts nodes lows highs live_nodes live_edges outgoing incoming) }
+    requires { Checked (lent counts nodes.now lows.now highs.now live_nodes.old live_edges.old outgoing.now incoming.now) }
     ensures { RemovedNode node
-        (at_entry counts nodes lows highs live_nodes live_edges outgoing incoming)
+        (at_entry counts nodes.now lows.now highs.now live_nodes.old live_edges.old outgoing.now incoming.now)
         result.removed
-        (at_exit result.counts nodes lows highs live_nodes live_edges outgoing incoming) }
+        (at_exit result.counts nodes.now lows.now highs.now live_nodes.new live_edges.new outgoing.now incoming.now) }
 {
     let slots = counts.nodes;
     let others = counts.edges;
@@ -232,11 +232,11 @@ pub fn redirect(
     edge: u32,
     node: u32,
 ) -> u32
-    requires { EdgeRedirectable (lent counts nodes lows highs live_nodes live_edges outgoing incoming) edge node }
+    requires { EdgeRedirectable (lent counts nodes.now lows.now highs.now live_nodes.now live_edges.now outgoing.old incoming.old) edge node }
     ensures { RedirectedEdge direction edge node
-        (at_entry counts nodes lows highs live_nodes live_edges outgoing incoming)
+        (at_entry counts nodes.now lows.now highs.now live_nodes.now live_edges.now outgoing.old incoming.old)
         result
-        (at_exit counts nodes lows highs live_nodes live_edges outgoing incoming) }
+        (at_exit counts nodes.now lows.now highs.now live_nodes.now live_edges.now outgoing.new incoming.new) }
 {
     let some_removed = walk::tombstoned(counts);
     match direction {
@@ -281,11 +281,11 @@ pub fn move_adjacency(
     old: u32,
     new: u32,
 ) -> u32
-    requires { EdgesMovable direction (lent counts nodes lows highs live_nodes live_edges outgoing incoming) old new }
+    requires { EdgesMovable direction (lent counts nodes.now lows.now highs.now live_nodes.now live_edges.now outgoing.old incoming.old) old new }
     ensures { MovedEdges direction old new
-        (at_entry counts nodes lows highs live_nodes live_edges outgoing incoming)
+        (at_entry counts nodes.now lows.now highs.now live_nodes.now live_edges.now outgoing.old incoming.old)
         result
-        (at_exit counts nodes lows highs live_nodes live_edges outgoing incoming) }
+        (at_exit counts nodes.now lows.now highs.now live_nodes.now live_edges.now outgoing.new incoming.new) }
 {
     let some_removed = walk::tombstoned(counts);
     match direction {
@@ -330,10 +330,10 @@ pub fn set_payload(
     low: u32,
     high: u32,
 )
-    requires { PayloadSettable (lent counts nodes lows highs live_nodes live_edges outgoing incoming) edge (weighing low high) }
+    requires { PayloadSettable (lent counts nodes.now lows.old highs.old live_nodes.now live_edges.now outgoing.now incoming.now) edge (weighing low high) }
     ensures { Acted (SetPayload edge (weighing low high))
-        (at_entry counts nodes lows highs live_nodes live_edges outgoing incoming)
-        (at_exit counts nodes lows highs live_nodes live_edges outgoing incoming) }
+        (at_entry counts nodes.now lows.old highs.old live_nodes.now live_edges.now outgoing.now incoming.now)
+        (at_exit counts nodes.now lows.new highs.new live_nodes.now live_edges.now outgoing.now incoming.now) }
 {
     let at = edge as usize;
     lows[at] = low;

@@ -28,7 +28,7 @@ fn fresh_within(
 ) -> Changed
     requires { Proper (device_of limits) }
     ensures { FreshOf (device_of limits)
-        (at_entry result.counts nodes lows highs live_nodes live_edges outgoing incoming)
+        (at_entry result.counts nodes.now lows.now highs.now live_nodes.now live_edges.now outgoing.now incoming.now)
         result.number result.value }
 {
     let told = memory::fresh_answer(
@@ -69,7 +69,7 @@ pub fn fresh(
     incoming: &[u32],
 ) -> Changed
     ensures { FreshOf box
-        (at_entry result.counts nodes lows highs live_nodes live_edges outgoing incoming)
+        (at_entry result.counts nodes.now lows.now highs.now live_nodes.now live_edges.now outgoing.now incoming.now)
         result.number result.value }
 {
     fresh_within(
@@ -95,7 +95,7 @@ pub fn skid_fresh(
     incoming: &[u32],
 ) -> Changed
     ensures { FreshOf skid
-        (at_entry result.counts nodes lows highs live_nodes live_edges outgoing incoming)
+        (at_entry result.counts nodes.now lows.now highs.now live_nodes.now live_edges.now outgoing.now incoming.now)
         result.number result.value }
 {
     fresh_within(
@@ -148,11 +148,11 @@ fn run(
     words: &[u32],
     answers: &mut [u32],
 ) -> Counts
-    requires { Runnable (lent counts nodes lows highs live_nodes live_edges outgoing incoming) words.now answers.old }
+    requires { Runnable (lent counts nodes.old lows.old highs.old live_nodes.old live_edges.old outgoing.old incoming.old) words.now answers.old }
     ensures { Ran
-        (at_entry counts nodes lows highs live_nodes live_edges outgoing incoming)
+        (at_entry counts nodes.old lows.old highs.old live_nodes.old live_edges.old outgoing.old incoming.old)
         (operations words.now) answers.old
-        (at_exit result nodes lows highs live_nodes live_edges outgoing incoming)
+        (at_exit result nodes.new lows.new highs.new live_nodes.new live_edges.new outgoing.new incoming.new)
         answers.new }
 {
     let count = words.len() / OPERATION_WORDS;
@@ -213,9 +213,9 @@ pub fn strip(
     answers: &mut [u32],
 ) -> Changed
     ensures { StripOf
-        (at_entry counts nodes lows highs live_nodes live_edges outgoing incoming)
+        (at_entry counts nodes.old lows.old highs.old live_nodes.old live_edges.old outgoing.old incoming.old)
         words.now answers.old result.number result.value
-        (at_exit result.counts nodes lows highs live_nodes live_edges outgoing incoming)
+        (at_exit result.counts nodes.new lows.new highs.new live_nodes.new live_edges.new outgoing.new incoming.new)
         answers.new }
 {
     let rule = validate::judging::judge(

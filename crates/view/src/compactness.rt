@@ -38,9 +38,9 @@ pub fn is_compact_checked(
     outgoing: &[u32],
     incoming: &[u32],
 ) -> bool
-    requires { Checked (lent counts nodes lows highs live_nodes live_edges outgoing incoming) }
+    requires { Checked (lent counts nodes.now lows.now highs.now live_nodes.now live_edges.now outgoing.now incoming.now) }
     ensures { result ≡ is_compact (shape_of
-        (at_entry counts nodes lows highs live_nodes live_edges outgoing incoming)) }
+        (at_entry counts nodes.now lows.now highs.now live_nodes.now live_edges.now outgoing.now incoming.now)) }
 {
     let node_slots = counts.nodes;
     let edge_slots = counts.edges;
@@ -75,7 +75,7 @@ pub fn is_compact(
     incoming: &[u32],
 ) -> Answer
     ensures { Answered
-        (at_entry counts nodes lows highs live_nodes live_edges outgoing incoming)
+        (at_entry counts nodes.now lows.now highs.now live_nodes.now live_edges.now outgoing.now incoming.now)
         (λ w. compact_answer (state_of (shape_of w))) result }
 {
     let rule = judge(

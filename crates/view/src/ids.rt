@@ -59,7 +59,7 @@ pub fn node_ids(
     slots: &mut [u32],
 ) -> Answer
     ensures { Replied
-        (at_entry counts nodes lows highs live_nodes live_edges outgoing incoming)
+        (at_entry counts nodes.now lows.now highs.now live_nodes.now live_edges.now outgoing.now incoming.now)
         (λ w room. node_slots (lists w) room) slots.old result slots.new }
 {
     let rule = judge(
@@ -85,7 +85,7 @@ pub fn edge_ids(
     slots: &mut [u32],
 ) -> Answer
     ensures { Replied
-        (at_entry counts nodes lows highs live_nodes live_edges outgoing incoming)
+        (at_entry counts nodes.now lows.now highs.now live_nodes.now live_edges.now outgoing.now incoming.now)
         (λ w room. edge_slots (lists w) room) slots.old result slots.new }
 {
     let rule = judge(

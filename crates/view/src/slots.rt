@@ -44,7 +44,7 @@ pub fn node_payload(
     node: u32,
 ) -> Answer
     ensures { Answered
-        (at_entry counts nodes lows highs live_nodes live_edges outgoing incoming)
+        (at_entry counts nodes.now lows.now highs.now live_nodes.now live_edges.now outgoing.now incoming.now)
         (λ w. node_payload (lists w) node) result }
 {
     let rule = judge(
@@ -72,7 +72,7 @@ pub fn edge_record(
     edge: u32,
 ) -> Record
     ensures { Recorded
-        (at_entry counts nodes lows highs live_nodes live_edges outgoing incoming)
+        (at_entry counts nodes.now lows.now highs.now live_nodes.now live_edges.now outgoing.now incoming.now)
         (λ w. edge_record (lists w) edge) result }
 {
     let rule = judge(
@@ -100,7 +100,7 @@ pub fn live_edge_record(
     edge: u32,
 ) -> Record
     ensures { Recorded
-        (at_entry counts nodes lows highs live_nodes live_edges outgoing incoming)
+        (at_entry counts nodes.now lows.now highs.now live_nodes.now live_edges.now outgoing.now incoming.now)
         (λ w. live_edge_record (lists w) edge) result }
 {
     let rule = judge(
@@ -132,7 +132,7 @@ pub fn contains_node(
     node: u32,
 ) -> Answer
     ensures { Answered
-        (at_entry counts nodes lows highs live_nodes live_edges outgoing incoming)
+        (at_entry counts nodes.now lows.now highs.now live_nodes.now live_edges.now outgoing.now incoming.now)
         (λ w. contains_node (lists w) node) result }
 {
     let rule = judge(
@@ -157,7 +157,7 @@ pub fn contains_edge(
     edge: u32,
 ) -> Answer
     ensures { Answered
-        (at_entry counts nodes lows highs live_nodes live_edges outgoing incoming)
+        (at_entry counts nodes.now lows.now highs.now live_nodes.now live_edges.now outgoing.now incoming.now)
         (λ w. contains_edge (lists w) edge) result }
 {
     let rule = judge(

@@ -21,7 +21,7 @@ pub fn node_bound(
     incoming: &[u32],
 ) -> Answer
     ensures { Answered
-        (at_entry counts nodes lows highs live_nodes live_edges outgoing incoming)
+        (at_entry counts nodes.now lows.now highs.now live_nodes.now live_edges.now outgoing.now incoming.now)
         (λ w. node_bound_answer (lists w)) result }
 {
     let rule = judge(
@@ -42,7 +42,7 @@ pub fn edge_bound(
     incoming: &[u32],
 ) -> Answer
     ensures { Answered
-        (at_entry counts nodes lows highs live_nodes live_edges outgoing incoming)
+        (at_entry counts nodes.now lows.now highs.now live_nodes.now live_edges.now outgoing.now incoming.now)
         (λ w. edge_bound_answer (lists w)) result }
 {
     let rule = judge(
@@ -63,7 +63,7 @@ pub fn node_count(
     incoming: &[u32],
 ) -> Answer
     ensures { Answered
-        (at_entry counts nodes lows highs live_nodes live_edges outgoing incoming)
+        (at_entry counts nodes.now lows.now highs.now live_nodes.now live_edges.now outgoing.now incoming.now)
         (λ w. node_count (lists w)) result }
 {
     let rule = judge(
@@ -84,7 +84,7 @@ pub fn edge_count(
     incoming: &[u32],
 ) -> Answer
     ensures { Answered
-        (at_entry counts nodes lows highs live_nodes live_edges outgoing incoming)
+        (at_entry counts nodes.now lows.now highs.now live_nodes.now live_edges.now outgoing.now incoming.now)
         (λ w. edge_count (lists w)) result }
 {
     let rule = judge(
@@ -105,7 +105,7 @@ pub fn is_empty(
     incoming: &[u32],
 ) -> Answer
     ensures { Answered
-        (at_entry counts nodes lows highs live_nodes live_edges outgoing incoming)
+        (at_entry counts nodes.now lows.now highs.now live_nodes.now live_edges.now outgoing.now incoming.now)
         (λ w. is_empty (lists w)) result }
 {
     let rule = judge(

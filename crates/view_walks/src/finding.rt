@@ -26,7 +26,7 @@ pub fn find(
     second: u32,
 ) -> Answer
     ensures { Answered
-        (at_entry counts nodes lows highs live_nodes live_edges outgoing incoming)
+        (at_entry counts nodes.now lows.now highs.now live_nodes.now live_edges.now outgoing.now incoming.now)
         (λ w. find_of (lists w) first second) result }
 {
     let rule = judge(

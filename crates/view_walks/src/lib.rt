@@ -35,9 +35,9 @@ fn write_list<'a>(
     node: u32,
     slots: &mut [u32],
 )
-    requires { ListFits (lent counts nodes lows highs live_nodes live_edges outgoing incoming) direction node slots.old }
+    requires { ListFits (lent counts nodes.now lows.now highs.now live_nodes.now live_edges.now outgoing.now incoming.now) direction node slots.old }
     ensures { slots.new ≡ written (list_in direction
-        (at_entry counts nodes lows highs live_nodes live_edges outgoing incoming) node) slots.old }
+        (at_entry counts nodes.now lows.now highs.now live_nodes.now live_edges.now outgoing.now incoming.now) node) slots.old }
 {
     let node_slots = counts.nodes;
     let bound = node_slots.bound as usize;
@@ -70,9 +70,9 @@ fn write_far_ends<'a>(
     node: u32,
     slots: &mut [u32],
 )
-    requires { ListFits (lent counts nodes lows highs live_nodes live_edges outgoing incoming) direction node slots.old }
+    requires { ListFits (lent counts nodes.now lows.now highs.now live_nodes.now live_edges.now outgoing.now incoming.now) direction node slots.old }
     ensures { slots.new ≡ written (far_ends_in direction
-        (at_entry counts nodes lows highs live_nodes live_edges outgoing incoming) node) slots.old }
+        (at_entry counts nodes.now lows.now highs.now live_nodes.now live_edges.now outgoing.now incoming.now) node) slots.old }
 {
     let node_slots = counts.nodes;
     let bound = node_slots.bound as usize;
@@ -107,7 +107,7 @@ fn count_answer<'a>(
     node: u32,
 ) -> Answer
     ensures { CountAnswer
-        (at_entry counts nodes lows highs live_nodes live_edges outgoing incoming)
+        (at_entry counts nodes.now lows.now highs.now live_nodes.now live_edges.now outgoing.now incoming.now)
         direction node result }
 {
     let rule = judge(
@@ -143,7 +143,7 @@ fn list_answer<'a>(
     room: usize,
 ) -> Answer
     ensures { ListAnswer
-        (at_entry counts nodes lows highs live_nodes live_edges outgoing incoming)
+        (at_entry counts nodes.now lows.now highs.now live_nodes.now live_edges.now outgoing.now incoming.now)
         direction node room result }
 {
     let counted = count_answer(
@@ -176,7 +176,7 @@ pub fn degree<'a>(
     node: u32,
 ) -> Answer
     ensures { Answered
-        (at_entry counts nodes lows highs live_nodes live_edges outgoing incoming)
+        (at_entry counts nodes.now lows.now highs.now live_nodes.now live_edges.now outgoing.now incoming.now)
         (λ w. degree_of direction (lists w) node) result }
 {
     count_answer(
@@ -198,7 +198,7 @@ pub fn total<'a>(
     node: u32,
 ) -> Total
     ensures { Totalled
-        (at_entry counts nodes lows highs live_nodes live_edges outgoing incoming)
+        (at_entry counts nodes.now lows.now highs.now live_nodes.now live_edges.now outgoing.now incoming.now)
         (λ w. total_of direction (lists w) node) result }
 {
     let rule = judge(
@@ -236,7 +236,7 @@ pub fn walk<'a>(
     slots: &mut [u32],
 ) -> Answer
     ensures { Replied
-        (at_entry counts nodes lows highs live_nodes live_edges outgoing incoming)
+        (at_entry counts nodes.now lows.now highs.now live_nodes.now live_edges.now outgoing.now incoming.now)
         (λ w room. walk_of direction (lists w) node room) slots.old result slots.new }
 {
     let answer = list_answer(
@@ -277,7 +277,7 @@ pub fn neighbors<'a>(
     slots: &mut [u32],
 ) -> Answer
     ensures { Replied
-        (at_entry counts nodes lows highs live_nodes live_edges outgoing incoming)
+        (at_entry counts nodes.now lows.now highs.now live_nodes.now live_edges.now outgoing.now incoming.now)
         (λ w room. neighbors_of direction (lists w) node room) slots.old result slots.new }
 {
     let answer = list_answer(
