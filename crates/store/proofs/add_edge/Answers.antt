@@ -1,0 +1,21 @@
+-- `store::add_edge` meets its contract: what it writes is what `edge_acted` asks.
+use Rattle.plain.specs.declared.TraversalDirection.TheVariants.{Outgoing, Incoming}
+use Rattle.store.proofs.Adding.{edge_raisable, edge_appendable, edge_acted}
+use Rattle.store.proofs.add_edge.Goals as goal
+
+pub one_more-more-requires : goal.one_more-more-requires
+one_more-more-requires c = edge_raisable c.requires
+
+pub append-requires : goal.append-requires
+append-requires c =
+    edge_appendable c.requires Outgoing c.args.source c.requires.source_live
+
+pub append-requires-2 : goal.append-requires-2
+append-requires-2 c =
+    edge_appendable c.requires Incoming c.args.target c.requires.target_live
+
+pub returns : goal.returns
+returns c =
+    rw c.one_more-more.ensures
+    (edge_acted c.requires c.ranges.high.fits c.push_live.ensures c.append.ensures c.append-2.ensures
+    c.push_live.auto.words c.append.auto.axis c.append-2.auto.axis)

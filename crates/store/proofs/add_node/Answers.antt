@@ -1,0 +1,19 @@
+-- `store::add_node` meets its contract: what it writes is what `node_acted` asks.
+use Rattle.plain.specs.declared.TraversalDirection.TheVariants.{Outgoing, Incoming}
+use Rattle.store.proofs.Adding.{node_raisable, node_openable, node_acted}
+use Rattle.store.proofs.add_node.Goals as goal
+
+pub one_more-more-requires : goal.one_more-more-requires
+one_more-more-requires c = node_raisable c.requires
+
+pub open_node-requires : goal.open_node-requires
+open_node-requires c = node_openable c.requires Outgoing
+
+pub open_node-requires-2 : goal.open_node-requires-2
+open_node-requires-2 c = node_openable c.requires Incoming
+
+pub returns : goal.returns
+returns c =
+    rw c.one_more-more.ensures
+    (node_acted c.requires c.args.payload c.ranges.payload.fits c.push_live.ensures c.open_node.ensures c.open_node-2.ensures
+    c.push_live.auto.words c.open_node.auto.axis c.open_node-2.auto.axis)

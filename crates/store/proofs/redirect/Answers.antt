@@ -1,0 +1,22 @@
+-- `store::redirect` meets its contract: in either direction `redirecting`.
+use Rattle.plain.specs.declared.TraversalDirection.TheVariants.{Outgoing, Incoming}
+use Rattle.store.proofs.Relocating.{redirectable, redirecting}
+use Rattle.store.proofs.redirect.Goals as goal
+
+pub redirect-requires : goal.redirect-requires
+redirect-requires c =
+    rw c.tombstoned-some_removed.ensures (redirectable c.requires Outgoing)
+
+pub redirect-requires-in-Incoming : goal.redirect-requires-in-Incoming
+redirect-requires-in-Incoming c =
+    rw c.tombstoned-some_removed.ensures (redirectable c.requires Incoming)
+
+pub returns-in-Outgoing : goal.returns-in-Outgoing
+returns-in-Outgoing c =
+    let told = c.in-Outgoing.is in
+    rw told (redirecting c.requires Outgoing _ c.redirect.ensures c.redirect.auto.axis)
+
+pub returns-in-Incoming : goal.returns-in-Incoming
+returns-in-Incoming c =
+    let told = c.in-Incoming.is in
+    rw told (redirecting c.requires Incoming _ c.redirect-in-Incoming.ensures c.redirect-in-Incoming.auto.axis)

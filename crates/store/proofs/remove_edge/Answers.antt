@@ -1,0 +1,16 @@
+-- `store::remove_edge` meets its contract: its two ways are `removing_live` and `removing_none`.
+use Rattle.store.proofs.Editing.{edge_counted, removing_live, removing_none}
+use Rattle.store.proofs.remove_edge.Goals as goal
+
+pub fewer-less-requires : goal.fewer-less-requires
+fewer-less-requires c =
+    edge_counted c.requires c.args.edge c.clear.ensures c.if-clear.true
+
+pub returns-then-clear : goal.returns-then-clear
+returns-then-clear c =
+    rw c.fewer-less.ensures
+    (removing_live c.requires c.args.edge c.clear.ensures c.if-clear.true c.clear.auto.words)
+
+pub returns : goal.returns
+returns c =
+    removing_none c.requires c.args.edge c.clear.ensures c.if-clear.false
