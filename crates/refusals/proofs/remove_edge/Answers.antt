@@ -1,0 +1,7 @@
+-- `refusals::remove_edge` meets its contract: the value is whether something live was there.
+use Rattle.refusals.proofs.Additions.{edge_removed}
+use Rattle.refusals.proofs.remove_edge.Goals as goal
+
+pub returns : goal.returns
+returns c =
+    rw c.removal_done.ensures (edge_removed c.requires c.args.edge c.remove_edge-removal.ensures)
