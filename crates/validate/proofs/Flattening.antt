@@ -170,7 +170,7 @@ unfolding member
 seg_closed link e [] t p s m = in_none p m
 seg_closed link e (x ∷ xs) t p s m =
     by_test (eqb p x)
-    (λ q. let at = eqb-true p x q in rw at (member_later (link x) x (xs ++ (t ∷ [])) (seg_first link (link x) xs t s.1)))
+    (λ q. subst (λ (z : ℕ). In (link z) (x ∷ (xs ++ (t ∷ [])))) (sym (eqb-true p x q)) (member_later (link x) x (xs ++ (t ∷ [])) (seg_first link (link x) xs t s.1)))
     (λ q. member_later (link p) x (xs ++ (t ∷ [])) (seg_closed link (link x) xs t p s.1 (rw q at m)))
 
 -- and those of a ring in the ring

@@ -5,7 +5,7 @@
 -- the node; without one, the second has seen the same of the base part, and rule 5 of the ring, which has edges of the delta alone. So every list holds edges of its
 -- node, none twice, and of runs none is in two. What is marked is in the list of its end: an entry of a run or of the ring behind it, a shown entry of the compressed
 -- index, or what a shown edge of the delta is linked to. So every live edge is in the list of its end.
-use Rattle.plain.specs.Library.{ℕ, zero, suc, ◌+◌, ◌-◌, ◌*◌, ◌≤◌, ◌<◌, ◌≡◌, refl, sym, ap, ◌∙◌, Bool, true, false, ◌||◌, not, ◌⊎◌, inl, inr, ⊎_elim, List, []}
+use Rattle.plain.specs.Library.{ℕ, zero, suc, ◌+◌, ◌*◌, ◌≤◌, ◌<◌, ◌≡◌, refl, sym, ap, ◌∙◌, Bool, true, false, ◌||◌, not, inl, inr, ⊎_elim, List, []}
 use Rattle.plain.specs.Library.{◌∷◌, ◌++◌, length, get_or, replicate, length-replicate, eqb, ltb, arith, eq-eqb, eqb-true, ne_eqb, ltb-true}
 use Rattle.plain.specs.Numbers.{LIMIT}
 use Rattle.plain.specs.declared.Counts.{Counts}
@@ -15,7 +15,7 @@ use Rattle.plain.proofs.Laws.ListLaws.{member_append, member_keep, distinct_appe
 use Rattle.liveness.specs.Flags.{live_flags}
 use Rattle.liveness.specs.Laws.Flags.{length_flags, flag_at}
 use Rattle.shape.specs.Columns.{cell, end_at, tail_at, mark_at}
-use Rattle.shape.specs.Chains.{In, ring}
+use Rattle.shape.specs.Chains.{In}
 use Rattle.shape.specs.Shape.{adjacency_in, base_of, run_of, run_list, ring_of, raw, live_in}
 use Rattle.shape.specs.Checked.{LiveRight}
 use Rattle.shape.specs.Rules.{last_of, runs_right}
