@@ -6,7 +6,6 @@ use Rattle.plain.specs.Reads.{live_count}
 use Rattle.liveness.specs.Flags.{live_flags}
 use Rattle.shape.specs.Columns.{Sized, end_at}
 use Rattle.shape.specs.Index.{Rewritten, before, ends_of}
-use Rattle.shape.specs.Shape.{lists}
 use Rattle.adjacency.specs.Index.{Compressible}
 use Rattle.survivors.specs.Slots.{kept_word, translated_word}
 
