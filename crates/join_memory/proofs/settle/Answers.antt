@@ -1,0 +1,66 @@
+-- `join_memory::settle` meets its contract: the maps, both directions, the payloads, the live words, call by call.
+use Rattle.plain.specs.Library.{ap₂, arith}
+use Rattle.plain.specs.declared.TraversalDirection.TheVariants.{Outgoing, Incoming}
+use Rattle.plain.specs.declared.Slots.{Slots}
+use Rattle.plain.specs.declared.Counts.{Counts}
+use Rattle.shape.specs.Kept.{each_length}
+use Rattle.join_memory.specs.Laws.Settling.{few_nodes, few_edges, first_maps_fit, second_maps_fit, nodes_copyable, lows_copyable, highs_copyable, nodes_resettable, edges_resettable, axis_joinable}
+use Rattle.join_memory.proofs.settle.Goals as goal
+
+pub overflow_add-all_nodes : goal.overflow_add-all_nodes
+overflow_add-all_nodes c = omega (arith, few_nodes c.requires)
+
+pub overflow_add-all_edges : goal.overflow_add-all_edges
+overflow_add-all_edges c = omega (arith, few_edges c.requires)
+
+pub write_maps-requires : goal.write_maps-requires
+write_maps-requires c = first_maps_fit c.requires
+
+pub write_maps-requires-2 : goal.write_maps-requires-2
+write_maps-requires-2 c = second_maps_fit c.requires
+
+pub join_axis-requires : goal.join_axis-requires
+join_axis-requires c =
+    axis_joinable c.requires c.write_maps.ensures c.write_maps-2.ensures Outgoing
+
+pub join_axis-requires-2 : goal.join_axis-requires-2
+join_axis-requires-2 c =
+    axis_joinable c.requires c.write_maps.ensures c.write_maps-2.ensures Incoming
+
+pub join_slots-requires : goal.join_slots-requires
+join_slots-requires c = nodes_copyable c.requires
+
+pub join_slots-requires-2 : goal.join_slots-requires-2
+join_slots-requires-2 c = lows_copyable c.requires
+
+pub join_slots-requires-3 : goal.join_slots-requires-3
+join_slots-requires-3 c = highs_copyable c.requires
+
+pub overflow_cast-all_nodes : goal.overflow_cast-all_nodes
+overflow_cast-all_nodes c = omega (arith, few_nodes c.requires)
+
+pub reset_all_live-requires : goal.reset_all_live-requires
+reset_all_live-requires c = nodes_resettable c.requires
+
+pub overflow_cast-all_edges : goal.overflow_cast-all_edges
+overflow_cast-all_edges c = omega (arith, few_edges c.requires)
+
+pub reset_all_live-requires-2 : goal.reset_all_live-requires-2
+reset_all_live-requires-2 c = edges_resettable c.requires
+
+pub returns : goal.returns
+returns c =
+    record {
+      lengths = each_length c.join_slots.auto.out c.join_slots-2.auto.out c.join_slots-3.auto.out c.reset_all_live.auto.words
+          c.reset_all_live-2.auto.words c.join_axis.auto.axis c.join_axis-2.auto.axis;
+      counts = ap₂ {C = Counts} (λ (n e : Slots). record { nodes = n; edges = e }) c.all_based.ensures c.all_based-2.ensures;
+      first_maps = c.write_maps.ensures;
+      second_maps = c.write_maps-2.ensures;
+      outgoing = c.join_axis.ensures;
+      incoming = c.join_axis-2.ensures;
+      nodes = c.join_slots.ensures;
+      lows = c.join_slots-2.ensures;
+      highs = c.join_slots-3.ensures;
+      live_nodes = c.reset_all_live.ensures;
+      live_edges = c.reset_all_live-2.ensures;
+    }
