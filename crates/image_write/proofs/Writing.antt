@@ -100,6 +100,10 @@ module _ {s : List ℕ} {p : Pen} {w source target : ℕ} (h : RecordFits s p w 
     unfolding edge_bits
     penned_record payload b c = rw (append-nil, ← append_assoc, ← pair_bits w source target h.small_target) (penned_then a (penned_then b c))
 
+-- the bits of the record of edge e
+abbrev pub piece : ℕ → List ℕ → ℕ → List ℕ → List ℕ → List ℕ → List ℕ → ℕ → List ℕ
+piece width live slots outgoing incoming lows highs e = record_bits width (record_at live slots outgoing incoming lows highs e)
+
 -- as many bits as a record takes
 pub length_record_bits : (w : ℕ) (e : EdgeRecord) → length (record_bits w e) ≡ record_width w
 length_record_bits w e = length_edge_bits w (e ∷ []) ∙ mul-one (record_width w)

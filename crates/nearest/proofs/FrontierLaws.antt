@@ -1,5 +1,5 @@
 -- What one lot's in-list gone through keeps of the search.
-use Rattle.plain.specs.Library.{ℕ, suc, ◌+◌, ◌*◌, ◌-◌, ◌<◌, ◌≡◌, sym, ap, ◌∙◌, subst, Bool, true, false, cond, List, [], ◌∷◌, ◌++◌, append_assoc, append-nil}
+use Rattle.plain.specs.Library.{ℕ, suc, ◌+◌, ◌*◌, ◌<◌, ◌≡◌, sym, ap, ◌∙◌, subst, Bool, true, false, cond, List, [], ◌∷◌, ◌++◌, append_assoc, append-nil}
 use Rattle.plain.specs.Library.{length, get_or, set, take, drop, length-set, length-drop, get_or-append, get_or-set_other, eqb, add-one, arith, eqb-true}
 use Rattle.plain.specs.Library.{eqb-false}
 use lib.Seq.{take-set-lt, take-set-le, drop-set-lt, drop-set-add, take-suc-set, get_or-take, length-take-le}
