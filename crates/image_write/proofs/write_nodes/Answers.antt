@@ -1,5 +1,5 @@
 -- `image_write::write_nodes` meets its contract: after each turn the payload of one live node more was written.
-use Rattle.plain.specs.Library.{◌^◌, ◌<◌, get_or, arith}
+use Rattle.plain.specs.Library.{get_or, arith}
 use Rattle.plain.specs.Reads.{live_slots}
 use Rattle.plain.specs.Image.{node_payload_width}
 use Rattle.plain.proofs.Laws.Bits.{length_bits_of}
@@ -8,23 +8,18 @@ use Rattle.liveness.specs.Laws.Flags.{length_flags}
 use Rattle.liveness.specs.Laws.Passed.{passed_later}
 use Rattle.image_write.proofs.Strung.{live_none, live_more, live_all, row_strung}
 use Rattle.image_write.proofs.Writing.{node_bits, node_room}
-use Rattle.image_write.proofs.write_nodes.Goals.{After-shared_slice_known-in-loop-node-1}
 use Rattle.image_write.proofs.write_nodes.Goals as goal
-
--- the payload is a number of 32 bits
-payload_fits : (c : After-shared_slice_known-in-loop-node-1) → get_or c.args.nodes.now c.loop-node.node 0 < 2 ^ 32
-payload_fits c = omega (arith, c.shared_slice_known-in-loop-node-1.given c.loop-node.node)
 
 pub loop-node-init : goal.loop-node-init
 loop-node-init c =
     live_none c.args.bytes.now c.args.pen node_payload_width (node_bits c.args.nodes.now) c.next_live-node.ensures c.requires.room
 
 pub overflow_cast-nodes : goal.overflow_cast-nodes
-overflow_cast-nodes c = omega (arith, payload_fits (goal.at.overflow_cast-nodes c).After-shared_slice_known-in-loop-node-1)
+overflow_cast-nodes c = omega (arith, c.type_inv.nodes c.loop-node.node)
 
 pub put-at-requires : goal.put-at-requires
 put-at-requires c =
-    node_room c.requires c.loop-node.invariant c.loop-node-test.true (payload_fits (goal.at.put-at-requires c).After-shared_slice_known-in-loop-node-1)
+    node_room c.requires c.loop-node.invariant c.loop-node-test.true (omega (arith, c.type_inv.nodes c.loop-node.node))
 
 pub loop-node-smaller : goal.loop-node-smaller
 loop-node-smaller c =

@@ -25,4 +25,4 @@ finish-requires c =
 pub returns : goal.returns
 returns c =
     wrote_image c.requires c.least_width-width.ensures c.least_width-entry_width.ensures c.write_slots-pen.ensures c.write_lists-end.ensures
-    c.finish.ensures (below_of _ (λ i l. omega (arith, c.slice_known-1.given i))) (below_of _ (λ i l. omega (arith, c.slice_known-4-1.given i)))
+    c.finish.ensures (below_of _ (λ i l. omega (arith, c.slice_known-1.given i))) (below_of _ (λ i l. omega (arith, c.type_inv.bytes i)))

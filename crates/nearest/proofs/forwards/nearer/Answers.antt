@@ -20,10 +20,10 @@ bounds-ends-edge c =
     lt_of_lt_of_le (step_below c.loop-edge.invariant.searching.ready c.step-step.ensures c.in-Edge.is) c.requires.ends_long
 
 pub overflow_cast-end-then-is_listed : goal.overflow_cast-end-then-is_listed
-overflow_cast-end-then-is_listed c = omega (arith, c.shared_slice_known-then-is_listed-1.given c.in-Edge.edge)
+overflow_cast-end-then-is_listed c = omega (arith, c.type_inv.ends c.in-Edge.edge)
 
 pub offset_bounds-words-end : goal.offset_bounds-words-end
-offset_bounds-words-end c = omega (arith, c.shared_slice_known-then-is_listed-1.given c.in-Edge.edge)
+offset_bounds-words-end c = omega (arith, c.type_inv.ends c.in-Edge.edge)
 
 pub bounds-words-end : goal.bounds-words-end
 bounds-words-end c =
