@@ -1,0 +1,13 @@
+-- `lotstrip_text::text::write_bytes` meets its contract. The loop's invariant: the bytes passed are written. The measure is the number of bytes left.
+use Rattle.plain.specs.Library.{◌-◌, ◌<◌, refl, length, drop, arith}
+use lib.ListN.{drop_of_length-le}
+use Rattle.bits.specs.Laws.Put.{put_one, put_length}
+use Rattle.lotstrip_text.proofs.Pieces.{Writing, writing_start, writing_room, writing_more, writing_end}
+use Rattle.lotstrip_text.proofs.Lines.{bytes_next}
+use Rattle.lotstrip_text.proofs.text.write_bytes.Given as goal
+
+abbrev pub invariant-loop-i : goal.invariant-loop-i
+invariant-loop-i l = Writing l.initial.text l.at l.bytes (drop l.i l.bytes) l.text l.to
+
+abbrev pub decreases-loop-i : goal.decreases-loop-i
+decreases-loop-i l = length l.bytes - l.i
