@@ -7,7 +7,7 @@ use Rattle.plain.specs.Lists.{written}
 use Rattle.plain.specs.Operations.{operations}
 use Rattle.plain.specs.Plain.{Plain, EdgeSlot, edge_flags}
 use Rattle.plain.specs.Reads.{Reply, live_edges}
-use Rattle.plain.specs.Step.{Capacities, State, answers}
+use Rattle.plain.specs.Step.{Capacities, State}
 use Rattle.plain.specs.Compaction.{survivors}
 use Rattle.plain.specs.Bits.{least_width}
 use Rattle.plain.specs.Image.{image, record_width}

@@ -1,12 +1,8 @@
 -- `image_read::read_fields` meets its contract. The loop's invariant: the fields passed are in their words, all other words are as they were, and the next field is
 -- where the distances say. The measure is the number of fields left.
-use Rattle.plain.specs.Library.{ℕ, ◌+◌, ◌-◌, ◌*◌, ◌≤◌, ◌≡◌, ap, ◌∙◌, arith}
-use native.Mathlib.Nat.{mul-zero}
-use Rattle.plain.specs.Bits.{field_at}
+use Rattle.plain.specs.Library.{◌+◌, ◌-◌, ◌*◌, ◌≤◌, ◌≡◌}
 use Rattle.shape.specs.Index.{Rewritten}
-use Rattle.shape.proofs.Laws.Indexing.{rewritten_none, rewritten_more, rewritten_all}
 use Rattle.image_check.specs.Spread.{spread}
-use Rattle.image_check.specs.Laws.Spread.{spread_room, spread_next, further}
 use Rattle.image_read.proofs.read_fields.Given as goal
 
 abbrev pub invariant-loop-i : goal.invariant-loop-i

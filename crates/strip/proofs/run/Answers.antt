@@ -1,9 +1,9 @@
 -- `strip::run` meets its contract. The loop's invariant: the first `i` operations are done and answered. The measure is the number of operations left.
-use Rattle.plain.specs.Library.{◌-◌, ap, arith}
+use Rattle.plain.specs.Library.{ap, arith}
 use Rattle.plain.specs.Memory.{Lengths}
 use Rattle.shape.specs.Shape.{store}
 use Rattle.shape.specs.Kept.{SameLengths, same_nodes, same_edges, same_highs, same_live_nodes, same_live_edges}
-use Rattle.strip.proofs.Running.{Running, running_start, running_turn, running_words, running_room, running_end}
+use Rattle.strip.proofs.Running.{running_start, running_turn, running_words, running_room, running_end}
 use Rattle.strip.proofs.run.Goals.{At-loop-i}
 use Rattle.strip.proofs.run.Goals as goal
 

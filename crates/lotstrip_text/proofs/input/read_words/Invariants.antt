@@ -1,10 +1,7 @@
 -- `lotstrip_text::input::read_words` meets its contract. The loop's invariant: the words passed are written. The measure is the number of words left.
-use Rattle.plain.specs.Library.{◌-◌, ◌*◌, ◌/◌, ◌<◌, ◌≡◌, refl, length, drop, arith}
+use Rattle.plain.specs.Library.{◌-◌, ◌*◌, ◌/◌, ◌≡◌, length, drop}
 use Rattle.plain.specs.Lotstrip.{words_of, word_bytes}
-use Rattle.bits.specs.Laws.Put.{put_one, put_length, put_written}
-use Rattle.lotstrip_text.proofs.Pieces.{Writing, writing_start, writing_room, writing_more, writing_end}
-use Rattle.lotstrip_text.specs.Appending.{Appended}
-use Rattle.lotstrip_text.proofs.Words.{length_words, words_next, words_none}
+use Rattle.lotstrip_text.proofs.Pieces.{Writing}
 use Rattle.lotstrip_text.proofs.input.read_words.Given as goal
 
 abbrev pub invariant-loop-i : goal.invariant-loop-i

@@ -1,6 +1,5 @@
 -- `lotstrip_text::text::digit_count` meets its contract. The loop's invariant: the count has the digits taken off and one more. The measure is what is left.
-use Rattle.plain.specs.Library.{arith}
-use Rattle.lotstrip_text.proofs.Digits.{CountingDigits, counting_start, counting_more, counting_few, counting_end}
+use Rattle.lotstrip_text.proofs.Digits.{CountingDigits}
 use Rattle.lotstrip_text.proofs.text.digit_count.Given as goal
 
 abbrev pub invariant-loop-left : goal.invariant-loop-left

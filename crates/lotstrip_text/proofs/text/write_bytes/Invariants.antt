@@ -1,9 +1,6 @@
 -- `lotstrip_text::text::write_bytes` meets its contract. The loop's invariant: the bytes passed are written. The measure is the number of bytes left.
-use Rattle.plain.specs.Library.{◌-◌, ◌<◌, refl, length, drop, arith}
-use lib.ListN.{drop_of_length-le}
-use Rattle.bits.specs.Laws.Put.{put_one, put_length}
-use Rattle.lotstrip_text.proofs.Pieces.{Writing, writing_start, writing_room, writing_more, writing_end}
-use Rattle.lotstrip_text.proofs.Lines.{bytes_next}
+use Rattle.plain.specs.Library.{◌-◌, length, drop}
+use Rattle.lotstrip_text.proofs.Pieces.{Writing}
 use Rattle.lotstrip_text.proofs.text.write_bytes.Given as goal
 
 abbrev pub invariant-loop-i : goal.invariant-loop-i

@@ -1,7 +1,5 @@
 -- `lotstrip_text::text::write_digits` meets its contract. The loop's invariant: the digits taken off stand from `to` on. The measure is what is left.
-use Rattle.plain.specs.Library.{arith}
-use Rattle.bits.specs.Laws.Put.{put_length}
-use Rattle.lotstrip_text.proofs.Digits.{WritingDigits, digits_start, digits_place, digits_room, digits_next, digits_end}
+use Rattle.lotstrip_text.proofs.Digits.{WritingDigits}
 use Rattle.lotstrip_text.proofs.text.write_digits.Given as goal
 
 abbrev pub invariant-loop-left : goal.invariant-loop-left

@@ -1,9 +1,7 @@
 -- `lotstrip_text::text::write_hex` meets its contract. The loop's invariant: the digits of the bytes passed are written. The measure is the number of bytes left.
-use Rattle.plain.specs.Library.{◌-◌, length, drop, arith}
+use Rattle.plain.specs.Library.{◌-◌, length, drop}
 use Rattle.plain.specs.Lotstrip.{hexadecimal}
-use Rattle.bits.specs.Laws.Put.{put_length}
-use Rattle.lotstrip_text.proofs.Pieces.{Writing, writing_start, writing_room, writing_more, writing_end}
-use Rattle.lotstrip_text.proofs.Lines.{hex_next, hex_none}
+use Rattle.lotstrip_text.proofs.Pieces.{Writing}
 use Rattle.lotstrip_text.proofs.text.write_hex.Given as goal
 
 abbrev pub invariant-loop-i : goal.invariant-loop-i
