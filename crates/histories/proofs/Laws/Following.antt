@@ -21,7 +21,7 @@ use Rattle.compact.specs.Calls.{compacting_of, CompactOf}
 use Rattle.image_read.specs.Calls.{ReadOf}
 use Rattle.histories.specs.Runs.{Request, StripInto, CompactionInto, ReadingOf, call_of, Heard, Turn, Turned, stripped as by_strip, compacted as by_compaction, read as by_reading, Turns, no_turn, turn, Origin, StoreOf, first_state, Made, made_fresh, made_by_reading, made_elsewhere, Ran}
 use Rattle.histories.specs.Follows.{told, CanAnswer, no_answer, one_answer, RefusalKeeps, no_refusal, one_kept, Follows}
-use Rattle.histories.specs.Laws.Calling.{roomy_read, checked_long, call_numbers}
+use Rattle.histories.proofs.Laws.Calling.{roomy_read, checked_long, call_numbers}
 
 -- ---- a checked store
 
