@@ -1,7 +1,6 @@
 pub mod Runs
 pub mod Follows
 pub mod Closing
-pub mod Laws
 pub mod Demand
 pub mod Direct
 pub mod Eleven

@@ -21,7 +21,7 @@ use Rattle.compact.specs.Calls.{compacting_of, CompactOf}
 use Rattle.image_read.specs.Calls.{ReadOf}
 use Rattle.histories.specs.Runs.{Request, StripInto, CompactionInto, ReadingOf, call_of, Heard, Turn, Turned, stripped as by_strip, compacted as by_compaction, read as by_reading, Turns, no_turn, turn, Origin, StoreOf, first_state, Made, made_fresh, made_by_reading, made_elsewhere, Ran}
 use Rattle.histories.specs.Follows.{told, CanAnswer, no_answer, one_answer, RefusalKeeps, no_refusal, one_kept, Follows}
-use Rattle.histories.specs.Laws.Calling.{roomy_read, checked_long, call_numbers}
+use Rattle.histories.proofs.Laws.Calling.{roomy_read, checked_long, call_numbers}
 
 -- ---- a checked store
 
@@ -157,7 +157,7 @@ follows_from at no_turn =
     record { answers = refl; numbers = no_answer; states = refl; ends = at.state; refusals = no_refusal; checked = at.checked }
 follows_from {device} {caps} {s} at (turn {request = request} one rest) =
     let f = one_call at one in
-    let more = follows_from f.stands rest in
+    let more = follows_from {s = (call device caps s (call_of request)).after} f.stands rest in
     record {
       answers = ap₂ {C = List Heard} (λ (h : Heard) (l : List Heard). h ∷ l) f.heard more.answers;
       numbers = one_answer
@@ -170,7 +170,7 @@ follows_from {device} {caps} {s} at (turn {request = request} one rest) =
     }
 
 -- a store that was made stands
-made_stands : {device : Device} → Proper device → {origin : Origin} {w : Words} → Made device w origin → Stands device (capacities w) (first_state origin) w
+made_stands : {device : Device} → Proper device → {w : Words} {origin : Origin} → Made device w origin → Stands device (capacities w) (first_state origin) w
 made_stands p (made_fresh of) = record { checked = of.checked refl; sized = refl; state = of.state; takes = fresh_takes p of }
 made_stands {device} p (made_by_reading {memory} {bytes} of) = record {
   checked = of.checked refl;

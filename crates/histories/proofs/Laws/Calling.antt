@@ -62,6 +62,7 @@ module _ (device : Device) (caps : Capacities) (s : State) where
   too_short (short_here h) = compaction_nodes h
   too_short (short_later k (short_here h)) = compaction_edges h
   too_short (short_later k (short_later l (short_here h))) = compaction_work h
+  too_short (short_later k (short_later l (short_later m none_left))) = elim none_left [ ]
 
   compaction_numbers : (node_map edge_map work : ℕ)
       → CanAnswer device caps s.lists (Compaction node_map edge_map work) (compaction s node_map edge_map work).number
@@ -84,6 +85,8 @@ module _ (device : Device) (caps : Capacities) (s : State) where
   reading_numbers bytes (read_too_short e (short_later k (short_later l (short_later m (short_later n (short_later o (short_here h))))))) = absurd (omega arith)
   reading_numbers bytes (read_too_short e (short_later k (short_later l (short_later m (short_later n (short_later o (short_later p (short_here h)))))))) =
       absurd (omega arith)
+  reading_numbers bytes (read_too_short e (short_later k (short_later l (short_later m (short_later n (short_later o (short_later p (short_later q none_left)))))))) =
+      elim none_left [ ]
 
   pub call_numbers : Takes device caps → (c : Call) → CanAnswer device caps s.lists c (call device caps s c).number
   unfolding call

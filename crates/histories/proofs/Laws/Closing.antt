@@ -21,7 +21,7 @@ use Rattle.shape.proofs.Laws.Reading.{plain_node_flags, plain_edge_flags}
 use Rattle.compact.specs.Calls.{Canonical, compacting_of}
 use Rattle.image_write.specs.Calls.{written_image}
 use Rattle.histories.specs.Closing.{Compacting, Writing, image_in, Closing, NothingMore, compaction_of, writing_of, written_of, Compacts, Writes, Images, Closes}
-use Rattle.histories.specs.Laws.Following.{checked_within, compacting_is}
+use Rattle.histories.proofs.Laws.Following.{checked_within, compacting_is}
 
 -- the map of slots that are all live
 identity_map : (flags : List Bool) (n : ℕ) → flags ≡ replicate n true → renumbering flags ≡ from 0 n
