@@ -15,11 +15,11 @@
 use Rattle.plain.specs.Library.{◌≡◌, refl, List, map}
 use Rattle.std.specs.Prelude.{◌↔◌}
 use Rattle.plain.specs.Step.{State}
-use Rattle.plain.specs.Devices.{Device, Proper}
+use Rattle.plain.specs.Devices.{Device}
 use Rattle.plain.specs.Compaction.{survivors}
 use Rattle.plain.specs.History.{history_from, history}
 use Rattle.shape.specs.Shape.{Words, capacities}
-use Rattle.histories.specs.Runs.{Request, call_of, Turn, Origin, FreshStore, first_state, Ran, final}
+use Rattle.histories.specs.Runs.{Request, call_of, Turn, Origin, FreshStore, first_state, final}
 use Rattle.histories.specs.Follows.{Follows}
 use Rattle.histories.specs.Closing.{Closing, Done, image_of, Closes}
 
