@@ -1,6 +1,6 @@
 -- What appending an edge to a ring does: the stores of its two ways, and the rings after them.
-use Rattle.plain.specs.Library.{ℕ, ◌+◌, ◌*◌, ◌≤◌, ◌<◌, ◌≡◌, sym, ◌∙◌, false, inl, inr, ⊎_elim, ◌≢◌, List, [], ◌∷◌, ◌++◌, get_or, set, length-set, get_or-set_same}
-use Rattle.plain.specs.Library.{get_or-set_other, arith}
+use Rattle.std.specs.Prelude.{ℕ, ◌+◌, ◌*◌, ◌≤◌, ◌<◌, ◌≡◌, false, ◌≢◌, List, [], ◌∷◌, ◌++◌, get_or, set}
+use Rattle.plain.specs.Library.{sym, ◌∙◌, inl, inr, ⊎_elim, length-set, get_or-set_same, get_or-set_other, arith}
 use Rattle.plain.specs.Numbers.{NONE, LIMIT}
 use Rattle.plain.specs.Lists.{member}
 use Rattle.plain.proofs.Laws.Booleans.{refuted}

@@ -1,6 +1,6 @@
 -- The edges of a walk made dead, turn by turn; then those of a node's whole walk.
-use Rattle.plain.specs.Library.{ℕ, ◌+◌, ◌/◌, ◌≤◌, ◌≡◌, refl, sym, ap, ◌∙◌, subst, Bool, true, false, cond, List, [], ◌∷◌, ◌++◌, append_assoc, length, get_or}
-use Rattle.plain.specs.Library.{length-set, append_snoc, get_or-set_other, eqb, arith}
+use Rattle.std.specs.Prelude.{ℕ, ◌+◌, ◌/◌, ◌≤◌, ◌≡◌, refl, Bool, true, false, cond, List, [], ◌∷◌, ◌++◌, length, get_or, eqb}
+use Rattle.plain.specs.Library.{sym, ap, ◌∙◌, subst, append_assoc, length-set, append_snoc, get_or-set_other, arith}
 use Rattle.plain.specs.declared.Counts.{Counts}
 use Rattle.plain.specs.Lists.{member}
 use Rattle.plain.specs.Reads.{live_count}

@@ -1,5 +1,6 @@
 -- The three columns that an `Axis` holds, as parts of the packed words: what is there to be read, and that reading them is reading the words.
-use Rattle.plain.specs.Library.{ℕ, suc, ◌+◌, ◌*◌, ◌≤◌, ◌<◌, ◌≡◌, Bool, List, length, ltb, arith, ltb-true}
+use Rattle.std.specs.Prelude.{ℕ, suc, ◌+◌, ◌*◌, ◌≤◌, ◌<◌, ◌≡◌, Bool, List, length, ltb}
+use Rattle.plain.specs.Library.{arith, ltb-true}
 use Rattle.plain.proofs.Laws.Booleans.{by_test}
 use Rattle.shape.specs.Columns.{Sized}
 use Rattle.adjacency.specs.declared.axis.Axis.{Axis}

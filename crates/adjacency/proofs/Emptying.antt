@@ -1,6 +1,6 @@
 -- What emptying the ring of a node does, of a new node and of one whose ring is forgotten.
-use Rattle.plain.specs.Library.{ℕ, ◌+◌, ◌*◌, ◌≤◌, ◌<◌, ◌≡◌, refl, ◌∙◌, ◌⊎◌, inl, inr, ◌≢◌, List, [], get_or, set, length-set, get_or-set_same, get_or-set_other, eqb}
-use Rattle.plain.specs.Library.{arith, eqb-true, eqb-false}
+use Rattle.std.specs.Prelude.{ℕ, ◌+◌, ◌*◌, ◌≤◌, ◌<◌, ◌≡◌, refl, ◌⊎◌, ◌≢◌, List, [], get_or, set, eqb}
+use Rattle.plain.specs.Library.{◌∙◌, inl, inr, length-set, get_or-set_same, get_or-set_other, arith, eqb-true, eqb-false}
 use native.Mathlib.Nat.{le_refl, le_trans}
 use Rattle.plain.specs.Numbers.{NONE, LIMIT}
 use Rattle.plain.proofs.Laws.Booleans.{by_test}

@@ -1,6 +1,6 @@
 -- Where a walk starts: at a run, at a base part, or nowhere; and that the cursor there has to read the node's entries.
-use Rattle.plain.specs.Library.{ℕ, ◌≤◌, ◌-◌, ◌*◌, ◌≡◌, refl, sym, ◌∙◌, subst, Bool, true, false, inl, inr, List, length, eqb, arith, eqb-false, eq-eqb}
-use Rattle.plain.specs.Library.{ne_eqb}
+use Rattle.std.specs.Prelude.{ℕ, ◌≤◌, ◌-◌, ◌*◌, ◌≡◌, refl, Bool, true, false, List, length, eqb}
+use Rattle.plain.specs.Library.{sym, ◌∙◌, subst, inl, inr, arith, eqb-false, eq-eqb, ne_eqb}
 use Rattle.shape.specs.Columns.{cell, last_at, first_at, count_at, mark_at}
 use Rattle.shape.specs.Shape.{between, base_of, adjacency_in, run_list, run_of, ring_of, part}
 use Rattle.shape.specs.Checked.{Index}

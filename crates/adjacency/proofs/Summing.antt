@@ -1,5 +1,6 @@
 -- A node's degree and total by the walk of its words are those of the plain lists.
-use Rattle.plain.specs.Library.{ℕ, ◌<◌, ◌≡◌, sym, ap, ◌∙◌, Bool, false, List, map, map-map, length, get_or, arith}
+use Rattle.std.specs.Prelude.{ℕ, ◌<◌, ◌≡◌, Bool, false, List, map, length, get_or}
+use Rattle.plain.specs.Library.{sym, ap, ◌∙◌, map-map, arith}
 use Rattle.plain.specs.declared.TraversalDirection.{TraversalDirection}
 use Rattle.plain.specs.declared.EdgePayload.{EdgePayload}
 use Rattle.plain.specs.Plain.{low_of, high_of, no_edge, list_of}

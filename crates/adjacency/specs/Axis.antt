@@ -1,5 +1,5 @@
 -- The axis: one direction's columns handed out together, "the `Axis` that holds offsets, adjacency words and ring links", and the answer of a lent cursor.
-use Rattle.plain.specs.Library.{ℕ, ◌+◌, ◌*◌, ◌≡◌, Bool, List}
+use Rattle.std.specs.Prelude.{ℕ, ◌+◌, ◌*◌, ◌≡◌, Bool, List}
 use Rattle.liveness.specs.Flags.{live_flags}
 use Rattle.shape.specs.Columns.{Sized}
 use Rattle.adjacency.specs.declared.axis.Axis.{Axis}

@@ -1,6 +1,6 @@
 -- Making every edge of a node's walk dead, in one direction: what the functions ask, and what they promise of the live words of the edges. The axis is read alone:
 -- a removed edge stays an entry of its lists.
-use Rattle.plain.specs.Library.{ℕ, ◌+◌, ◌*◌, ◌/◌, ◌≤◌, ◌≡◌, Bool, true, false, ◌&&◌, not, ◌≢◌, List, length, get_or}
+use Rattle.std.specs.Prelude.{ℕ, ◌+◌, ◌*◌, ◌/◌, ◌≤◌, ◌≡◌, Bool, true, false, ◌&&◌, not, ◌≢◌, List, length, get_or}
 use Rattle.plain.specs.declared.Counts.{Counts}
 use Rattle.plain.specs.Numbers.{LIMIT}
 use Rattle.plain.specs.Lists.{member}

@@ -1,5 +1,5 @@
 -- The axis of a direction, and both sums of a node's list as the plain lists have them.
-use Rattle.plain.specs.Library.{ℕ, List, map}
+use Rattle.std.specs.Prelude.{ℕ, List, map}
 use Rattle.plain.specs.declared.TraversalDirection.{TraversalDirection}
 use Rattle.plain.specs.declared.TraversalDirection.TheVariants.{Outgoing, Incoming}
 use Rattle.plain.specs.Lists.{sum}

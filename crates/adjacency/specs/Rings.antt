@@ -1,5 +1,6 @@
 -- What the functions over rings ask and promise, of the words of an axis at entry, `ws`, and at exit, `vs`; a record a function.
-use Rattle.plain.specs.Library.{ℕ, ◌+◌, ◌*◌, ◌≤◌, ◌<◌, ◌≡◌, cond, ◌≢◌, none, List, [], ◌∷◌, ◌++◌, length, get_or, eqb}
+use Rattle.std.specs.Prelude.{ℕ, ◌+◌, ◌*◌, ◌≤◌, ◌<◌, ◌≡◌, cond, ◌≢◌, List, [], ◌∷◌, ◌++◌, length, get_or, eqb}
+use Rattle.plain.specs.Library.{none}
 use Rattle.plain.specs.Numbers.{NONE, LIMIT}
 use Rattle.shape.specs.Columns.{Sized, end_at, next_at, last_at}
 use Rattle.shape.specs.Shape.{ring_of, run_of}

@@ -1,6 +1,6 @@
 -- Walks over one node's adjacency, from the words of one direction: what a walk reads, in the shape's lists, and what the functions ask and promise. `ce` and
 -- `cn` are the capacities; `live` of a walk says whether the node is, since "a removed node walks empty".
-use Rattle.plain.specs.Library.{ℕ, ◌*◌, ◌≤◌, ◌<◌, ◌≡◌, Bool, true, false, cond, not, List, [], length, take, drop, eqb}
+use Rattle.std.specs.Prelude.{ℕ, ◌*◌, ◌≤◌, ◌<◌, ◌≡◌, Bool, true, false, cond, not, List, [], length, take, drop, eqb}
 use Rattle.plain.specs.declared.Counts.{Counts}
 use Rattle.plain.specs.Numbers.{LIMIT}
 use Rattle.liveness.specs.Flags.{live_flags}

@@ -1,7 +1,7 @@
 // One direction's columns as slices of their own, resolved once for a walk (`Axis` of the Rust), and the lent cursor that moves along them (`advance`). Both
 // are thin: what reads the columns is by value and over plain slices, in the other files.
 
-ghost use Rattle.plain.specs.Library.{◌<◌, ◌≡◌, length};
+ghost use Rattle.std.specs.Prelude.{◌<◌, ◌≡◌, length};
 ghost use Rattle.liveness.specs.Flags.{live_flags};
 ghost use Rattle.shape.specs.Columns.{Sized};
 ghost use Rattle.cursor.specs.Cursor.{listed, Seekable, Sought};

@@ -2,7 +2,7 @@
 // walk is cleared as it is read, with no memory for it: a removed edge stays an entry of its lists, so what the cursor has still to read does not change, and
 // entries that are dead, before or by now, are passed over.
 
-ghost use Rattle.plain.specs.Library.{◌*◌, ◌≤◌, true, [], ◌∷◌, length};
+ghost use Rattle.std.specs.Prelude.{◌*◌, ◌≤◌, true, [], ◌∷◌, length};
 ghost use Rattle.cursor.specs.Cursor.{remaining};
 ghost use Rattle.adjacency.specs.Walk.{walk_in, entries_column, next_column};
 ghost use Rattle.adjacency.specs.Clear.{Retired, LeftClearable, Clearable};

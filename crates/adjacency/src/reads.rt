@@ -1,6 +1,6 @@
 // The degree and the total of a node, by the plain lists of a checked store (crate `plain`, Reads.antt).
 
-ghost use Rattle.plain.specs.Library.{◌<◌, ◌≡◌, length};
+ghost use Rattle.std.specs.Prelude.{◌<◌, ◌≡◌, length};
 ghost use Rattle.plain.specs.Plain.{list_of};
 ghost use Rattle.shape.specs.Checked.{Checked};
 ghost use Rattle.shape.specs.Shape.{lists};

@@ -2,7 +2,7 @@
 // edge's link leads to the first. So an append takes constant time and the ring is read in the order of appending. What a call asks and promises of the words
 // is a record of specs/Rings.antt; `edge_capacity` and `node_capacity` are those of the axis.
 
-ghost use Rattle.plain.specs.Library.{◌≡◌};
+ghost use Rattle.std.specs.Prelude.{◌≡◌};
 ghost use Rattle.adjacency.specs.Rings.{Appendable, Appended, Openable, Opened, EndsReadable, ring_ends as ends_of, Detachable, Detached};
 
 use plain::NONE;

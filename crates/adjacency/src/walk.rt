@@ -2,7 +2,7 @@
 // ends. Both directions use the same functions with the one axis or the other. `edge_capacity` and `node_capacity` are those of the axis; `live` says whether the node
 // is live.
 
-ghost use Rattle.plain.specs.Library.{◌≤◌, ◌≡◌, map, length};
+ghost use Rattle.std.specs.Prelude.{◌≤◌, ◌≡◌, map, length};
 ghost use Rattle.plain.specs.Lists.{written};
 ghost use Rattle.shape.specs.Columns.{end_at};
 ghost use Rattle.cursor.specs.Cursor.{ListWritten};

@@ -1,6 +1,6 @@
 -- How a field is read in parts, and out of a window of whole bytes.
-use Rattle.plain.specs.Library.{ℕ, zero, suc, ◌+◌, ◌-◌, ◌*◌, ◌/◌, ◌%◌, ◌^◌, ◌≤◌, ◌<◌, ◌≡◌, sym, ap, ap₂, ◌∙◌, List, ◌∷◌, ◌++◌, length, take, drop, get_or}
-use Rattle.plain.specs.Library.{length-drop, take_at, lt_of_lt_of_le, arith}
+use Rattle.std.specs.Prelude.{ℕ, zero, suc, ◌+◌, ◌-◌, ◌*◌, ◌/◌, ◌%◌, ◌^◌, ◌≤◌, ◌<◌, ◌≡◌, List, ◌∷◌, ◌++◌, length, take, drop, get_or}
+use Rattle.plain.specs.Library.{sym, ap, ap₂, ◌∙◌, length-drop, take_at, lt_of_lt_of_le, arith}
 use Prim.Native.Nat.{min}
 use native.Mathlib.Nat.{mod-eq_of_lt, one-mul}
 use lib.ListN.{length-take}

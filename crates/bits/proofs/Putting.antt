@@ -1,6 +1,6 @@
 -- What a put does to the stream: the value's bits wait with the others, or four bytes of them are written; and what finishing writes.
-use Rattle.plain.specs.Library.{ℕ, ◌+◌, ◌*◌, ◌/◌, ◌%◌, ◌^◌, ◌≤◌, ◌<◌, ◌≡◌, refl, sym, ap, ap₂, ◌∙◌, List, ◌++◌, append_assoc, length, take, drop}
-use Rattle.plain.specs.Library.{length-append, take_at, pow_pos, lt_of_lt_of_le, arith}
+use Rattle.std.specs.Prelude.{ℕ, ◌+◌, ◌*◌, ◌/◌, ◌%◌, ◌^◌, ◌≤◌, ◌<◌, ◌≡◌, refl, List, ◌++◌, length, take, drop}
+use Rattle.plain.specs.Library.{sym, ap, ap₂, ◌∙◌, append_assoc, length-append, take_at, pow_pos, lt_of_lt_of_le, arith}
 use native.Mathlib.Nat.{mod-lt, mod-eq_of_lt}
 use lib.ListN.{length-take}
 use lib.Seq.{drop_at}

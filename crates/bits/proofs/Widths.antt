@@ -1,6 +1,7 @@
 -- The lines of the weighing inspector's sheet. Document 02, No. 3: "up to 1 is 0, 2 is 1, 3 to 4 is 2, and so on to 16,385 to 32,768 is 15". Each gives document 01's
 -- least width, so that no image changes a byte.
-use Rattle.plain.specs.Library.{ℕ, suc, ◌^◌, ◌≤◌, ◌<◌, ◌≡◌, arith}
+use Rattle.std.specs.Prelude.{ℕ, suc, ◌^◌, ◌≤◌, ◌<◌, ◌≡◌}
+use Rattle.plain.specs.Library.{arith}
 use lib.Pow.{pow_mono}
 use Rattle.plain.specs.Numbers.{LIMIT}
 use Rattle.plain.specs.Bits.{least_width}

@@ -1,6 +1,6 @@
 -- Writes that follow each other are one write, and a byte that is stored is one.
-use Rattle.plain.specs.Library.{ℕ, suc, ◌+◌, ◌-◌, ◌*◌, ◌/◌, ◌%◌, ◌^◌, ◌≤◌, ◌<◌, ◌≡◌, refl, sym, ap, ap₂, ◌∙◌, List, [], ◌∷◌, ◌++◌, length, take, drop, set}
-use Rattle.plain.specs.Library.{length-set, arith}
+use Rattle.std.specs.Prelude.{ℕ, suc, ◌+◌, ◌-◌, ◌*◌, ◌/◌, ◌%◌, ◌^◌, ◌≤◌, ◌<◌, ◌≡◌, refl, List, [], ◌∷◌, ◌++◌, length, take, drop, set}
+use Rattle.plain.specs.Library.{sym, ap, ap₂, ◌∙◌, length-set, arith}
 use native.Mathlib.Nat.{sub_self, sub-zero, div-one}
 use lib.Seq.{set_split}
 use lib.Pow.{shr-shr}

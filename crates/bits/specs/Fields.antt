@@ -1,5 +1,5 @@
 -- The room that a field needs in bytes.
-use Rattle.plain.specs.Library.{ℕ, ◌+◌, ◌*◌, ◌/◌, ◌%◌, ◌^◌, ◌≤◌, ◌<◌, List, length}
+use Rattle.std.specs.Prelude.{ℕ, ◌+◌, ◌*◌, ◌/◌, ◌%◌, ◌^◌, ◌≤◌, ◌<◌, List, length}
 
 -- a field of width bits at bit position is within the bytes; its end is a number of 64 bits, which lent bytes alone do not give
 pub record Room (bytes : List ℕ) (position width : ℕ) : Type 0 where

@@ -1,6 +1,6 @@
 -- What the pen promises. Bits that were put are in the bytes before the pen, or wait in it: that is the stream, and a put appends to it. `Penned s p f t q`: with bytes s
 -- and pen p, bits f were put, and t and q are there then.
-use Rattle.plain.specs.Library.{ℕ, ◌+◌, ◌*◌, ◌^◌, ◌≤◌, ◌<◌, ◌≡◌, List, ◌++◌, length, take, drop}
+use Rattle.std.specs.Prelude.{ℕ, ◌+◌, ◌*◌, ◌^◌, ◌≤◌, ◌<◌, ◌≡◌, List, ◌++◌, length, take, drop}
 use Rattle.plain.specs.Bits.{bits_of, bits}
 use Rattle.bits.specs.declared.pen.Pen.{Pen}
 

@@ -1,5 +1,5 @@
 -- What a writer promises: `Put s p f t`, that list t has f from place p on and is s elsewhere.
-use Rattle.plain.specs.Library.{ℕ, ◌+◌, ◌≤◌, ◌≡◌, List, length}
+use Rattle.std.specs.Prelude.{ℕ, ◌+◌, ◌≤◌, ◌≡◌, List, length}
 use Rattle.std.proofs.lemmas.List.Edits.{sets}
 
 pub record Put (s : List ℕ) (p : ℕ) (f t : List ℕ) : Type 0 where

@@ -1,5 +1,5 @@
 -- What a writer of bits promises: `Wrote s p f t`, that bytes t have bits f from bit p on, and every other bit as bytes s have it.
-use Rattle.plain.specs.Library.{ℕ, ◌+◌, ◌*◌, ◌≤◌, ◌≡◌, List, ◌++◌, length, take, drop}
+use Rattle.std.specs.Prelude.{ℕ, ◌+◌, ◌*◌, ◌≤◌, ◌≡◌, List, ◌++◌, length, take, drop}
 use Rattle.plain.specs.Bits.{bits}
 
 pub record Wrote (s : List ℕ) (p : ℕ) (f t : List ℕ) : Type 0 where

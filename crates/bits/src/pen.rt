@@ -1,7 +1,7 @@
 // The pen: fields of bits put one after the other into lent bytes. Bits wait in the pen until there are four bytes of them, so that a byte is written once and none
 // is read.
 
-ghost use Rattle.plain.specs.Library.{◌+◌, ◌*◌, ◌<◌, ◌≤◌, ◌++◌, length};
+ghost use Rattle.std.specs.Prelude.{◌+◌, ◌*◌, ◌<◌, ◌≤◌, ◌++◌, length};
 ghost use Rattle.plain.specs.Bits.{bits_of, padding};
 ghost use Rattle.bits.specs.Wrote.{Wrote};
 ghost use Rattle.bits.specs.Penned.{Ready, Puts, Penned, reach, waiting};

@@ -1,6 +1,6 @@
 // The check, and reads of a whole store.
 
-ghost use Rattle.plain.specs.Library.{◌≡◌};
+ghost use Rattle.std.specs.Prelude.{◌≡◌};
 ghost use Rattle.plain.specs.Calls.{check as check_answer};
 ghost use Rattle.plain.specs.Reads.{node_bound_answer, edge_bound_answer, node_count, edge_count, is_empty, is_compact, node_slots, edge_slots};
 ghost use Rattle.shape.specs.Shape.{shape_of, lists};

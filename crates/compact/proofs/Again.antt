@@ -7,7 +7,8 @@
 -- 4. Of the entries it says that they are the lists of all nodes joined. What is written is the first or second half of the work slice, the lists of the survivors.
 --    Since all is live and the store is well formed, the survivors' lists are the lists that were there (`same_lists`, `outs_again`, `ins_again`).
 -- 5. Live words are those of as many slots, all live, and stand there already; the counts are all bound already. So all seven parts are equal (`dropped_again`).
-use Rattle.plain.specs.Library.{ℕ, ◌+◌, ◌*◌, ◌≤◌, ◌<◌, ◌≡◌, sym, ap, ap₂, subst, subst₂, ◌∙◌, true, List, map, length, get_or, take, drop, replicate, zero-add}
+use Rattle.std.specs.Prelude.{ℕ, ◌+◌, ◌*◌, ◌≤◌, ◌<◌, ◌≡◌, true, List, map, length, get_or, take, drop, replicate}
+use Rattle.plain.specs.Library.{sym, ap, ap₂, subst, subst₂, ◌∙◌, zero-add}
 use lib.Seq.{get_or-take}
 use Rattle.plain.specs.declared.Counts.{Counts}
 use Rattle.plain.specs.declared.Slots.{Slots}

@@ -1,5 +1,6 @@
 -- A direction compacted, call by call: the ends moved down can be renumbered, and the base can be rebuilt on them.
-use Rattle.plain.specs.Library.{ℕ, ◌<◌, ◌≤◌, ◌∙◌, ◌≡◌, ap, subst, sym, Bool, false, true, List, get_or, zero-add, arith}
+use Rattle.std.specs.Prelude.{ℕ, ◌<◌, ◌≤◌, ◌≡◌, Bool, false, true, List, get_or}
+use Rattle.plain.specs.Library.{◌∙◌, ap, subst, sym, zero-add, arith}
 use Rattle.plain.specs.Reads.{live_count, live_slots}
 use Rattle.plain.proofs.Laws.ListLaws.{count_length}
 use Rattle.plain.proofs.Laws.Rank.{live_slot_live}

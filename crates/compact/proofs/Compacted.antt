@@ -1,5 +1,6 @@
 -- What is left once the dead slots are dropped: the store holds the survivors.
-use Rattle.plain.specs.Library.{ℕ, ◌<◌, ◌≡◌, sym, ap, ap₂, subst, subst₂, ◌∙◌, Bool, List, map, map-map, length, get_or, take, drop, zero-add, arith, ltb-true}
+use Rattle.std.specs.Prelude.{ℕ, ◌<◌, ◌≡◌, Bool, List, map, length, get_or, take, drop}
+use Rattle.plain.specs.Library.{sym, ap, ap₂, subst, subst₂, ◌∙◌, map-map, zero-add, arith, ltb-true}
 use Rattle.plain.specs.declared.Counts.{Counts}
 use Rattle.plain.specs.declared.TraversalDirection.{TraversalDirection}
 use Rattle.plain.specs.declared.TraversalDirection.TheVariants.{Outgoing, Incoming}

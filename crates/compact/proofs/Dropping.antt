@@ -1,5 +1,6 @@
 -- Dropping the dead slots, call by call: what each call asks holds in a checked store.
-use Rattle.plain.specs.Library.{ℕ, ◌*◌, ◌-◌, ◌<◌, ◌≤◌, ◌≡◌, subst, false, true, List, drop, get_or, length, length-drop, take, arith}
+use Rattle.std.specs.Prelude.{ℕ, ◌*◌, ◌-◌, ◌<◌, ◌≤◌, ◌≡◌, false, true, List, drop, get_or, length, take}
+use Rattle.plain.specs.Library.{subst, length-drop, arith}
 use lib.Seq.{take_all}
 use Rattle.plain.specs.declared.Slots.{Slots}
 use Rattle.plain.specs.declared.TraversalDirection.{TraversalDirection}

@@ -1,6 +1,6 @@
 -- The ways that a compaction ends, by what it answers before it begins: refused, or the store settled.
-use Rattle.plain.specs.Library.{ℕ, zero, suc, ◌*◌, ◌≤◌, ◌<◌, ◌≡◌, refl, sym, ap, ◌∙◌, Bool, true, inl, List, [], ◌++◌, append_assoc, length, take, drop}
-use Rattle.plain.specs.Library.{length-map, length-append, length-drop, take_at, arith, le-leb, lt-leb}
+use Rattle.std.specs.Prelude.{ℕ, zero, suc, ◌*◌, ◌≤◌, ◌<◌, ◌≡◌, refl, Bool, true, List, [], ◌++◌, length, take, drop}
+use Rattle.plain.specs.Library.{sym, ap, ◌∙◌, inl, append_assoc, length-map, length-append, length-drop, take_at, arith, le-leb, lt-leb}
 use lib.Seq.{drop_at}
 use Rattle.plain.specs.declared.Answer.{Answer}
 use Rattle.plain.specs.declared.Counts.{Counts}

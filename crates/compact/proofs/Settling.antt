@@ -1,5 +1,6 @@
 -- Compacting a checked store, call by call: what each call asks holds, the maps once they are written.
-use Rattle.plain.specs.Library.{ℕ, ◌∙◌, ◌≡◌, ap, Bool, false, true, List, get_or, length, zero-add, arith}
+use Rattle.std.specs.Prelude.{ℕ, ◌≡◌, Bool, false, true, List, get_or, length}
+use Rattle.plain.specs.Library.{◌∙◌, ap, zero-add, arith}
 use Rattle.plain.specs.declared.TraversalDirection.TheVariants.{Outgoing}
 use Rattle.plain.specs.Compaction.{rank, renumbering}
 use Rattle.plain.specs.Lists.{written}

@@ -1,5 +1,6 @@
 -- Two outcomes of one compaction agree on every field, so what is no field is all that the contract leaves to the program.
-use Rattle.plain.specs.Library.{ℕ, ◌<◌, ◌≡◌, sym, ap, ◌∙◌, subst₂, List, eqb, eqb-true, eqb-false}
+use Rattle.std.specs.Prelude.{ℕ, ◌<◌, ◌≡◌, List, eqb}
+use Rattle.plain.specs.Library.{sym, ap, ◌∙◌, subst₂, eqb-true, eqb-false}
 use Rattle.plain.specs.declared.Counts.{Counts}
 use Rattle.plain.specs.declared.TraversalDirection.{TraversalDirection}
 use Rattle.plain.proofs.Laws.Booleans.{by_test}

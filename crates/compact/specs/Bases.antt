@@ -1,5 +1,5 @@
 -- What putting a new base into an axis, and compacting an axis, ask and promise.
-use Rattle.plain.specs.Library.{ℕ, ◌*◌, ◌+◌, ◌<◌, ◌≤◌, ◌≡◌, false, true, List, get_or, length}
+use Rattle.std.specs.Prelude.{ℕ, ◌*◌, ◌+◌, ◌<◌, ◌≤◌, ◌≡◌, false, true, List, get_or, length}
 use Rattle.plain.specs.declared.Slots.{Slots}
 use Rattle.plain.specs.Numbers.{NONE}
 use Rattle.plain.specs.Reads.{live_count}

@@ -1,5 +1,5 @@
 -- What a compaction comes to on any words: number and value, maps and work as whole lists, and the store.
-use Rattle.plain.specs.Library.{ℕ, ◌+◌, ◌<◌, ◌≡◌, List, map, length}
+use Rattle.std.specs.Prelude.{ℕ, ◌+◌, ◌<◌, ◌≡◌, List, map, length}
 use Rattle.plain.specs.declared.Slots.{Slots}
 use Rattle.plain.specs.declared.TraversalDirection.{TraversalDirection}
 use Rattle.plain.specs.Calls.{Compacted, compaction, judged_compaction}

@@ -1,5 +1,5 @@
 -- What dropping the dead slots asks and promises.
-use Rattle.plain.specs.Library.{ℕ, ◌*◌, ◌≤◌, ◌≡◌, false, true, List, drop, get_or, length}
+use Rattle.std.specs.Prelude.{ℕ, ◌*◌, ◌≤◌, ◌≡◌, false, true, List, drop, get_or, length}
 use Rattle.plain.specs.Compaction.{rank}
 use Rattle.plain.specs.Reads.{live_count}
 use Rattle.liveness.specs.Calls.{Reset}

@@ -1,6 +1,6 @@
 -- Document 02, No. 9, by example: "compaction, joining and the image keep every walk of every store that passes the check, ring order included." Two stores from
 -- elsewhere with a ring that descends, proved by computation from the definitions.
-use Rattle.plain.specs.Library.{ℕ, ◌≡◌, refl, List, [], ◌∷◌, length}
+use Rattle.std.specs.Prelude.{ℕ, ◌≡◌, refl, List, [], ◌∷◌, length}
 use Rattle.plain.specs.declared.Slots.{Slots}
 use Rattle.plain.specs.declared.TraversalDirection.{TraversalDirection}
 use Rattle.plain.specs.declared.TraversalDirection.TheVariants.{Outgoing, Incoming}

@@ -1,6 +1,7 @@
 -- A wrong program that the record of a compaction rules out: one that writes its maps, answers 0 and leaves the store alone. "Where nothing was removed the lists
 -- pass", and it is ruled out there too, as soon as one edge was added since the last compaction.
-use Rattle.plain.specs.Library.{ℕ, ◌<◌, refl, List, arith}
+use Rattle.std.specs.Prelude.{ℕ, ◌<◌, refl, List}
+use Rattle.plain.specs.Library.{arith}
 use Rattle.shape.specs.Shape.{Words}
 use Rattle.compact.specs.Calls.{CompactOf}
 

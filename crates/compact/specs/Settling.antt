@@ -1,6 +1,6 @@
 -- What a compaction answers before it begins; and what compacting a checked store asks and promises, with its answers: the two maps, the work slice, and the store
 -- without its dead slots.
-use Rattle.plain.specs.Library.{ℕ, ◌*◌, ◌≤◌, ◌<◌, ◌≡◌, List, length}
+use Rattle.std.specs.Prelude.{ℕ, ◌*◌, ◌≤◌, ◌<◌, ◌≡◌, List, length}
 use Rattle.plain.specs.declared.Answer.{Answer}
 use Rattle.plain.specs.declared.Counts.{Counts}
 use Rattle.plain.specs.Numbers.{done, no_store, too_short}

@@ -1,5 +1,5 @@
 -- The shape of a store whose survivors are all in the base, which is what compaction and image reading leave.
-use Rattle.plain.specs.Library.{map, length}
+use Rattle.std.specs.Prelude.{map, length}
 use Rattle.plain.specs.Compaction.{Survivors, kept_edge, kept_node, source_of, target_of}
 use Rattle.shape.specs.Shape.{Shape}
 use Rattle.shape.proofs.Laws.NewBase.{in_base}

@@ -1,6 +1,6 @@
 -- A walk read, and a walk written to a slice, turn by turn: the entries so far, and how many.
-use Rattle.plain.specs.Library.{ℕ, ◌+◌, ◌≤◌, ◌<◌, ◌≡◌, refl, sym, ap, ◌∙◌, Bool, false, List, [], ◌∷◌, ◌++◌, map, append-nil, length, set, drop, length-append}
-use Rattle.plain.specs.Library.{length-set, length-map, append_snoc, arith}
+use Rattle.std.specs.Prelude.{ℕ, ◌+◌, ◌≤◌, ◌<◌, ◌≡◌, refl, Bool, false, List, [], ◌∷◌, ◌++◌, map, length, set, drop}
+use Rattle.plain.specs.Library.{sym, ap, ◌∙◌, append-nil, length-append, length-set, length-map, append_snoc, arith}
 use Rattle.plain.specs.Numbers.{NONE, LIMIT}
 use Rattle.plain.specs.Lists.{keep, written}
 use Rattle.plain.proofs.Laws.ListLaws.{map_snoc}

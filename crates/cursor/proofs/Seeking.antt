@@ -1,5 +1,6 @@
 -- The search for the next entry that passes, turn by turn.
-use Rattle.plain.specs.Library.{ℕ, ◌≡◌, refl, ◌∙◌, Bool, true, false, List}
+use Rattle.std.specs.Prelude.{ℕ, ◌≡◌, refl, Bool, true, false, List}
+use Rattle.plain.specs.Library.{◌∙◌}
 use Rattle.cursor.specs.declared.AdjacencyCursor.{AdjacencyCursor}
 use Rattle.cursor.specs.declared.Found.TheVariants.{Edge, Done}
 use Rattle.cursor.specs.declared.Step.{Step}

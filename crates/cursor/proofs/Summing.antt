@@ -1,5 +1,6 @@
 -- The sums of a walk, turn by turn: what both sums are so far, and what is left of them.
-use Rattle.plain.specs.Library.{ℕ, ◌+◌, ◌*◌, ◌^◌, ◌≤◌, ◌<◌, ◌≡◌, ◌∙◌, Bool, true, false, List, ◌∷◌, map, length, arith}
+use Rattle.std.specs.Prelude.{ℕ, ◌+◌, ◌*◌, ◌^◌, ◌≤◌, ◌<◌, ◌≡◌, Bool, true, false, List, ◌∷◌, map, length}
+use Rattle.plain.specs.Library.{◌∙◌, arith}
 use Rattle.plain.specs.Numbers.{LIMIT}
 use Rattle.plain.specs.Lists.{keep, sum}
 use Rattle.cursor.specs.declared.AdjacencyCursor.{AdjacencyCursor}

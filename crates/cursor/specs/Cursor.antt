@@ -1,6 +1,6 @@
 -- The cursor of a walk over one node's adjacency: what it has still to read, one step of it, and the search for the next listed entry. The columns are
 -- slices of their own: `entries` is the run links where the walk is linked, else the compressed index's edge numbers; `next` is the ring links.
-use Rattle.plain.specs.Library.{ℕ, ◌+◌, ◌-◌, ◌*◌, ◌≤◌, ◌<◌, ◌≡◌, Bool, true, false, cond, ◌⊎◌, List, [], ◌∷◌, ◌++◌, length, get_or, eqb, ltb}
+use Rattle.std.specs.Prelude.{ℕ, ◌+◌, ◌-◌, ◌*◌, ◌≤◌, ◌<◌, ◌≡◌, Bool, true, false, cond, ◌⊎◌, List, [], ◌∷◌, ◌++◌, length, get_or, eqb, ltb}
 use Rattle.plain.specs.Numbers.{NONE, LIMIT}
 use Rattle.plain.specs.Lists.{keep, written}
 use Rattle.liveness.specs.Flags.{live_flags}

@@ -1,5 +1,5 @@
 -- Finding in a walk: the first listed entry that is wanted, or NONE.
-use Rattle.plain.specs.Library.{ℕ, Bool, List, get_or, eqb}
+use Rattle.std.specs.Prelude.{ℕ, Bool, List, get_or, eqb}
 use Rattle.plain.specs.Numbers.{NONE}
 use Rattle.plain.specs.Lists.{keep}
 

@@ -1,5 +1,5 @@
 -- Totals over a walk: of what two columns have at each listed entry, the sum of the one and the sum of the other.
-use Rattle.plain.specs.Library.{ℕ, ◌≤◌, Bool, List, map, length}
+use Rattle.std.specs.Prelude.{ℕ, ◌≤◌, Bool, List, map, length}
 use Rattle.plain.specs.Numbers.{LIMIT}
 use Rattle.plain.specs.Lists.{sum}
 use Rattle.cursor.specs.declared.AdjacencyCursor.{AdjacencyCursor}

@@ -3,7 +3,7 @@
 
 #![tactic(auto)]
 
-ghost use Rattle.plain.specs.Library.{◌*◌, ◌<◌, ◌≤◌, ◌≡◌, false, map, length};
+ghost use Rattle.std.specs.Prelude.{◌*◌, ◌<◌, ◌≤◌, ◌≡◌, false, map, length};
 ghost use Rattle.plain.specs.Numbers.{NONE as none};
 ghost use Rattle.plain.specs.Lists.{written};
 ghost use Rattle.liveness.specs.Flags.{live_flags};

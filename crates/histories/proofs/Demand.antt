@@ -1,6 +1,6 @@
 -- DEMAND 3, proved: `demand_3` of every two runs, and `checked_images` of any two checked stores. What it says stands in specs/Demand, sentence by sentence.
-use Rattle.plain.specs.Library.{◌≡◌, sym, ap, subst, subst₂, ◌∙◌, List}
-use Rattle.std.specs.Prelude.{◌↔◌}
+use Rattle.std.specs.Prelude.{◌≡◌, List, ◌↔◌}
+use Rattle.plain.specs.Library.{sym, ap, subst, subst₂, ◌∙◌}
 use Rattle.plain.specs.Step.{State}
 use Rattle.plain.specs.Devices.{Device, Proper}
 use Rattle.plain.specs.Compaction.{survivors}

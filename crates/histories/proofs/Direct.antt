@@ -1,6 +1,6 @@
 -- Images written directly: `direct_images` of any two checked stores, and `run_images` of every two runs. What it says of runs stands in specs/Direct.
-use Rattle.plain.specs.Library.{◌≡◌, sym, ap, subst, subst₂, ◌∙◌, List}
-use Rattle.std.specs.Prelude.{◌↔◌}
+use Rattle.std.specs.Prelude.{◌≡◌, List, ◌↔◌}
+use Rattle.plain.specs.Library.{sym, ap, subst, subst₂, ◌∙◌}
 use Rattle.plain.specs.Step.{State}
 use Rattle.plain.specs.Devices.{Device, Proper}
 use Rattle.plain.specs.Compaction.{survivors}

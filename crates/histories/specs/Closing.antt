@@ -1,6 +1,6 @@
 -- The closing calls: a compaction, and the writing of the image of what it left. "The closing compactions and image writings are meant where they answer 0; the
 -- only other number they can give is 2."
-use Rattle.plain.specs.Library.{ℕ, ◌≡◌, ◌⊎◌, List, length, take}
+use Rattle.std.specs.Prelude.{ℕ, ◌≡◌, ◌⊎◌, List, length, take}
 use Rattle.plain.specs.declared.Answer.{Answer}
 use Rattle.plain.specs.Lists.{written, from}
 use Rattle.plain.specs.Plain.{Plain}

@@ -12,8 +12,7 @@
 -- Document 02, No. 7: "Whatever is proved of a store is proved over the capacity, with no copy for the skid." Each run is on a device of its own, a box or the skid; two boxes
 -- are one case.
 -- The theorem is proved in proofs/Demand, the laws that it rests on in proofs/Laws.
-use Rattle.plain.specs.Library.{◌≡◌, refl, List, map}
-use Rattle.std.specs.Prelude.{◌↔◌}
+use Rattle.std.specs.Prelude.{◌≡◌, refl, List, map, ◌↔◌}
 use Rattle.plain.specs.Step.{State}
 use Rattle.plain.specs.Devices.{Device}
 use Rattle.plain.specs.Compaction.{survivors}

@@ -1,7 +1,6 @@
 -- Images written directly, of stores that are not compacted before. Document 02, No. 2: "The image comparison between two stores may now be made without compacting
 -- either." Proved in proofs/Direct.
-use Rattle.plain.specs.Library.{◌≡◌, List}
-use Rattle.std.specs.Prelude.{◌↔◌}
+use Rattle.std.specs.Prelude.{◌≡◌, List, ◌↔◌}
 use Rattle.plain.specs.Devices.{Device}
 use Rattle.plain.specs.Compaction.{survivors}
 use Rattle.shape.specs.Shape.{Words}

@@ -1,7 +1,7 @@
 -- NUMBER 11 NEVER OCCURS. Document 02, No. 2: "Number 11 never occurs any more; show that." One theorem, `never_eleven`, with a field for each public call of
 -- docs/ENTRIES.md and one for the operations of a strip, each from the record that the entry's contract cites, so of every answer that the call can give.
-use Rattle.plain.specs.Library.{ℕ, zero, suc, ◌*◌, ◌%◌, ◌<◌, ◌≡◌, refl, ap, ◌∙◌, Bool, true, false, ⊎_elim, Option, none, some, List, [], ◌∷◌, map, length}
-use Rattle.plain.specs.Library.{get_or, drop, get_or-append, eqb, leb, ltb, arith}
+use Rattle.std.specs.Prelude.{ℕ, zero, suc, ◌*◌, ◌%◌, ◌<◌, ◌≡◌, refl, Bool, true, false, List, [], ◌∷◌, map, length, get_or, drop, eqb, leb, ltb}
+use Rattle.plain.specs.Library.{ap, ◌∙◌, ⊎_elim, Option, none, some, get_or-append, arith}
 use Rattle.plain.specs.declared.TraversalDirection.{TraversalDirection}
 use Rattle.plain.specs.declared.TraversalDirection.TheVariants.{Outgoing, Incoming}
 use Rattle.plain.specs.declared.Answer.{Answer}

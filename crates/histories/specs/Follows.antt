@@ -1,5 +1,5 @@
 -- What it means that a run follows its history: each answer and each store in it is the one that the definitions give for the calls alone.
-use Rattle.plain.specs.Library.{ℕ, ◌*◌, ◌%◌, ◌<◌, ◌≡◌, List, [], ◌∷◌, map, length}
+use Rattle.std.specs.Prelude.{ℕ, ◌*◌, ◌%◌, ◌<◌, ◌≡◌, List, [], ◌∷◌, map, length}
 use Rattle.plain.specs.Lists.{written}
 use Rattle.plain.specs.Plain.{Plain, node_bound, edge_bound}
 use Rattle.plain.specs.Operations.{operation_words, operations}

@@ -1,7 +1,7 @@
 -- Runs: calls made one after the other on one store's memory, from a fresh store on, from an image read into any memory, or from any store that passes the check.
 -- What a call came to is what its entry's contract says and nothing else: the records `FreshOf`, `StripOf`, `CompactOf` and `ReadOf` are those that the contracts
 -- cite. A run is one on a device, a box or the skid: the stores are made, and images read, by the entries of that device.
-use Rattle.plain.specs.Library.{ℕ, List, [], ◌∷◌, length}
+use Rattle.std.specs.Prelude.{ℕ, List, [], ◌∷◌, length}
 use Rattle.plain.specs.Step.{State}
 use Rattle.plain.specs.Devices.{Device, Takes}
 use Rattle.plain.specs.Calls.{fresh_state, read_state}

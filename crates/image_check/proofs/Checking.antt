@@ -1,7 +1,7 @@
 -- The rules of an image by the tests of src/check.rt: what the counts and the length say, where the parts stand in the bytes, and that the passes over them
 -- answer rules 4 to 6.
-use Rattle.plain.specs.Library.{ℕ, ◌+◌, ◌-◌, ◌*◌, ◌^◌, ◌≤◌, ◌<◌, ◌≡◌, refl, sym, ap, ap₂, subst, ◌∙◌, Bool, true, false, cond, ◌&&◌, inl, inr, List, [], ◌∷◌}
-use Rattle.plain.specs.Library.{map, length, get_or, eqb, leb, ltb, arith, leb-true, ltb-true, lt-ltb, eqb-true, eqb-false}
+use Rattle.std.specs.Prelude.{ℕ, ◌+◌, ◌-◌, ◌*◌, ◌^◌, ◌≤◌, ◌<◌, ◌≡◌, refl, Bool, true, false, cond, ◌&&◌, List, [], ◌∷◌, map, length, get_or, eqb, leb, ltb}
+use Rattle.plain.specs.Library.{sym, ap, ap₂, subst, ◌∙◌, inl, inr, arith, leb-true, ltb-true, lt-ltb, eqb-true, eqb-false}
 use native.Mathlib.Nat.{mul-le-mul, mul-le-mul_left}
 use borrow.Author.Tests.{leb-false, ltb-false}
 use Rattle.plain.specs.Numbers.{LIMIT}

@@ -1,6 +1,6 @@
 -- Rule 6 in one pass: what the entries from one on decide, where those before are marked and the last of their ends is known.
-use Rattle.plain.specs.Library.{ℕ, suc, ◌+◌, ◌-◌, ◌*◌, ◌≤◌, ◌<◌, ◌≡◌, refl, sym, ap, ◌∙◌, Bool, true, false, ◌&&◌, ◌||◌, List, [], ◌∷◌, map, length, replicate}
-use Rattle.plain.specs.Library.{eqb, leb, ltb, arith, le-leb, lt-leb, lt-ltb, le-ltb, not-true, not-false}
+use Rattle.std.specs.Prelude.{ℕ, suc, ◌+◌, ◌-◌, ◌*◌, ◌≤◌, ◌<◌, ◌≡◌, refl, Bool, true, false, ◌&&◌, ◌||◌, List, [], ◌∷◌, map, length, replicate, eqb, leb, ltb}
+use Rattle.plain.specs.Library.{sym, ap, ◌∙◌, arith, le-leb, lt-leb, lt-ltb, le-ltb, not-true, not-false}
 use native.Mathlib.Nat.{sub-zero}
 use Rattle.plain.specs.Lists.{distinct, all}
 use Rattle.plain.specs.Bits.{field_at, fields_at}

@@ -1,6 +1,6 @@
 -- The check of an image's bytes: the ends and weights of the edges where their records stand, rule 6 by one pass over the joined entries, and what each function of
 -- src/check.rt may assume.
-use Rattle.plain.specs.Library.{ℕ, ◌+◌, ◌*◌, ◌^◌, ◌≤◌, ◌<◌, ◌≡◌, Bool, ◌&&◌, List, map, length, leb, ltb}
+use Rattle.std.specs.Prelude.{ℕ, ◌+◌, ◌*◌, ◌^◌, ◌≤◌, ◌<◌, ◌≡◌, Bool, ◌&&◌, List, map, length, leb, ltb}
 use Rattle.plain.specs.Numbers.{LIMIT}
 use Rattle.plain.specs.Lists.{all, distinct, from}
 use Rattle.plain.specs.Bits.{field_at, bytes_for}

@@ -1,5 +1,5 @@
 -- Fields at equal distances in bytes, and what reading them into words asks.
-use Rattle.plain.specs.Library.{ℕ, ◌+◌, ◌*◌, ◌^◌, ◌≤◌, ◌<◌, List, length}
+use Rattle.std.specs.Prelude.{ℕ, ◌+◌, ◌*◌, ◌^◌, ◌≤◌, ◌<◌, List, length}
 use Rattle.plain.specs.Bits.{field_at}
 
 -- field number i

@@ -2,7 +2,7 @@
 // entries of a direction: they are right exactly when they are below m, none comes twice, and their ends do not descend. As in document 01, w is the width of a
 // node's number and v that of an edge's.
 
-ghost use Rattle.plain.specs.Library.{◌+◌, ◌-◌, ◌*◌, ◌≡◌, length, eqb};
+ghost use Rattle.std.specs.Prelude.{◌+◌, ◌-◌, ◌*◌, ◌≡◌, length, eqb};
 ghost use Rattle.plain.specs.Bits.{field_at, fields_at};
 ghost use Rattle.plain.specs.Image.{broken_image};
 ghost use Rattle.image_check.specs.Checks.{Filled, Column, Ends, Weights, Entries, Whole, field_in, end_in, ends_within, weights_ordered, ordered};

@@ -2,7 +2,7 @@
 // (w bits each), payload (32); the out-lists of nodes 0 up to n−1 joined, then the in-lists (v bits an entry)"; and document 02, No. 8: "the image's edge record
 // holds low then high in 64 bits".
 
-ghost use Rattle.plain.specs.Library.{◌*◌, ◌≤◌, ◌≡◌};
+ghost use Rattle.std.specs.Prelude.{◌*◌, ◌≤◌, ◌≡◌};
 ghost use Rattle.plain.specs.Numbers.{LIMIT};
 ghost use Rattle.plain.specs.Bits.{bytes_for, least_width};
 ghost use Rattle.plain.specs.Image.{record_width, edges_start, outs_start, ins_start, image_size};

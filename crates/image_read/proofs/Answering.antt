@@ -1,6 +1,7 @@
 -- The answer of a reading, by the device, the lengths of the memory and the bytes. "Reading: 13, 12, 2 (13 and 2 nodes before edges, a payload slice shorter than its count
 -- being too short, then the other slices)"; on the skid 15 "in place of 13 when lent memory exceeds its limits, and right after 12 when an image does".
-use Rattle.plain.specs.Library.{ℕ, ◌≡◌, ap, ap₂, ◌∙◌, List}
+use Rattle.std.specs.Prelude.{ℕ, ◌≡◌, List}
+use Rattle.plain.specs.Library.{ap, ap₂, ◌∙◌}
 use Rattle.plain.specs.declared.Answer.{Answer}
 use Rattle.plain.specs.Image.{broken_image, nodes_in, edges_in}
 use Rattle.plain.specs.Memory.{Lengths}

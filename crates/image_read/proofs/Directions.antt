@@ -1,5 +1,6 @@
 -- Reading one direction of an image: the axis then holds a new base of the ends and lists that were read.
-use Rattle.plain.specs.Library.{ℕ, ◌+◌, ◌*◌, ◌<◌, ◌≡◌, sym, ap, subst, subst₂, ◌∙◌, List, map, get_or, zero-add, arith}
+use Rattle.std.specs.Prelude.{ℕ, ◌+◌, ◌*◌, ◌<◌, ◌≡◌, List, map, get_or}
+use Rattle.plain.specs.Library.{sym, ap, subst, subst₂, ◌∙◌, zero-add, arith}
 use lib.Seq.{take_all}
 use Rattle.plain.specs.declared.Counts.{Counts}
 use Rattle.plain.specs.Numbers.{NONE}

@@ -1,5 +1,6 @@
 -- The two ways that a reading ends: refused, or with what the bytes hold in place of all.
-use Rattle.plain.specs.Library.{ℕ, ◌≡◌, refl, sym, ap, ◌∙◌, inl, List, arith}
+use Rattle.std.specs.Prelude.{ℕ, ◌≡◌, refl, List}
+use Rattle.plain.specs.Library.{sym, ap, ◌∙◌, inl, arith}
 use Rattle.plain.specs.declared.TraversalDirection.{TraversalDirection}
 use Rattle.plain.specs.declared.TraversalDirection.TheVariants.{Outgoing, Incoming}
 use Rattle.plain.specs.declared.Answer.{Answer}

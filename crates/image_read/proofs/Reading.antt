@@ -1,5 +1,6 @@
 -- Reading an image into a store's memory: what the calls ask holds, and the store then holds what the bytes hold.
-use Rattle.plain.specs.Library.{ℕ, ◌+◌, ◌*◌, ◌^◌, ◌≤◌, ◌<◌, ◌≡◌, refl, sym, ap, ap₂, subst, subst₂, ◌∙◌, List, map, length, get_or, arith}
+use Rattle.std.specs.Prelude.{ℕ, ◌+◌, ◌*◌, ◌^◌, ◌≤◌, ◌<◌, ◌≡◌, refl, List, map, length, get_or}
+use Rattle.plain.specs.Library.{sym, ap, ap₂, subst, subst₂, ◌∙◌, arith}
 use native.Mathlib.Nat.{add-zero}
 use Rattle.plain.specs.declared.TraversalDirection.{TraversalDirection}
 use Rattle.plain.specs.declared.TraversalDirection.TheVariants.{Outgoing, Incoming}

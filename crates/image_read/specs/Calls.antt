@@ -1,5 +1,5 @@
 -- What reading an image on a device comes to, with any memory and any bytes.
-use Rattle.plain.specs.Library.{ℕ, ◌≡◌, List}
+use Rattle.std.specs.Prelude.{ℕ, ◌≡◌, List}
 use Rattle.plain.specs.declared.Answer.{Answer}
 use Rattle.plain.specs.Image.{parsed}
 use Rattle.plain.specs.Devices.{Device}

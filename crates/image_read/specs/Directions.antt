@@ -1,5 +1,5 @@
 -- Reading one direction of an image: what it asks and promises.
-use Rattle.plain.specs.Library.{ℕ, ◌≤◌, ◌<◌, List}
+use Rattle.std.specs.Prelude.{ℕ, ◌≤◌, ◌<◌, List}
 use Rattle.plain.specs.Bits.{fields_at, least_width}
 use Rattle.plain.specs.Image.{record_width}
 use Rattle.shape.specs.Columns.{Sized}

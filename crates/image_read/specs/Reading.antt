@@ -1,5 +1,5 @@
 -- Reading an image into a store's memory: which bytes and lengths are accepted, and what is then written.
-use Rattle.plain.specs.Library.{ℕ, ◌+◌, ◌≤◌, ◌≡◌, List}
+use Rattle.std.specs.Prelude.{ℕ, ◌+◌, ◌≤◌, ◌≡◌, List}
 use Rattle.plain.specs.Numbers.{LIMIT}
 use Rattle.plain.specs.Bits.{least_width}
 use Rattle.plain.specs.Image.{node_payload_width, weight_width, record_width, nodes_in, edges_in, nodes_start, edges_start, outs_start, ins_start, broken_image}

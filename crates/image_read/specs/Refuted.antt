@@ -1,6 +1,7 @@
 -- A wrong program that the record of a reading rules out: one that answers, and puts in place, what it should, and writes a payload past the bound besides. No
 -- must-fail edit can say it, since a word that no read looks at is caught by the record alone.
-use Rattle.plain.specs.Library.{ℕ, ◌<◌, ◌≡◌, sym, ◌∙◌, List, get_or, set, get_or-set_same}
+use Rattle.std.specs.Prelude.{ℕ, ◌<◌, ◌≡◌, List, get_or, set}
+use Rattle.plain.specs.Library.{sym, ◌∙◌, get_or-set_same}
 use Rattle.std.proofs.Common.{le_refl}
 use Rattle.plain.specs.Devices.{Device}
 use Rattle.shape.specs.Shape.{Words, store, node_capacity}

@@ -3,7 +3,7 @@
 
 #![tactic(auto)]
 
-ghost use Rattle.plain.specs.Library.{◌≡◌, length};
+ghost use Rattle.std.specs.Prelude.{◌≡◌, length};
 ghost use Rattle.plain.specs.Bits.{fields_at};
 ghost use Rattle.plain.specs.Devices.{box, skid, Proper};
 ghost use Rattle.plain.specs.Calls.{read_image};

@@ -1,7 +1,7 @@
 -- Pieces of bits put one after the other by a loop: what was put after each turn, over the entries of a list or over the live slots; and that a row and the
 -- bits of the edges' records are such pieces.
-use Rattle.plain.specs.Library.{ℕ, ◌+◌, ◌*◌, ◌≤◌, ◌<◌, ◌≡◌, refl, sym, ap, subst, ◌∙◌, Bool, List, [], ◌∷◌, ◌++◌, map, append_assoc, append-nil, length, take}
-use Rattle.plain.specs.Library.{get_or, length-append, add-one, arith}
+use Rattle.std.specs.Prelude.{ℕ, ◌+◌, ◌*◌, ◌≤◌, ◌<◌, ◌≡◌, refl, Bool, List, [], ◌∷◌, ◌++◌, map, length, take, get_or}
+use Rattle.plain.specs.Library.{sym, ap, subst, ◌∙◌, append_assoc, append-nil, length-append, add-one, arith}
 use native.Mathlib.Nat.{mul-le-mul_left}
 use lib.Seq.{take-suc, take-length, length-take-le}
 use Rattle.plain.specs.Reads.{live_count, live_slots}

@@ -1,7 +1,7 @@
 -- The image of what is live in a checked store, from the store's words: its survivors are the live nodes' payloads and the live edges' records, and its lists are the
 -- walks by ranks; each part has room, and all of them are the image's bits.
-use Rattle.plain.specs.Library.{ℕ, ◌+◌, ◌*◌, ◌≤◌, ◌<◌, ◌≡◌, sym, ap, ap₂, subst, ◌∙◌, Bool, true, false, List, ◌++◌, map, append_assoc, length, take, get_or}
-use Rattle.plain.specs.Library.{length-append, length-map, zero-add, arith}
+use Rattle.std.specs.Prelude.{ℕ, ◌+◌, ◌*◌, ◌≤◌, ◌<◌, ◌≡◌, Bool, true, false, List, ◌++◌, map, length, take, get_or}
+use Rattle.plain.specs.Library.{sym, ap, ap₂, subst, ◌∙◌, append_assoc, length-append, length-map, zero-add, arith}
 use Rattle.plain.specs.declared.TraversalDirection.{TraversalDirection}
 use Rattle.plain.specs.declared.TraversalDirection.TheVariants.{Outgoing, Incoming}
 use Rattle.plain.specs.declared.Slots.{Slots}

@@ -1,5 +1,6 @@
 -- The ways that writing an image ends: "1; 2 for the work slice; 2 for the image's slice", or done. The contract is `WriteOf`.
-use Rattle.plain.specs.Library.{ℕ, ◌*◌, ◌≤◌, ◌<◌, ◌≡◌, refl, sym, ap, ◌∙◌, List, [], length, take, drop, take_at, arith}
+use Rattle.std.specs.Prelude.{ℕ, ◌*◌, ◌≤◌, ◌<◌, ◌≡◌, refl, List, [], length, take, drop}
+use Rattle.plain.specs.Library.{sym, ap, ◌∙◌, take_at, arith}
 use lib.Seq.{drop_at}
 use Rattle.plain.specs.declared.Answer.{Answer}
 use Rattle.plain.specs.Lists.{written}

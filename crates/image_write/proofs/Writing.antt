@@ -1,6 +1,6 @@
 -- A turn of each writer's loop has what it needs: the piece that comes next has room, and its value fits its width.
-use Rattle.plain.specs.Library.{ℕ, zero, suc, ◌+◌, ◌*◌, ◌^◌, ◌≤◌, ◌<◌, ◌≡◌, refl, sym, ◌∙◌, Bool, true, false, List, [], ◌∷◌, ◌++◌, append-nil, append_assoc}
-use Rattle.plain.specs.Library.{length, get_or, lt_of_lt_of_le, arith}
+use Rattle.std.specs.Prelude.{ℕ, zero, suc, ◌+◌, ◌*◌, ◌^◌, ◌≤◌, ◌<◌, ◌≡◌, refl, Bool, true, false, List, [], ◌∷◌, ◌++◌, length, get_or}
+use Rattle.plain.specs.Library.{sym, ◌∙◌, append-nil, append_assoc, lt_of_lt_of_le, arith}
 use native.Mathlib.Nat.{mul-one}
 use lib.Pow.{pow_mono, pow-add}
 use lib.Arith.{digits_lt}

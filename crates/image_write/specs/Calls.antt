@@ -1,5 +1,5 @@
 -- What writing an image comes to, on any store and any lent slices.
-use Rattle.plain.specs.Library.{ℕ, ◌*◌, ◌≡◌, List, length, drop}
+use Rattle.std.specs.Prelude.{ℕ, ◌*◌, ◌≡◌, List, length, drop}
 use Rattle.plain.specs.declared.Answer.{Answer}
 use Rattle.plain.specs.Reads.{Reply, live_edges}
 use Rattle.plain.specs.Calls.{write_image}

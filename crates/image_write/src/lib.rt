@@ -4,7 +4,7 @@
 
 #![tactic(auto)]
 
-ghost use Rattle.plain.specs.Library.{◌<◌, ◌≤◌, ◌≡◌, map, length};
+ghost use Rattle.std.specs.Prelude.{◌<◌, ◌≤◌, ◌≡◌, map, length};
 ghost use Rattle.plain.specs.Numbers.{LIMIT};
 ghost use Rattle.plain.specs.Lists.{written};
 ghost use Rattle.plain.specs.Compaction.{rank, survivors};

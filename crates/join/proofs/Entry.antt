@@ -1,5 +1,6 @@
 -- The two ways that joining ends: refused, or with the survivors of both in the third memory.
-use Rattle.plain.specs.Library.{ℕ, zero, suc, ◌≡◌, refl, sym, ap, ap₂, subst, ◌∙◌, Bool, cond, inl, List, length, arith, eq-eqb, ne_eqb}
+use Rattle.std.specs.Prelude.{ℕ, zero, suc, ◌≡◌, refl, Bool, cond, List, length}
+use Rattle.plain.specs.Library.{sym, ap, ap₂, subst, ◌∙◌, inl, arith, eq-eqb, ne_eqb}
 use Rattle.plain.specs.declared.Answer.{Answer}
 use Rattle.plain.specs.Calls.{judged}
 use Rattle.plain.specs.Compaction.{survivors, renumbering_from}

@@ -1,5 +1,6 @@
 -- Two outcomes of one join agree on every field, so what is no field is all that the contract leaves to the program.
-use Rattle.plain.specs.Library.{ℕ, ◌≡◌, sym, ap, ◌∙◌, eqb, eqb-true, eqb-false}
+use Rattle.std.specs.Prelude.{ℕ, ◌≡◌, eqb}
+use Rattle.plain.specs.Library.{sym, ap, ◌∙◌, eqb-true, eqb-false}
 use Rattle.plain.specs.declared.Answer.{Answer}
 use Rattle.plain.proofs.Laws.Booleans.{by_test}
 use Rattle.shape.specs.Fields.{SameFields}

@@ -1,5 +1,5 @@
 -- What joining two books comes to on any words: number and value, the maps as whole lists, and the third memory.
-use Rattle.plain.specs.Library.{ℕ, ◌≡◌, length}
+use Rattle.std.specs.Prelude.{ℕ, ◌≡◌, length}
 use Rattle.plain.specs.declared.Answer.{Answer}
 use Rattle.plain.specs.Compaction.{survivors}
 use Rattle.plain.specs.Joining.{joined_survivors, joined_state, Joining, join}

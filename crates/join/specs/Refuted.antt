@@ -1,5 +1,6 @@
 -- Wrong programs that the record of a join rules out: one that leaves the second book out, and one that takes the second book first.
-use Rattle.plain.specs.Library.{ℕ, ◌<◌, ◌≡◌, refl, sym, ap, ◌∙◌, List, ◌∷◌, ◌++◌, map, length, get_or, length-append, length-map, arith}
+use Rattle.std.specs.Prelude.{ℕ, ◌<◌, ◌≡◌, refl, List, ◌∷◌, ◌++◌, map, length, get_or}
+use Rattle.plain.specs.Library.{sym, ap, ◌∙◌, length-append, length-map, arith}
 use Rattle.plain.specs.Compaction.{survivors, kept_node}
 use Rattle.plain.specs.Joining.{joined_survivors}
 use Rattle.plain.specs.Plain.{NodeSlot, no_node}

@@ -1,6 +1,7 @@
 -- What follows from the record of a join of two checked books that is done: its survivors are the joined survivors, so its image is a function of the survivors of the two
 -- books; its lists are the renumbered lists of both; joining is associative on survivors; and with an empty book it is compaction's result.
-use Rattle.plain.specs.Library.{ℕ, ◌+◌, ◌≤◌, ◌≡◌, refl, sym, ap, ap₂, ◌∙◌, Bool, true, false, cond, List, map, length, get_or, arith, eq-eqb}
+use Rattle.std.specs.Prelude.{ℕ, ◌+◌, ◌≤◌, ◌≡◌, refl, Bool, true, false, cond, List, map, length, get_or}
+use Rattle.plain.specs.Library.{sym, ap, ap₂, ◌∙◌, arith, eq-eqb}
 use Rattle.plain.specs.declared.Answer.{Answer}
 use Rattle.plain.specs.declared.TraversalDirection.{TraversalDirection}
 use Rattle.plain.specs.declared.TraversalDirection.TheVariants.{Outgoing}

@@ -1,5 +1,6 @@
 -- Copying the words of live slots, one book's behind the other's, call by call.
-use Rattle.plain.specs.Library.{ℕ, ◌≤◌, ◌∙◌, ◌≡◌, ap, sym, Bool, List, ◌++◌, map, map-map, drop, get_or, length, length-map, arith}
+use Rattle.std.specs.Prelude.{ℕ, ◌≤◌, ◌≡◌, Bool, List, ◌++◌, map, drop, get_or, length}
+use Rattle.plain.specs.Library.{◌∙◌, ap, sym, map-map, length-map, arith}
 use Rattle.plain.specs.declared.Slots.{Slots}
 use Rattle.plain.specs.Lists.{from, written}
 use Rattle.plain.specs.Reads.{live_count, live_slots}

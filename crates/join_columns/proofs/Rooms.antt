@@ -1,5 +1,5 @@
 -- The refusals of joining that one function tells: 2 for a map, and 1.
-use Rattle.plain.specs.Library.{ℕ, suc, zero, ◌≡◌, refl, List, [], ◌∷◌}
+use Rattle.std.specs.Prelude.{ℕ, suc, zero, ◌≡◌, refl, List, [], ◌∷◌}
 use Rattle.plain.specs.declared.Answer.{Answer}
 use Rattle.plain.specs.Calls.{judged, short_answer}
 use Rattle.plain.specs.Joining.{MapRooms, Sizes, map_slices}

@@ -1,5 +1,5 @@
 -- One direction of two books by new numbers: the ends and the lists of each, what writing them asks, and the axis that holds both.
-use Rattle.plain.specs.Library.{ℕ, ◌*◌, ◌+◌, ◌<◌, ◌≤◌, ◌≡◌, false, true, List, ◌++◌, map, get_or, length}
+use Rattle.std.specs.Prelude.{ℕ, ◌*◌, ◌+◌, ◌<◌, ◌≤◌, ◌≡◌, false, true, List, ◌++◌, map, get_or, length}
 use Rattle.plain.specs.declared.Counts.{Counts}
 use Rattle.plain.specs.declared.TraversalDirection.{TraversalDirection}
 use Rattle.plain.specs.Lists.{written}

@@ -1,5 +1,5 @@
 -- What copying the words of live slots and writing a book's maps ask and promise.
-use Rattle.plain.specs.Library.{ℕ, ◌*◌, ◌+◌, ◌≤◌, ◌≡◌, List, length}
+use Rattle.std.specs.Prelude.{ℕ, ◌*◌, ◌+◌, ◌≤◌, ◌≡◌, List, length}
 use Rattle.plain.specs.declared.Counts.{Counts}
 use Rattle.plain.specs.declared.Slots.{Slots}
 use Rattle.plain.specs.Compaction.{renumbering_from}

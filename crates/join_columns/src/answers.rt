@@ -1,6 +1,6 @@
 // What joining answers, by numbers alone: counts, lengths and the first broken rule of each book. Decided before the first write.
 
-ghost use Rattle.plain.specs.Library.{◌≡◌};
+ghost use Rattle.std.specs.Prelude.{◌≡◌};
 ghost use Rattle.plain.specs.Calls.{judged, short_answer};
 ghost use Rattle.plain.specs.Memory.{first_short};
 ghost use Rattle.plain.specs.Joining.{join_answer, map_slices};

@@ -1,7 +1,7 @@
 // One direction of two books in a new base: the ends of the first book's live edges and then the second's, the lists of the first's live nodes and then the second's, all by
 // new numbers. All functions are internal.
 
-ghost use Rattle.plain.specs.Library.{◌+◌, ◌≡◌, ◌++◌};
+ghost use Rattle.std.specs.Prelude.{◌+◌, ◌≡◌, ◌++◌};
 ghost use Rattle.plain.specs.Lists.{written};
 ghost use Rattle.join_columns.specs.Sides.{side, new_ends, new_entries, EndsFit, EntriesFit, BothEndsFit, BothEntriesFit, AxisJoinable, AxisJoined};
 

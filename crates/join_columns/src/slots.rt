@@ -1,6 +1,6 @@
 // Slots of two books, one book behind the other: the words of the live slots copied in slot order, and both maps of a book. All functions are internal.
 
-ghost use Rattle.plain.specs.Library.{◌≡◌, ◌++◌};
+ghost use Rattle.std.specs.Prelude.{◌≡◌, ◌++◌};
 ghost use Rattle.plain.specs.Lists.{written};
 ghost use Rattle.liveness.specs.Flags.{live_flags};
 ghost use Rattle.survivors.specs.Slots.{live_words_of};

@@ -1,5 +1,5 @@
 -- What joining two checked books asks and promises: the four maps, and the third memory with the survivors of both.
-use Rattle.plain.specs.Library.{ℕ, ◌+◌, ◌≤◌, ◌≡◌, List, ◌++◌, length}
+use Rattle.std.specs.Prelude.{ℕ, ◌+◌, ◌≤◌, ◌≡◌, List, ◌++◌, length}
 use Rattle.plain.specs.declared.Counts.{Counts}
 use Rattle.plain.specs.Devices.{Takes, box}
 use Rattle.plain.specs.Lists.{written}

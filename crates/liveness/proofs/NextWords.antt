@@ -1,6 +1,6 @@
 -- The next live slot: over dead slots it stays the same, at a live slot it is that slot, past the end there is none; and so found word by word.
-use Rattle.plain.specs.Library.{ℕ, zero, suc, ◌+◌, ◌-◌, ◌*◌, ◌/◌, ◌%◌, ◌^◌, ◌≤◌, ◌<◌, ◌≡◌, refl, sym, ap, ◌∙◌, Bool, true, false, List, length, get_or, eqb}
-use Rattle.plain.specs.Library.{pow_pos, arith, eq-eqb}
+use Rattle.std.specs.Prelude.{ℕ, zero, suc, ◌+◌, ◌-◌, ◌*◌, ◌/◌, ◌%◌, ◌^◌, ◌≤◌, ◌<◌, ◌≡◌, refl, Bool, true, false, List, length, get_or, eqb}
+use Rattle.plain.specs.Library.{sym, ap, ◌∙◌, pow_pos, arith, eq-eqb}
 use Prim.Native.Nat.{min}
 use native.Mathlib.Nat.{add-zero, div-one, pow-suc}
 use native.Mathlib.Decide.{dec_le}

@@ -1,5 +1,6 @@
 -- The counts of `write_ranks`, turn by turn.
-use Rattle.plain.specs.Library.{ℕ, ◌+◌, ◌*◌, ◌<◌, ◌≡◌, List, set, length-set, get_or-set_same, get_or-set_other, eqb, arith, eqb-true, eqb-false}
+use Rattle.std.specs.Prelude.{ℕ, ◌+◌, ◌*◌, ◌<◌, ◌≡◌, List, set, eqb}
+use Rattle.plain.specs.Library.{length-set, get_or-set_same, get_or-set_other, arith, eqb-true, eqb-false}
 use Rattle.plain.specs.Memory.{live_words}
 use Rattle.plain.specs.Reads.{live_count}
 use Rattle.plain.proofs.Laws.Booleans.{by_test}

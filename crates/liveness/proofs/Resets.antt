@@ -1,6 +1,6 @@
 -- What `reset_all_live` leaves: whole words of set bits, and a last word where the slots do not fill their words.
-use Rattle.plain.specs.Library.{ℕ, suc, ◌-◌, ◌*◌, ◌/◌, ◌%◌, ◌^◌, ◌≤◌, ◌<◌, ◌≡◌, sym, ◌∙◌, true, false, List, ◌∷◌, ◌++◌, append-nil, append_assoc, length, get_or}
-use Rattle.plain.specs.Library.{set, drop, replicate, length-append, length-replicate, get_or-append, ext_get_or, add-one, arith, eq-eqb, ne_eqb}
+use Rattle.std.specs.Prelude.{ℕ, suc, ◌-◌, ◌*◌, ◌/◌, ◌%◌, ◌^◌, ◌≤◌, ◌<◌, ◌≡◌, true, false, List, ◌∷◌, ◌++◌, length, get_or, set, drop, replicate}
+use Rattle.plain.specs.Library.{sym, ◌∙◌, append-nil, append_assoc, length-append, length-replicate, get_or-append, ext_get_or, add-one, arith, eq-eqb, ne_eqb}
 use native.Mathlib.Decide.{ℕ_discrete}
 use lib.Pow.{ones_lt}
 use lib.ListN.{get_or-replicate}

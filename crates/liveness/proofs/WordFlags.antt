@@ -1,6 +1,6 @@
 -- The flags of one word, and how they join to the flags of all words: what counting a word at a time rests on.
-use Rattle.plain.specs.Library.{ℕ, zero, suc, ◌+◌, ◌*◌, ◌/◌, ◌%◌, ◌^◌, ◌≤◌, ◌<◌, ◌≡◌, refl, sym, ap, ap₂, ◌∙◌, Bool, cond, List, [], ◌∷◌, ◌++◌, append-nil}
-use Rattle.plain.specs.Library.{append_assoc, get_or, eqb, pow_pos, add-one, arith}
+use Rattle.std.specs.Prelude.{ℕ, zero, suc, ◌+◌, ◌*◌, ◌/◌, ◌%◌, ◌^◌, ◌≤◌, ◌<◌, ◌≡◌, refl, Bool, cond, List, [], ◌∷◌, ◌++◌, get_or, eqb}
+use Rattle.plain.specs.Library.{sym, ap, ap₂, ◌∙◌, append-nil, append_assoc, pow_pos, add-one, arith}
 use native.Mathlib.Nat.{add-zero, add-suc, pow-suc, mod-lt}
 use lib.Arith.{lt-one}
 use lib.Pow.{field, mod-mod-pow}

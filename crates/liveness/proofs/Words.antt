@@ -1,6 +1,6 @@
 -- What a store to one liveness word does to the flags, for each way through `push_live` and `clear`.
-use Rattle.plain.specs.Library.{ℕ, suc, ◌+◌, ◌-◌, ◌*◌, ◌/◌, ◌%◌, ◌^◌, ◌≤◌, ◌<◌, ◌≡◌, refl, sym, ap, ap₂, ◌∙◌, subst, Bool, true, false, List, [], ◌∷◌, ◌++◌}
-use Rattle.plain.specs.Library.{length, get_or, set, get_or-set_same, get_or-set_other, add-one, arith, eq-eqb, eqb-true}
+use Rattle.std.specs.Prelude.{ℕ, suc, ◌+◌, ◌-◌, ◌*◌, ◌/◌, ◌%◌, ◌^◌, ◌≤◌, ◌<◌, ◌≡◌, refl, Bool, true, false, List, [], ◌∷◌, ◌++◌, length, get_or, set}
+use Rattle.plain.specs.Library.{sym, ap, ap₂, ◌∙◌, subst, get_or-set_same, get_or-set_other, add-one, arith, eq-eqb, eqb-true}
 use mathlib.Core.Bool.{true≢false}
 use native.Mathlib.Nat.{pow-suc}
 use native.Mathlib.Decide.{ℕ_discrete, dec_le}

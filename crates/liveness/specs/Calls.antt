@@ -1,5 +1,5 @@
 -- What the functions that write liveness words promise: of the words at entry and at exit, a record a function.
-use Rattle.plain.specs.Library.{ℕ, ◌+◌, ◌-◌, ◌/◌, ◌%◌, ◌^◌, ◌≡◌, Bool, true, false, cond, List, [], ◌∷◌, ◌++◌, get_or, set, replicate, eqb}
+use Rattle.std.specs.Prelude.{ℕ, ◌+◌, ◌-◌, ◌/◌, ◌%◌, ◌^◌, ◌≡◌, Bool, true, false, cond, List, [], ◌∷◌, ◌++◌, get_or, set, replicate, eqb}
 use Rattle.plain.specs.Lists.{written}
 use Rattle.liveness.specs.Flags.{live_flags, packed}
 

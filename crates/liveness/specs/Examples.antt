@@ -1,5 +1,5 @@
 -- Worked examples of the definitions.
-use Rattle.plain.specs.Library.{◌≡◌, refl, true, false, [], ◌∷◌}
+use Rattle.std.specs.Prelude.{◌≡◌, refl, true, false, [], ◌∷◌}
 use Rattle.plain.specs.Lists.{from, count}
 use Rattle.plain.specs.Reads.{live_from}
 use Rattle.liveness.specs.declared.Counted.TheVariants.{Live, Unpacked}

@@ -1,5 +1,5 @@
 -- What liveness words mean: a list of live flags, a bit a slot, 64 slots a word, the lowest bit first.
-use Rattle.plain.specs.Library.{ℕ, ◌/◌, ◌%◌, ◌^◌, Bool, true, cond, List, map, length, get_or, drop, eqb}
+use Rattle.std.specs.Prelude.{ℕ, ◌/◌, ◌%◌, ◌^◌, Bool, true, cond, List, map, length, get_or, drop, eqb}
 use Rattle.plain.specs.Lists.{from}
 use Rattle.plain.specs.Reads.{live_count, live_from}
 use Rattle.liveness.specs.declared.Counted.{Counted}

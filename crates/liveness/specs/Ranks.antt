@@ -1,5 +1,5 @@
 -- Ranks in constant time: the live slots before each word of 64 are counted once, and a rank then counts the low bits of one word.
-use Rattle.plain.specs.Library.{ℕ, ◌*◌, ◌≤◌, ◌<◌, ◌≡◌, List, length, get_or}
+use Rattle.std.specs.Prelude.{ℕ, ◌*◌, ◌≤◌, ◌<◌, ◌≡◌, List, length, get_or}
 use Rattle.plain.specs.Numbers.{LIMIT}
 use Rattle.plain.specs.Memory.{live_words}
 use Rattle.plain.specs.Reads.{live_count}

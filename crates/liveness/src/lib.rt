@@ -3,8 +3,7 @@
 
 #![tactic(auto)]
 
-ghost use Rattle.plain.specs.Library.{◌*◌, ◌<◌, ◌≤◌, ◌≡◌, false, length, get_or};
-ghost use Rattle.std.specs.Prelude.{min};
+ghost use Rattle.std.specs.Prelude.{◌*◌, ◌<◌, ◌≤◌, ◌≡◌, false, length, get_or, min};
 ghost use Rattle.plain.specs.Reads.{live_count};
 ghost use Rattle.plain.specs.Compaction.{rank as rank_of};
 ghost use Rattle.liveness.specs.Flags.{live_flags, packed, counted, next_live};

@@ -1,5 +1,6 @@
 -- A strip on a fresh store of lotstrip's capacities, and the image of what survives it: none of the calls is refused, and what they leave is that of the plain lists.
-use Rattle.plain.specs.Library.{ℕ, ◌*◌, ◌≤◌, ◌≡◌, refl, ap, ap₂, subst, ◌∙◌, List, length, length-map, arith}
+use Rattle.std.specs.Prelude.{ℕ, ◌*◌, ◌≤◌, ◌≡◌, refl, List, length}
+use Rattle.plain.specs.Library.{ap, ap₂, subst, ◌∙◌, length-map, arith}
 use native.Mathlib.Nat.{mul-le-mul}
 use Rattle.plain.specs.declared.Counts.{Counts}
 use Rattle.plain.specs.declared.Answer.{Answer}

@@ -1,5 +1,6 @@
 -- Decimal numbers digit by digit, from the last: how many there are, and what stands in the text as they are written.
-use Rattle.plain.specs.Library.{ℕ, zero, suc, ◌+◌, ◌/◌, ◌%◌, ◌^◌, ◌≤◌, ◌<◌, ◌≡◌, refl, sym, ap, ◌∙◌, List, [], ◌∷◌, length, set, ltb, arith, lt-ltb, le-ltb}
+use Rattle.std.specs.Prelude.{ℕ, zero, suc, ◌+◌, ◌/◌, ◌%◌, ◌^◌, ◌≤◌, ◌<◌, ◌≡◌, refl, List, [], ◌∷◌, length, set, ltb}
+use Rattle.plain.specs.Library.{sym, ap, ◌∙◌, arith, lt-ltb, le-ltb}
 use native.Mathlib.Nat.{div-lt_iff_lt-mul, pow-suc}
 use Rattle.plain.specs.Lotstrip.{digits_before, decimal}
 use Rattle.plain.proofs.Laws.Booleans.{by_test}

@@ -1,6 +1,6 @@
 -- The printed text piece by piece: the line of an operation, the two digits of a byte, and how long they are.
-use Rattle.plain.specs.Library.{ℕ, suc, ◌+◌, ◌*◌, ◌/◌, ◌%◌, ◌≤◌, ◌<◌, ◌≡◌, refl, sym, ap, ◌∙◌, List, [], ◌∷◌, ◌++◌, append_assoc, length, get_or, drop}
-use Rattle.plain.specs.Library.{length-append, length-drop, add-one, arith}
+use Rattle.std.specs.Prelude.{ℕ, suc, ◌+◌, ◌*◌, ◌/◌, ◌%◌, ◌≤◌, ◌<◌, ◌≡◌, refl, List, [], ◌∷◌, ◌++◌, length, get_or, drop}
+use Rattle.plain.specs.Library.{sym, ap, ◌∙◌, append_assoc, length-append, length-drop, add-one, arith}
 use lib.ListN.{drop_of_length-le}
 use lib.Seq.{drop-cons}
 use Rattle.plain.specs.Lotstrip.{decimal, answer_lines, hex_digit, hexadecimal}

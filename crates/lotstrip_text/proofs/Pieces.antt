@@ -1,5 +1,6 @@
 -- Writes that tell where they ended, one behind the other, and a loop that writes piece by piece.
-use Rattle.plain.specs.Library.{ℕ, ◌+◌, ◌≤◌, ◌<◌, ◌≡◌, refl, sym, ap, ◌∙◌, List, [], ◌∷◌, ◌++◌, append_assoc, append-nil, length, set, length-append, arith}
+use Rattle.std.specs.Prelude.{ℕ, ◌+◌, ◌≤◌, ◌<◌, ◌≡◌, refl, List, [], ◌∷◌, ◌++◌, length, set}
+use Rattle.plain.specs.Library.{sym, ap, ◌∙◌, append_assoc, append-nil, length-append, arith}
 use Rattle.bits.specs.Put.{Put}
 use Rattle.bits.specs.Laws.Put.{put_length, put_none, put_one, put_then}
 use Rattle.lotstrip_text.specs.Appending.{Appended}

@@ -1,6 +1,6 @@
 -- What the program prints: the pieces are those of its definition, and the text lent has room for any of it.
-use Rattle.plain.specs.Library.{ℕ, ◌+◌, ◌*◌, ◌/◌, ◌%◌, ◌≤◌, ◌<◌, ◌≡◌, sym, ap, subst, ◌∙◌, List, length, take, drop, length-append, take_at, arith, lt-ltb}
-use Rattle.plain.specs.Library.{le-ltb, eq-eqb, ne_eqb}
+use Rattle.std.specs.Prelude.{ℕ, ◌+◌, ◌*◌, ◌/◌, ◌%◌, ◌≤◌, ◌<◌, ◌≡◌, List, length, take, drop}
+use Rattle.plain.specs.Library.{sym, ap, subst, ◌∙◌, length-append, take_at, arith, lt-ltb, le-ltb, eq-eqb, ne_eqb}
 use Rattle.plain.specs.Lists.{written}
 use Rattle.plain.specs.Operations.{operation_words, operations}
 use Rattle.plain.specs.Calls.{fresh_state}

@@ -1,5 +1,6 @@
 -- The input's words one by one.
-use Rattle.plain.specs.Library.{ℕ, ◌+◌, ◌*◌, ◌/◌, ◌≤◌, ◌<◌, ◌≡◌, refl, ◌∙◌, List, [], ◌∷◌, length, drop, length-drop, arith}
+use Rattle.std.specs.Prelude.{ℕ, ◌+◌, ◌*◌, ◌/◌, ◌≤◌, ◌<◌, ◌≡◌, refl, List, [], ◌∷◌, length, drop}
+use Rattle.plain.specs.Library.{◌∙◌, length-drop, arith}
 use lib.Seq.{get_or-drop, drop-drop}
 use Rattle.plain.specs.Lotstrip.{words_of, word_bytes}
 use Rattle.lotstrip_text.proofs.Pieces.{Next}

@@ -1,5 +1,5 @@
 -- A write that tells where it ended.
-use Rattle.plain.specs.Library.{ℕ, ◌+◌, ◌≡◌, List, length}
+use Rattle.std.specs.Prelude.{ℕ, ◌+◌, ◌≡◌, List, length}
 use Rattle.bits.specs.Put.{Put}
 
 -- ---- a write and its end

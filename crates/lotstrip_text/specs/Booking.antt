@@ -1,5 +1,5 @@
 -- A strip on a fresh store of lotstrip's capacities, and the image of what survives it: what they ask and what they come to.
-use Rattle.plain.specs.Library.{ℕ, ◌+◌, ◌*◌, ◌/◌, ◌%◌, ◌≤◌, ◌≡◌, List, length}
+use Rattle.std.specs.Prelude.{ℕ, ◌+◌, ◌*◌, ◌/◌, ◌%◌, ◌≤◌, ◌≡◌, List, length}
 use Rattle.plain.specs.Lists.{written}
 use Rattle.plain.specs.Operations.{operation_words, operations}
 use Rattle.plain.specs.Step.{State, run, answers}

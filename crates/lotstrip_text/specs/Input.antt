@@ -1,5 +1,5 @@
 -- The input's words: most significant byte first.
-use Rattle.plain.specs.Library.{ℕ, ◌+◌, ◌*◌, ◌≡◌, List, get_or}
+use Rattle.std.specs.Prelude.{ℕ, ◌+◌, ◌*◌, ◌≡◌, List, get_or}
 use Rattle.plain.specs.Lists.{written}
 use Rattle.plain.specs.Lotstrip.{words_of}
 

@@ -1,5 +1,5 @@
 -- The line of an operation, and how long any line is.
-use Rattle.plain.specs.Library.{ℕ, List, [], ◌∷◌, ◌++◌}
+use Rattle.std.specs.Prelude.{ℕ, List, [], ◌∷◌, ◌++◌}
 use Rattle.plain.specs.Lotstrip.{decimal, space, newline}
 
 -- a number and what stands behind it

@@ -1,5 +1,5 @@
 -- What the program prints, and the room for any of it.
-use Rattle.plain.specs.Library.{ℕ, ◌+◌, ◌*◌, ◌/◌, ◌%◌, ◌≤◌, ◌≡◌, List, [], ◌∷◌, ◌++◌, length}
+use Rattle.std.specs.Prelude.{ℕ, ◌+◌, ◌*◌, ◌/◌, ◌%◌, ◌≤◌, ◌≡◌, List, [], ◌∷◌, ◌++◌, length}
 use Rattle.plain.specs.Lists.{written}
 use Rattle.plain.specs.Lotstrip.{newline, answer_lines, hexadecimal, operation_bytes, input_limit, lotstrip}
 use Rattle.lotstrip_text.specs.Lines.{line_room}

@@ -1,7 +1,7 @@
 // A strip booked on a fresh store of lotstrip's capacities, and the image of what survives it. All functions are internal: the room is required, so that no call
 // is refused.
 
-ghost use Rattle.plain.specs.Library.{◌*◌, ◌≤◌, ◌%◌, ◌/◌, ◌≡◌, length};
+ghost use Rattle.std.specs.Prelude.{◌*◌, ◌≤◌, ◌%◌, ◌/◌, ◌≡◌, length};
 ghost use Rattle.plain.specs.Operations.{operation_words};
 ghost use Rattle.shape.specs.Lent.{lent, at_entry, at_exit};
 ghost use Rattle.lotstrip_text.specs.Booking.{image_room, Bookable, Booked, Printable, Printed, Closing};

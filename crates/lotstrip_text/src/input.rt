@@ -1,6 +1,6 @@
 // The input's bytes as the words of a strip.
 
-ghost use Rattle.plain.specs.Library.{◌+◌, ◌/◌, ◌≤◌, ◌<◌, ◌≡◌, length, get_or};
+ghost use Rattle.std.specs.Prelude.{◌+◌, ◌/◌, ◌≤◌, ◌<◌, ◌≡◌, length, get_or};
 ghost use Rattle.plain.specs.Lotstrip.{word_bytes};
 ghost use Rattle.lotstrip_text.specs.Input.{word_at as word_of, WordsRead};
 

@@ -7,7 +7,7 @@ pub mod input;
 pub mod rooms;
 pub mod text;
 
-ghost use Rattle.plain.specs.Library.{◌+◌, ◌≤◌, length};
+ghost use Rattle.std.specs.Prelude.{◌+◌, ◌≤◌, length};
 ghost use Rattle.plain.specs.Calls.{fresh_state};
 ghost use Rattle.plain.specs.Lotstrip.{words_of, lotstrip_run};
 ghost use Rattle.lotstrip_text.specs.Appending.{Appended};

@@ -1,7 +1,7 @@
 // Text into lent bytes: decimal numbers, a strip's answers, and bytes in hexadecimal. All functions are internal: the room for the text is required. What the text is
 // stands in crate `plain`, specs/Lotstrip.antt.
 
-ghost use Rattle.plain.specs.Library.{◌+◌, ◌≤◌, ◌<◌, ◌/◌, ◌%◌, ◌≡◌, ◌∷◌, ◌++◌, [], length};
+ghost use Rattle.std.specs.Prelude.{◌+◌, ◌≤◌, ◌<◌, ◌/◌, ◌%◌, ◌≡◌, ◌∷◌, ◌++◌, [], length};
 ghost use Rattle.plain.specs.Lotstrip.{decimal, answer_lines, hex_digit, hexadecimal};
 ghost use Rattle.bits.specs.Put.{Put};
 ghost use Rattle.lotstrip_text.specs.Appending.{Appended};

@@ -1,6 +1,6 @@
 -- Marking an edge: the two ways through `mark`.
-use Rattle.plain.specs.Library.{ℕ, ◌+◌, ◌/◌, ◌%◌, ◌^◌, ◌<◌, ◌≡◌, refl, sym, ap, ◌∙◌, true, false, ◌||◌, not, List, length, get_or, set, eqb, eq-eqb, eqb-true}
-use Rattle.plain.specs.Library.{eqb-false}
+use Rattle.std.specs.Prelude.{ℕ, ◌+◌, ◌/◌, ◌%◌, ◌^◌, ◌<◌, ◌≡◌, refl, true, false, ◌||◌, not, List, length, get_or, set, eqb}
+use Rattle.plain.specs.Library.{sym, ap, ◌∙◌, eq-eqb, eqb-true, eqb-false}
 use Rattle.plain.proofs.Laws.Booleans.{by_test}
 use Rattle.liveness.specs.Flags.{bit}
 use Rattle.liveness.specs.Laws.Bits.{mark_here, mark_other}

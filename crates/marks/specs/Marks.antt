@@ -1,5 +1,5 @@
 -- Mark maps: which edges are marked, what marking one does, and what following a list of entries does that marks each as it is passed.
-use Rattle.plain.specs.Library.{ℕ, ◌≡◌, Bool, true, false, ◌&&◌, ◌||◌, not, ◌⊎◌, List, eqb}
+use Rattle.std.specs.Prelude.{ℕ, ◌≡◌, Bool, true, false, ◌&&◌, ◌||◌, not, ◌⊎◌, List, eqb}
 use Rattle.plain.specs.Lists.{member, distinct, all}
 use Rattle.liveness.specs.Flags.{live_bit}
 

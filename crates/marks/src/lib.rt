@@ -2,7 +2,7 @@
 
 #![tactic(auto)]
 
-ghost use Rattle.plain.specs.Library.{◌*◌, ◌<◌, ◌≡◌, true, not, length, eqb};
+ghost use Rattle.std.specs.Prelude.{◌*◌, ◌<◌, ◌≡◌, true, not, length, eqb};
 ghost use Rattle.marks.specs.Marks.{Marked, Entered};
 
 // Marks an edge, and answers whether it was not marked.

@@ -1,5 +1,6 @@
 -- The slices of a store's memory, tested one after another, the last one first: the answer is that of the first that is too short.
-use Rattle.plain.specs.Library.{ℕ, ◌≡◌, refl, sym, ap, ◌∙◌, ⊎_elim, List, [], ◌∷◌, le-leb, lt-leb, lt-ltb, le-ltb}
+use Rattle.std.specs.Prelude.{ℕ, ◌≡◌, refl, List, [], ◌∷◌}
+use Rattle.plain.specs.Library.{sym, ap, ◌∙◌, ⊎_elim, le-leb, lt-leb, lt-ltb, le-ltb}
 use Rattle.plain.specs.declared.Answer.{Answer}
 use Rattle.plain.specs.Numbers.{too_short}
 use Rattle.plain.specs.Memory.{Slice, Lengths, first_short, other_slices, live_words, axis_length}

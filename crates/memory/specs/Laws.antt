@@ -1,5 +1,6 @@
 -- Laws of lengths: each test of a slice on the way to the answer, and what the memory has where the answer is 0.
-use Rattle.plain.specs.Library.{ℕ, zero, suc, ◌≤◌, ◌<◌, ◌≡◌, refl, sym, ap, ◌∙◌, ⊎_elim, List, ◌∷◌, leb, arith, le-leb}
+use Rattle.std.specs.Prelude.{ℕ, zero, suc, ◌≤◌, ◌<◌, ◌≡◌, refl, List, ◌∷◌, leb}
+use Rattle.plain.specs.Library.{sym, ap, ◌∙◌, ⊎_elim, arith, le-leb}
 use Rattle.plain.specs.declared.Answer.{Answer}
 use Rattle.plain.specs.Numbers.{too_short}
 use Rattle.plain.specs.Image.{broken_image, nodes_in, edges_in}

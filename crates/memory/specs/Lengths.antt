@@ -1,5 +1,5 @@
 -- What the functions on lengths promise: the lengths and limits of the program as the lengths and the device of the definitions.
-use Rattle.plain.specs.Library.{ℕ, ◌^◌, ◌<◌, cond, leb}
+use Rattle.std.specs.Prelude.{ℕ, ◌^◌, ◌<◌, cond, leb}
 use Rattle.plain.specs.declared.Answer.{Answer}
 use Rattle.plain.specs.Step.{Capacities}
 use Rattle.plain.specs.Memory.{Lengths}

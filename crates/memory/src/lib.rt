@@ -3,7 +3,7 @@
 
 #![tactic(auto)]
 
-ghost use Rattle.plain.specs.Library.{◌≡◌};
+ghost use Rattle.std.specs.Prelude.{◌≡◌};
 ghost use Rattle.plain.specs.Memory.{first_short, other_slices, live_words, axis_length};
 ghost use Rattle.plain.specs.Calls.{fresh, short_answer, reading};
 ghost use Rattle.memory.specs.Lengths.{caps, measured, device_of, lacking as lacking_of, Few, FewSlots};

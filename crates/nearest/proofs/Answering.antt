@@ -1,6 +1,6 @@
 -- The nearest chain whole: each way out of it is what the call's definition says.
-use Rattle.plain.specs.Library.{ℕ, zero, suc, ◌+◌, ◌*◌, ◌-◌, ◌≤◌, ◌<◌, ◌≡◌, refl, sym, ap, ◌∙◌, subst, ⊎_elim, some, List, [], ◌++◌, length, get_or, drop}
-use Rattle.plain.specs.Library.{replicate, length-drop, length-replicate, length-append, get_or-append, ext_get_or, arith}
+use Rattle.std.specs.Prelude.{ℕ, zero, suc, ◌+◌, ◌*◌, ◌-◌, ◌≤◌, ◌<◌, ◌≡◌, refl, List, [], ◌++◌, length, get_or, drop, replicate}
+use Rattle.plain.specs.Library.{sym, ap, ◌∙◌, subst, ⊎_elim, some, length-drop, length-replicate, length-append, get_or-append, ext_get_or, arith}
 use lib.ListN.{get_or-replicate}
 use lib.Seq.{get_or-drop, get_or-append-add}
 use Rattle.plain.specs.declared.TraversalDirection.TheVariants.{Outgoing, Incoming}

@@ -1,6 +1,6 @@
 -- The way forward: from the first lot, at each lot the first edge of its out-list that leads one nearer. It is the nearest chain.
-use Rattle.plain.specs.Library.{ℕ, zero, suc, ◌≤◌, ◌<◌, ◌≡◌, refl, sym, ap, ◌∙◌, subst, Bool, true, false, cond, Option, none, some, List, [], ◌∷◌, ◌++◌}
-use Rattle.plain.specs.Library.{append_assoc, length, get_or, eqb, arith, eqb-true, eq-eqb}
+use Rattle.std.specs.Prelude.{ℕ, zero, suc, ◌≤◌, ◌<◌, ◌≡◌, refl, Bool, true, false, cond, List, [], ◌∷◌, ◌++◌, length, get_or, eqb}
+use Rattle.plain.specs.Library.{sym, ap, ◌∙◌, subst, Option, none, some, append_assoc, arith, eqb-true, eq-eqb}
 use native.Mathlib.Nat.{suc_inj}
 use Rattle.plain.specs.Lists.{member, keep}
 use Rattle.plain.specs.Reads.{first_or_none}

@@ -1,6 +1,6 @@
 -- The search's outer loop: lots taken from the queue until the first lot has a word or the queue is done. And what its end means.
-use Rattle.plain.specs.Library.{ℕ, suc, ◌+◌, ◌*◌, ◌<◌, ◌≡◌, refl, sym, ap, ◌∙◌, subst, true, ⊎_elim, none, some, List, [], ◌∷◌, length, get_or, drop, add-one}
-use Rattle.plain.specs.Library.{arith}
+use Rattle.std.specs.Prelude.{ℕ, suc, ◌+◌, ◌*◌, ◌<◌, ◌≡◌, refl, true, List, [], ◌∷◌, length, get_or, drop}
+use Rattle.plain.specs.Library.{sym, ap, ◌∙◌, subst, ⊎_elim, none, some, add-one, arith}
 use lib.Seq.{get_or-take, get_or-drop}
 use Rattle.plain.specs.declared.TraversalDirection.TheVariants.{Outgoing, Incoming}
 use Rattle.plain.specs.Lists.{member}

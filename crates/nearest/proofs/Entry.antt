@@ -1,5 +1,6 @@
 -- The call whole: what is refused before the search, in the definition's order, and what counts where nothing is.
-use Rattle.plain.specs.Library.{ℕ, ◌*◌, ◌≤◌, ◌<◌, ◌≡◌, refl, sym, ap, ◌∙◌, subst, Bool, false, List, length, get_or, arith}
+use Rattle.std.specs.Prelude.{ℕ, ◌*◌, ◌≤◌, ◌<◌, ◌≡◌, refl, Bool, false, List, length, get_or}
+use Rattle.plain.specs.Library.{sym, ap, ◌∙◌, subst, arith}
 use Rattle.plain.specs.declared.Answer.{Answer}
 use Rattle.plain.specs.Numbers.{NONE}
 use Rattle.plain.specs.Lists.{written}

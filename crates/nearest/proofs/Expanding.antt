@@ -1,6 +1,6 @@
 -- One lot looked at and one lot's in-list gone through: what the loop keeps.
-use Rattle.plain.specs.Library.{ℕ, ◌+◌, ◌≡◌, refl, sym, ap, ◌∙◌, subst, Bool, true, false, cond, List, [], ◌∷◌, ◌++◌, length, get_or, set, length-set, eqb, arith}
-use Rattle.plain.specs.Library.{eq-eqb, ne_eqb}
+use Rattle.std.specs.Prelude.{ℕ, ◌+◌, ◌≡◌, refl, Bool, true, false, cond, List, [], ◌∷◌, ◌++◌, length, get_or, set, eqb}
+use Rattle.plain.specs.Library.{sym, ap, ◌∙◌, subst, length-set, arith, eq-eqb, ne_eqb}
 use Rattle.plain.specs.declared.Counts.{Counts}
 use Rattle.plain.specs.Lists.{member, keep}
 use Rattle.plain.proofs.Laws.Booleans.{by_test}

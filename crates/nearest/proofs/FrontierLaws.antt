@@ -1,7 +1,6 @@
 -- What one lot's in-list gone through keeps of the search.
-use Rattle.plain.specs.Library.{ℕ, suc, ◌+◌, ◌*◌, ◌<◌, ◌≡◌, sym, ap, ◌∙◌, subst, Bool, true, false, cond, List, [], ◌∷◌, ◌++◌, append_assoc, append-nil}
-use Rattle.plain.specs.Library.{length, get_or, set, take, drop, length-set, length-drop, get_or-append, get_or-set_other, eqb, add-one, arith, eqb-true}
-use Rattle.plain.specs.Library.{eqb-false}
+use Rattle.std.specs.Prelude.{ℕ, suc, ◌+◌, ◌*◌, ◌<◌, ◌≡◌, Bool, true, false, cond, List, [], ◌∷◌, ◌++◌, length, get_or, set, take, drop, eqb}
+use Rattle.plain.specs.Library.{sym, ap, ◌∙◌, subst, append_assoc, append-nil, length-set, length-drop, get_or-append, get_or-set_other, add-one, arith, eqb-true, eqb-false}
 use lib.Seq.{take-set-lt, take-set-le, drop-set-lt, drop-set-add, take-suc-set, get_or-take, length-take-le}
 use Rattle.plain.specs.Lists.{member}
 use Rattle.plain.proofs.Laws.Booleans.{by_test, true_false}

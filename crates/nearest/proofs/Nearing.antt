@@ -1,6 +1,6 @@
 -- The way forward: the first edge of a walk that leads to a word, and the loop that writes the way.
-use Rattle.plain.specs.Library.{ℕ, suc, ◌+◌, ◌-◌, ◌≤◌, ◌<◌, ◌≡◌, refl, sym, ap, ap₂, ◌∙◌, subst, Bool, true, false, List, [], ◌∷◌, ◌++◌, append-nil, length}
-use Rattle.plain.specs.Library.{get_or, set, drop, length-append, length-set, eqb, arith}
+use Rattle.std.specs.Prelude.{ℕ, suc, ◌+◌, ◌-◌, ◌≤◌, ◌<◌, ◌≡◌, refl, Bool, true, false, List, [], ◌∷◌, ◌++◌, length, get_or, set, drop, eqb}
+use Rattle.plain.specs.Library.{sym, ap, ap₂, ◌∙◌, subst, append-nil, length-append, length-set, arith}
 use lib.Seq.{get_or-take}
 use Rattle.plain.specs.declared.TraversalDirection.TheVariants.{Outgoing, Incoming}
 use Rattle.plain.specs.declared.Counts.{Counts}

@@ -1,7 +1,6 @@
 -- Laws of the search on lists: how it starts, each way through a turn, and what its words are once it stops.
-use Rattle.plain.specs.Library.{ℕ, suc, ◌+◌, ◌≤◌, ◌<◌, ◌≡◌, refl, sym, ap, ◌∙◌, subst, Bool, true, false, ◌||◌, ◌⊎◌, inl, inr, ⊎_elim, List, [], ◌∷◌, ◌++◌}
-use Rattle.plain.specs.Library.{length, get_or, set, length-append, length-set, get_or-append, get_or-set_same, get_or-set_other, eqb, arith, eqb-true, eqb-false}
-use Rattle.plain.specs.Library.{eq-eqb, lt-ltb}
+use Rattle.std.specs.Prelude.{ℕ, suc, ◌+◌, ◌≤◌, ◌<◌, ◌≡◌, refl, Bool, true, false, ◌||◌, ◌⊎◌, List, [], ◌∷◌, ◌++◌, length, get_or, set, eqb}
+use Rattle.plain.specs.Library.{sym, ap, ◌∙◌, subst, inl, inr, ⊎_elim, length-append, length-set, get_or-append, get_or-set_same, get_or-set_other, arith, eqb-true, eqb-false, eq-eqb, lt-ltb}
 use Prim.Native.Nat.{zero-le}
 use native.Mathlib.Nat.{suc_inj}
 use lib.Seq.{get_or-append_seam}

@@ -1,6 +1,6 @@
 -- Where the search starts: the words of the lots clear, but for the goal's, and the goal alone in the queue. And what it comes to.
-use Rattle.plain.specs.Library.{ℕ, ◌+◌, ◌*◌, ◌≡◌, refl, sym, ap, ◌∙◌, subst, ⊎_elim, List, [], ◌∷◌, length, get_or, set, take, drop, length-set, length-drop}
-use Rattle.plain.specs.Library.{get_or-eq_default, ext_get_or, arith}
+use Rattle.std.specs.Prelude.{ℕ, ◌+◌, ◌*◌, ◌≡◌, refl, List, [], ◌∷◌, length, get_or, set, take, drop}
+use Rattle.plain.specs.Library.{sym, ap, ◌∙◌, subst, ⊎_elim, length-set, length-drop, get_or-eq_default, ext_get_or, arith}
 use lib.Seq.{take-set-lt, take-set-le, drop-set-lt, drop-set-add, take-suc-set, get_or-take, get_or-drop, length-take-le}
 use Rattle.plain.proofs.Laws.Booleans.{below_or_not}
 use Rattle.shape.specs.Index.{Rewritten}

@@ -1,5 +1,5 @@
 -- What the search and the way forward come to together, and what the call refuses before them.
-use Rattle.plain.specs.Library.{ℕ, ◌≡◌, List, length, drop}
+use Rattle.std.specs.Prelude.{ℕ, ◌≡◌, List, length, drop}
 use Rattle.plain.specs.declared.TraversalDirection.TheVariants.{Outgoing, Incoming}
 use Rattle.plain.specs.declared.Answer.{Answer}
 use Rattle.plain.specs.Lists.{written}

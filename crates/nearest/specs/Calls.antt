@@ -1,5 +1,6 @@
 -- The call for the nearest lot: its definition on the plain lists, with the lengths of what is lent, and what its entry promises on any words. Document 02, No. 4.
-use Rattle.plain.specs.Library.{ℕ, zero, suc, ◌*◌, ◌≡◌, cond, Option, none, some, List, [], length, replicate, ltb}
+use Rattle.std.specs.Prelude.{ℕ, zero, suc, ◌*◌, ◌≡◌, cond, List, [], length, replicate, ltb}
+use Rattle.plain.specs.Library.{Option, none, some}
 use Rattle.plain.specs.declared.TraversalDirection.TheVariants.{Outgoing, Incoming}
 use Rattle.plain.specs.declared.Answer.{Answer}
 use Rattle.plain.specs.Numbers.{NONE, done, no_store, too_short, unreachable}

@@ -1,6 +1,7 @@
 -- Document 02, No. 4, "Nearest lot": chains of live transfers, and the nearest. Everything is said of an out-list function and of the target of each edge, so that
 -- a reader to whom some transfers are hidden gets the same definitions with other out-lists.
-use Rattle.plain.specs.Library.{ℕ, zero, suc, ◌<◌, ◌≡◌, true, cond, ◌⊎◌, Option, none, some, List, [], ◌∷◌, map, eqb}
+use Rattle.std.specs.Prelude.{ℕ, zero, suc, ◌<◌, ◌≡◌, true, cond, ◌⊎◌, List, [], ◌∷◌, map, eqb}
+use Rattle.plain.specs.Library.{Option, none, some}
 use Rattle.plain.specs.Lists.{member, joined}
 
 -- where x first stands in a list

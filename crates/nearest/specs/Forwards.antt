@@ -1,5 +1,5 @@
 -- What the functions of the way forward ask and promise: the first edge of a lot's out-list that leads to a word, and the way written edge by edge.
-use Rattle.plain.specs.Library.{ℕ, zero, suc, ◌*◌, ◌≤◌, ◌<◌, ◌≡◌, Bool, true, List, [], ◌∷◌, length, get_or, eqb}
+use Rattle.std.specs.Prelude.{ℕ, zero, suc, ◌*◌, ◌≤◌, ◌<◌, ◌≡◌, Bool, true, List, [], ◌∷◌, length, get_or, eqb}
 use Rattle.plain.specs.declared.TraversalDirection.TheVariants.{Outgoing}
 use Rattle.plain.specs.declared.Counts.{Counts}
 use Rattle.plain.specs.Numbers.{LIMIT}

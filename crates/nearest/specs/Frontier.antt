@@ -1,6 +1,6 @@
 -- The search's words: of a work slice the first n are a word a lot, the next n the queue. One lot's in-list gone through, as a function of the words, and what the
 -- words keep of the search.
-use Rattle.plain.specs.Library.{ℕ, ◌+◌, ◌*◌, ◌≤◌, ◌<◌, ◌≡◌, cond, List, [], ◌∷◌, length, get_or, set, take, drop, eqb}
+use Rattle.std.specs.Prelude.{ℕ, ◌+◌, ◌*◌, ◌≤◌, ◌<◌, ◌≡◌, cond, List, [], ◌∷◌, length, get_or, set, take, drop, eqb}
 use Rattle.nearest.specs.Search.{Network, Search}
 
 -- ---- the words

@@ -1,6 +1,6 @@
 -- The search for the nearest lot, on lists: backwards from the second lot over in-lists, with a word a lot (0: not seen; d + 1: d edges away) and the order in
 -- which lots were seen. What the lists are to each other, what a distance is, and what the search keeps.
-use Rattle.plain.specs.Library.{ℕ, suc, ◌+◌, ◌≤◌, ◌<◌, ◌≡◌, true, false, List, length, get_or}
+use Rattle.std.specs.Prelude.{ℕ, suc, ◌+◌, ◌≤◌, ◌<◌, ◌≡◌, true, false, List, length, get_or}
 use Rattle.plain.specs.Lists.{member, distinct}
 use Rattle.nearest.specs.Chains.{Chain}
 

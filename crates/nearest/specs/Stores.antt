@@ -1,5 +1,5 @@
 -- A store as the search reads it: the network of its lots and transfers, and what the call has found out before it searches.
-use Rattle.plain.specs.Library.{ℕ, ◌*◌, ◌≤◌, ◌≡◌, true, false, List, length, get_or}
+use Rattle.std.specs.Prelude.{ℕ, ◌*◌, ◌≤◌, ◌≡◌, true, false, List, length, get_or}
 use Rattle.plain.specs.declared.TraversalDirection.TheVariants.{Outgoing, Incoming}
 use Rattle.plain.specs.Plain.{node_flags, list_of}
 use Rattle.shape.specs.Columns.{end_at}

@@ -2,7 +2,7 @@
 // distance, and as many after them are the queue. All functions are internal: the call has checked the store. Each lot enters the queue once, and each transfer
 // is looked at once.
 
-ghost use Rattle.plain.specs.Library.{◌+◌, ◌≡◌, true, get_or, set};
+ghost use Rattle.std.specs.Prelude.{◌+◌, ◌≡◌, true, get_or, set};
 ghost use Rattle.liveness.specs.Flags.{live_flags};
 ghost use Rattle.shape.specs.Columns.{end_at};
 ghost use Rattle.shape.specs.Lent.{lent, at_entry};

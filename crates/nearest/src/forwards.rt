@@ -1,7 +1,7 @@
 // The way forward once the words of the lots are distances: from lot to lot by the first transfer of the out-list that leads one nearer. All functions are
 // internal: the search has found the first lot. Each out-list on the way is looked at once.
 
-ghost use Rattle.plain.specs.Library.{◌≡◌, true, get_or};
+ghost use Rattle.std.specs.Prelude.{◌≡◌, true, get_or};
 ghost use Rattle.plain.specs.Lists.{written};
 ghost use Rattle.liveness.specs.Flags.{live_flags};
 ghost use Rattle.shape.specs.Columns.{end_at};

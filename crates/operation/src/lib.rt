@@ -2,7 +2,7 @@
 
 #![tactic(auto)]
 
-ghost use Rattle.plain.specs.Library.{◌≡◌};
+ghost use Rattle.std.specs.Prelude.{◌≡◌};
 ghost use Rattle.plain.specs.Operations.{decoded, unused as unused_of};
 
 use plain::{EdgePayload, Operation, TraversalDirection};

@@ -1,5 +1,5 @@
 -- Document 01, "Proof by example": M1 to M12 in a single list, proved by computation from the definitions; those after them are of document 02.
-use Rattle.plain.specs.Library.{ℕ, ◌*◌, ◌≡◌, refl, List, [], ◌∷◌, ◌++◌, replicate}
+use Rattle.std.specs.Prelude.{ℕ, ◌*◌, ◌≡◌, refl, List, [], ◌∷◌, ◌++◌, replicate}
 use Rattle.plain.specs.declared.TraversalDirection.TheVariants.{Outgoing, Incoming}
 use Rattle.plain.specs.Numbers.{NONE}
 use Rattle.plain.specs.Lists.{member, without, distinct, sum, from, keep, all, count, joined, append_at, delete_at, set_all}

@@ -1,5 +1,5 @@
 -- Bits and bytes. A bit is 0 or 1, a byte is below 256. Document 01, "The image": "Bit-packed, most significant bit first".
-use Rattle.plain.specs.Library.{ℕ, zero, suc, ◌+◌, ◌*◌, ◌/◌, ◌%◌, ◌^◌, ◌-◌, cond, List, [], ◌∷◌, ◌++◌, length, take, drop, replicate, ltb}
+use Rattle.std.specs.Prelude.{ℕ, zero, suc, ◌+◌, ◌*◌, ◌/◌, ◌%◌, ◌^◌, ◌-◌, cond, List, [], ◌∷◌, ◌++◌, length, take, drop, replicate, ltb}
 
 -- the bits of v at width w
 unfoldable pub bits_of : ℕ → ℕ → List ℕ

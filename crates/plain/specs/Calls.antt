@@ -1,6 +1,7 @@
 -- The calls that change a store or speak of its memory, each with the lengths of what is lent: number, value, answer words, plain lists afterwards.
 -- Document 01, "The strip", the table and the order of refusals. The reads are in `Reads`, the calls on maps in `Renumbering`.
-use Rattle.plain.specs.Library.{ℕ, zero, suc, ◌*◌, ◌%◌, true, cond, not, Option, none, some, List, [], ◌∷◌, length, eqb, ltb}
+use Rattle.std.specs.Prelude.{ℕ, zero, suc, ◌*◌, ◌%◌, true, cond, not, List, [], ◌∷◌, length, eqb, ltb}
+use Rattle.plain.specs.Library.{Option, none, some}
 use Rattle.plain.specs.declared.Answer.{Answer}
 use Rattle.plain.specs.declared.Record.{Record}
 use Rattle.plain.specs.declared.Total.{Total}

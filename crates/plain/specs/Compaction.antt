@@ -2,7 +2,7 @@
 -- makes their counts the bounds and renumbers ends and lists, each list in its order."
 -- The sentence after it, of stores that neither a fresh one nor an image led to, is superseded by document 02, No. 9: "For us the walk is the record: compaction,
 -- joining and the image keep every walk of every store that passes the check, ring order included."
-use Rattle.plain.specs.Library.{ℕ, zero, suc, ◌+◌, Bool, true, false, cond, List, [], ◌∷◌, ◌++◌, map, get_or}
+use Rattle.std.specs.Prelude.{ℕ, zero, suc, ◌+◌, Bool, true, false, cond, List, [], ◌∷◌, ◌++◌, map, get_or}
 use Rattle.plain.specs.declared.TraversalDirection.{TraversalDirection}
 use Rattle.plain.specs.declared.TraversalDirection.TheVariants.{Outgoing, Incoming}
 use Rattle.plain.specs.Numbers.{NONE}

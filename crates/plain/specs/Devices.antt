@@ -1,7 +1,7 @@
 -- The devices that run the library: the boxes, and the skid that washes tanks. Document 02, No. 7: "The skid that washes tanks runs the same library for 64 lots and
 -- 128 transfers, in a memory that is never larger. It gets its own fresh and image-reading entries; the boxes keep 32,768 and number 13." Making a store and reading an
 -- image ask which device they run on; no other call does.
-use Rattle.plain.specs.Library.{ℕ, ◌≤◌, ◌≡◌}
+use Rattle.std.specs.Prelude.{ℕ, ◌≤◌, ◌≡◌}
 use Rattle.plain.specs.Numbers.{LIMIT, above_limit, above_skid}
 use Rattle.plain.specs.Step.{Capacities}
 

@@ -2,7 +2,7 @@
 -- calls, not one for each call. Every number answered in them follows from the plain lists and the calls' arguments, lengths included, never from the store's
 -- counts or words; a refused call or operation leaves the plain lists and the store as they were." What a field is stands with the store's shape. A history is one on a
 -- device, which readings ask for.
-use Rattle.plain.specs.Library.{ℕ, cond, List, [], ◌∷◌, eqb}
+use Rattle.std.specs.Prelude.{ℕ, cond, List, [], ◌∷◌, eqb}
 use Rattle.plain.specs.Step.{Capacities, State}
 use Rattle.plain.specs.Memory.{exact}
 use Rattle.plain.specs.Devices.{Device}

@@ -1,6 +1,5 @@
 -- The image: writing it from the survivors, and reading it from bytes. Document 01, "The image"; document 02, No. 8.
-use Rattle.plain.specs.Library.{ℕ, zero, suc, ◌+◌, ◌*◌, ◌-◌, Bool, true, cond, ◌&&◌, ◌||◌, not, List, [], ◌∷◌, ◌++◌, map, length, take, drop, get_or, eqb}
-use Rattle.plain.specs.Library.{ltb}
+use Rattle.std.specs.Prelude.{ℕ, zero, suc, ◌+◌, ◌*◌, ◌-◌, Bool, true, cond, ◌&&◌, ◌||◌, not, List, [], ◌∷◌, ◌++◌, map, length, take, drop, get_or, eqb, ltb}
 use Rattle.plain.specs.Numbers.{LIMIT}
 use Rattle.plain.specs.Lists.{joined, all, distinct, count, from}
 use Rattle.plain.specs.declared.EdgePayload.{EdgePayload}

@@ -1,6 +1,6 @@
 -- Two books joined. Document 02, No. 6: "Join two checked stores into a third lent memory as a compact store: the first's survivors in slot order, then the
 -- second's, edges likewise, with each list kept in its order."
-use Rattle.plain.specs.Library.{ℕ, ◌+◌, Bool, true, cond, ◌||◌, List, [], ◌∷◌, ◌++◌, map, length, eqb, ltb}
+use Rattle.std.specs.Prelude.{ℕ, ◌+◌, Bool, true, cond, ◌||◌, List, [], ◌∷◌, ◌++◌, map, length, eqb, ltb}
 use Rattle.plain.specs.declared.Answer.{Answer}
 use Rattle.plain.specs.Numbers.{NONE, done, full}
 use Rattle.plain.specs.Plain.{Plain, node_bound, edge_bound, node_flags, edge_flags}

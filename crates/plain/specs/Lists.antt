@@ -1,5 +1,5 @@
 -- The few functions on lists that the definitions of document 01 use beside the library's.
-use Rattle.plain.specs.Library.{ℕ, zero, suc, ◌+◌, Bool, true, false, cond, ◌&&◌, ◌||◌, not, List, [], ◌∷◌, ◌++◌, length, drop, get_or, set, eqb}
+use Rattle.std.specs.Prelude.{ℕ, zero, suc, ◌+◌, Bool, true, false, cond, ◌&&◌, ◌||◌, not, List, [], ◌∷◌, ◌++◌, length, drop, get_or, set, eqb}
 
 -- whether x is in a list
 unfoldable pub member : ℕ → List ℕ → Bool

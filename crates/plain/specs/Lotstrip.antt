@@ -1,5 +1,5 @@
 -- The program lotstrip: from the bytes of its standard input to the whole text that it prints. Document 01, "Proof by example", M12.
-use Rattle.plain.specs.Library.{ℕ, zero, suc, ◌+◌, ◌*◌, ◌/◌, ◌%◌, cond, not, List, [], ◌∷◌, ◌++◌, length, eqb, ltb}
+use Rattle.std.specs.Prelude.{ℕ, zero, suc, ◌+◌, ◌*◌, ◌/◌, ◌%◌, cond, not, List, [], ◌∷◌, ◌++◌, length, eqb, ltb}
 use Prim.Native.Char.{code}
 use Prim.Native.String.{String}
 use Rattle.plain.specs.Operations.{operations, operation_words}

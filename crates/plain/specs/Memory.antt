@@ -1,5 +1,6 @@
 -- The lengths of lent slices: what a store's memory needs, and which slice is the first too short.
-use Rattle.plain.specs.Library.{ℕ, ◌+◌, ◌*◌, ◌/◌, cond, Option, none, some, List, [], ◌∷◌, leb}
+use Rattle.std.specs.Prelude.{ℕ, ◌+◌, ◌*◌, ◌/◌, cond, List, [], ◌∷◌, leb}
+use Rattle.plain.specs.Library.{Option, none, some}
 use Rattle.plain.specs.Step.{Capacities}
 
 -- a lent slice: the length that it needs and the one that it has

@@ -1,7 +1,7 @@
 -- The numbers that calls and operations answer: the table of document 01, "The strip", and document 02. Numbers 1, 2, 3, 12, 13 and 15 are a call's alone and
 -- leave "everything" as it was; 14 is a call's too, whose borrowed words are then clear; 4 to 10 and 16 are an operation's and leave the "store". Of these the
 -- reads answer 5 to 8 too, "walk: 1, 5, 2", "live record 1, 7, 8", and write nothing then; joining answers 10 too, and writes nothing then.
-use Rattle.plain.specs.Library.{ℕ}
+use Rattle.std.specs.Prelude.{ℕ}
 
 -- "`Option<Id>` becomes a `u32`, with NONE = 4,294,967,295" for none
 abbrev pub NONE : ℕ

@@ -1,5 +1,6 @@
 -- The plain lists, what a store means, and what each operation does to them. Document 01, "Plain lists".
-use Rattle.plain.specs.Library.{ℕ, Bool, true, false, Option, List, [], ◌∷◌, ◌++◌, map, length, get_or, set, leb}
+use Rattle.std.specs.Prelude.{ℕ, Bool, true, false, List, [], ◌∷◌, ◌++◌, map, length, get_or, set, leb}
+use Rattle.plain.specs.Library.{Option}
 use Rattle.std.proofs.Math.ListN.{get_elem?}
 use Rattle.plain.specs.declared.TraversalDirection.{TraversalDirection}
 use Rattle.plain.specs.declared.TraversalDirection.TheVariants.{Outgoing, Incoming}

@@ -1,5 +1,6 @@
 -- What each read of a store answers, on the plain lists. Document 01, "The strip": values, numbers and order; document 02, Nos. 1 and 8.
-use Rattle.plain.specs.Library.{ℕ, zero, suc, Bool, true, false, cond, Option, none, some, List, [], ◌∷◌, map, length, get_or, eqb, leb}
+use Rattle.std.specs.Prelude.{ℕ, zero, suc, Bool, true, false, cond, List, [], ◌∷◌, map, length, get_or, eqb, leb}
+use Rattle.plain.specs.Library.{Option, none, some}
 use Rattle.plain.specs.declared.TraversalDirection.{TraversalDirection}
 use Rattle.plain.specs.declared.TraversalDirection.TheVariants.{Outgoing, Incoming}
 use Rattle.plain.specs.declared.Answer.{Answer}

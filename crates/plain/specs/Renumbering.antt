@@ -1,5 +1,5 @@
 -- Renumberings: a map from old slots to new ones, NONE where a slot did not survive. Document 01, "The files that stay", 2.
-use Rattle.plain.specs.Library.{ℕ, Bool, cond, ◌&&◌, List, map, length, get_or, eqb}
+use Rattle.std.specs.Prelude.{ℕ, Bool, cond, ◌&&◌, List, map, length, get_or, eqb}
 use Rattle.plain.specs.declared.Answer.{Answer}
 use Rattle.plain.specs.Numbers.{NONE}
 use Rattle.plain.specs.Lists.{same, from}

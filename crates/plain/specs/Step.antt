@@ -1,5 +1,6 @@
 -- One operation of a strip, and a strip: number, value and plain lists. Document 01, "The strip"; document 02, No. 8.
-use Rattle.plain.specs.Library.{ℕ, zero, suc, Bool, true, false, cond, ◌&&◌, Option, none, some, List, [], ◌∷◌, length, eqb, leb}
+use Rattle.std.specs.Prelude.{ℕ, zero, suc, Bool, true, false, cond, ◌&&◌, List, [], ◌∷◌, length, eqb, leb}
+use Rattle.plain.specs.Library.{Option, none, some}
 use Rattle.std.proofs.Math.Option.{map}
 use Rattle.plain.specs.declared.TraversalDirection.{TraversalDirection}
 use Rattle.plain.specs.declared.EdgePayload.{EdgePayload}

@@ -1,5 +1,5 @@
 -- What is true of the plain lists of every store: `WellFormed`; and of the survivors that an image is written from: `Sound`.
-use Rattle.plain.specs.Library.{ℕ, ◌≤◌, ◌<◌, ◌^◌, ◌≡◌, Bool, true, false, ◌&&◌, List, [], map, length, get_or, eqb}
+use Rattle.std.specs.Prelude.{ℕ, ◌≤◌, ◌<◌, ◌^◌, ◌≡◌, Bool, true, false, ◌&&◌, List, [], map, length, get_or, eqb}
 use Rattle.plain.specs.declared.TraversalDirection.{TraversalDirection}
 use Rattle.plain.specs.declared.EdgePayload.{EdgePayload}
 use Rattle.plain.specs.Numbers.{LIMIT}

@@ -1,5 +1,6 @@
 -- The ways that redirections and moves end, each by what the program has tested.
-use Rattle.plain.specs.Library.{ℕ, ◌≤◌, ◌<◌, ◌≡◌, refl, sym, ap, subst, ◌∙◌, Bool, true, false, ◌≢◌, [], length, get_or, eqb, eqb-true, eqb-false, eq-eqb, ne_eqb}
+use Rattle.std.specs.Prelude.{ℕ, ◌≤◌, ◌<◌, ◌≡◌, refl, Bool, true, false, ◌≢◌, [], length, get_or, eqb}
+use Rattle.plain.specs.Library.{sym, ap, subst, ◌∙◌, eqb-true, eqb-false, eq-eqb, ne_eqb}
 use Rattle.plain.specs.declared.TraversalDirection.{TraversalDirection}
 use Rattle.plain.specs.declared.Operation.TheVariants.{Redirect, Move}
 use Rattle.plain.specs.Numbers.{NONE}

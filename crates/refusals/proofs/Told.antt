@@ -1,5 +1,6 @@
 -- What follows from the number that `fault` and `payload_fault` answered: a fault's case where it is not 0, and none where it is.
-use Rattle.plain.specs.Library.{ℕ, suc, ◌≤◌, ◌<◌, ◌≡◌, refl, sym, subst, ◌∙◌, Bool, true, false, List, get_or, leb, arith, leb-true}
+use Rattle.std.specs.Prelude.{ℕ, suc, ◌≤◌, ◌<◌, ◌≡◌, refl, Bool, true, false, List, get_or, leb}
+use Rattle.plain.specs.Library.{sym, subst, ◌∙◌, arith, leb-true}
 use borrow.Author.Tests.{leb-false}
 use Rattle.plain.specs.declared.EdgePayload.{EdgePayload}
 use Rattle.plain.specs.Step.{payload_fault}

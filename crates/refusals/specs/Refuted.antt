@@ -1,6 +1,7 @@
 -- A wrong program that the record of an operation rules out: a removal that finds nothing live, answers 0 with value 0, and writes a spare word all the same.
 -- No must-fail edit can say it, since a word that no read looks at is caught by the record alone.
-use Rattle.plain.specs.Library.{ℕ, ◌<◌, ◌≡◌, sym, ap, ◌∙◌, length, get_or, set, get_or-set_same, eqb}
+use Rattle.std.specs.Prelude.{ℕ, ◌<◌, ◌≡◌, length, get_or, set, eqb}
+use Rattle.plain.specs.Library.{sym, ap, ◌∙◌, get_or-set_same}
 use Rattle.plain.specs.declared.Operation.TheVariants.{RemoveEdge}
 use Rattle.shape.specs.Shape.{Words, store}
 use Rattle.refusals.specs.Step.{StepOf}

@@ -1,6 +1,6 @@
 -- What one operation of a strip comes to on a checked store: number and value of document 01's table, the shape's own step, the store checked again; a refused
 -- operation leaves every word.
-use Rattle.plain.specs.Library.{ℕ, ◌≡◌, true, false}
+use Rattle.std.specs.Prelude.{ℕ, ◌≡◌, true, false}
 use Rattle.plain.specs.declared.Operation.{Operation}
 use Rattle.plain.specs.Step.{Outcome, step}
 use Rattle.shape.specs.Shape.{Words, capacities, shape_of, lists}

@@ -2,7 +2,7 @@
 
 #![tactic(auto)]
 
-ghost use Rattle.plain.specs.Library.{◌≡◌, cond};
+ghost use Rattle.std.specs.Prelude.{◌≡◌, cond};
 ghost use Rattle.plain.specs.Numbers.{NONE as none};
 ghost use Rattle.plain.specs.declared.Operation.TheVariants.{AddNode, AddEdge, RemoveEdge, RemoveNode, Redirect, Move, SetPayload};
 ghost use Rattle.shape.specs.Checked.{Checked};

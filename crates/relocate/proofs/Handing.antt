@@ -1,6 +1,6 @@
 -- What handing a run over does: the stores of its ways, and both runs after them.
-use Rattle.plain.specs.Library.{ℕ, ◌+◌, ◌*◌, ◌≤◌, ◌<◌, ◌≡◌, refl, sym, ap, ◌∙◌, true, false, inl, inr, ◌≢◌, List, [], ◌∷◌, ◌++◌, append-nil, append_assoc}
-use Rattle.plain.specs.Library.{length, get_or, set, length-set, length-append, get_or-set_same, get_or-set_other, eqb, arith, eqb-true, eqb-false}
+use Rattle.std.specs.Prelude.{ℕ, ◌+◌, ◌*◌, ◌≤◌, ◌<◌, ◌≡◌, refl, true, false, ◌≢◌, List, [], ◌∷◌, ◌++◌, length, get_or, set, eqb}
+use Rattle.plain.specs.Library.{sym, ap, ◌∙◌, inl, inr, append-nil, append_assoc, length-set, length-append, get_or-set_same, get_or-set_other, arith, eqb-true, eqb-false}
 use Rattle.plain.specs.declared.Counts.{Counts}
 use Rattle.plain.specs.Lists.{member, distinct}
 use Rattle.plain.proofs.Laws.Booleans.{by_test, true_false, refuted}

@@ -1,6 +1,6 @@
 -- What moving the edges of a node does, step by step: both runs are prepared, their ends are stored, and their run is handed over.
-use Rattle.plain.specs.Library.{ℕ, ◌+◌, ◌-◌, ◌*◌, ◌≤◌, ◌<◌, ◌≡◌, refl, sym, ap, ap₂, ◌∙◌, subst, Bool, true, ⊎_elim, ◌≢◌, List, [], ◌∷◌, ◌++◌, append-nil}
-use Rattle.plain.specs.Library.{length, get_or, set, length-set, get_or-set_same, get_or-set_other, append_snoc, eqb, arith, eqb-true, eqb-false}
+use Rattle.std.specs.Prelude.{ℕ, ◌+◌, ◌-◌, ◌*◌, ◌≤◌, ◌<◌, ◌≡◌, refl, Bool, true, ◌≢◌, List, [], ◌∷◌, ◌++◌, length, get_or, set, eqb}
+use Rattle.plain.specs.Library.{sym, ap, ap₂, ◌∙◌, subst, ⊎_elim, append-nil, length-set, get_or-set_same, get_or-set_other, append_snoc, arith, eqb-true, eqb-false}
 use Rattle.plain.specs.declared.Counts.{Counts}
 use Rattle.plain.specs.Lists.{set_all}
 use Rattle.plain.proofs.Laws.Booleans.{by_test}

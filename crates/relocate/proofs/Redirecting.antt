@@ -1,6 +1,6 @@
 -- What redirecting an edge does, step by step: it leaves one run, joins another, and its end is stored.
-use Rattle.plain.specs.Library.{ℕ, ◌<◌, ◌≡◌, refl, sym, ap, ◌∙◌, subst, Bool, true, ◌≢◌, List, [], ◌∷◌, ◌++◌, length, get_or, set, length-set, get_or-set_same}
-use Rattle.plain.specs.Library.{get_or-set_other, eqb, arith, eqb-true, eqb-false}
+use Rattle.std.specs.Prelude.{ℕ, ◌<◌, ◌≡◌, refl, Bool, true, ◌≢◌, List, [], ◌∷◌, ◌++◌, length, get_or, set, eqb}
+use Rattle.plain.specs.Library.{sym, ap, ◌∙◌, subst, length-set, get_or-set_same, get_or-set_other, arith, eqb-true, eqb-false}
 use Rattle.plain.specs.declared.Counts.{Counts}
 use Rattle.plain.specs.Lists.{without, set_all}
 use Rattle.plain.proofs.Laws.Booleans.{by_test, true_false}

@@ -1,6 +1,6 @@
 -- Edges that end elsewhere: what was so placed that it can be relocated is so afterwards.
-use Rattle.plain.specs.Library.{ℕ, suc, ◌+◌, ◌*◌, ◌≤◌, ◌<◌, ◌≡◌, refl, sym, ap, ◌∙◌, subst, Bool, true, false, cond, ◌≢◌, inl, List, map, length, get_or, set}
-use Rattle.plain.specs.Library.{length-set, length-map, ext_get_or, eqb, arith, eq-eqb, ne_eqb, eqb-true, eqb-false}
+use Rattle.std.specs.Prelude.{ℕ, suc, ◌+◌, ◌*◌, ◌≤◌, ◌<◌, ◌≡◌, refl, Bool, true, false, cond, ◌≢◌, List, map, length, get_or, set, eqb}
+use Rattle.plain.specs.Library.{sym, ap, ◌∙◌, subst, inl, length-set, length-map, ext_get_or, arith, eq-eqb, ne_eqb, eqb-true, eqb-false}
 use native.Mathlib.Nat.{le_refl, le_trans}
 use Rattle.plain.specs.declared.Counts.{Counts}
 use Rattle.plain.specs.Lists.{member, distinct, from, set_all}

@@ -1,5 +1,5 @@
 -- What a move of a node's edges to another node asks and promises, of the words of one axis at entry, `ws`, and at exit, `vs`.
-use Rattle.plain.specs.Library.{ℕ, ◌<◌, ◌≡◌, Bool, true, false, ◌≢◌, List, [], ◌++◌, length, get_or}
+use Rattle.std.specs.Prelude.{ℕ, ◌<◌, ◌≡◌, Bool, true, false, ◌≢◌, List, [], ◌++◌, length, get_or}
 use Rattle.plain.specs.declared.Counts.{Counts}
 use Rattle.shape.specs.Columns.{mark_at}
 use Rattle.shape.specs.Chains.{In}

@@ -1,5 +1,5 @@
 -- What a redirection of an edge on one axis asks and promises, of the words of the axis at entry, `ws`, and at exit, `vs`.
-use Rattle.plain.specs.Library.{ℕ, ◌*◌, ◌≤◌, ◌<◌, ◌≡◌, Bool, true, false, ◌≢◌, List, [], ◌∷◌, ◌++◌, length, get_or}
+use Rattle.std.specs.Prelude.{ℕ, ◌*◌, ◌≤◌, ◌<◌, ◌≡◌, Bool, true, false, ◌≢◌, List, [], ◌∷◌, ◌++◌, length, get_or}
 use Rattle.plain.specs.declared.Counts.{Counts}
 use Rattle.plain.specs.Lists.{distinct, without}
 use Rattle.shape.specs.Columns.{Sized, end_at}

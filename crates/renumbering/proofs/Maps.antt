@@ -1,6 +1,6 @@
 -- One turn of each loop over a map, and what `compose` answers where the result slice is too short and where it is not.
-use Rattle.plain.specs.Library.{ℕ, zero, suc, ◌+◌, ◌-◌, ◌≤◌, ◌<◌, ◌≡◌, refl, sym, ap, ◌∙◌, Bool, true, false, ◌&&◌, List, [], ◌∷◌, ◌++◌, length, get_or, set}
-use Rattle.plain.specs.Library.{take, drop, length-map, get_or-eq_default, eqb, zero-add, add-one, arith, eq-eqb, ne_eqb, le-leb, lt-leb}
+use Rattle.std.specs.Prelude.{ℕ, zero, suc, ◌+◌, ◌-◌, ◌≤◌, ◌<◌, ◌≡◌, refl, Bool, true, false, ◌&&◌, List, [], ◌∷◌, ◌++◌, length, get_or, set, take, drop, eqb}
+use Rattle.plain.specs.Library.{sym, ap, ◌∙◌, length-map, get_or-eq_default, zero-add, add-one, arith, eq-eqb, ne_eqb, le-leb, lt-leb}
 use native.Mathlib.Nat.{sub-zero}
 use lib.ListN.{drop_of_length-le}
 use lib.Seq.{paste-suc, drop-cons, take-length}

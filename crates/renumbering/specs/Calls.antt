@@ -1,5 +1,5 @@
 -- What the public calls of this crate promise: each is the definition of crate plain.
-use Rattle.plain.specs.Library.{ℕ, ◌≡◌, cond, List, length, eqb}
+use Rattle.std.specs.Prelude.{ℕ, ◌≡◌, cond, List, length, eqb}
 use Rattle.plain.specs.declared.Answer.{Answer}
 use Rattle.plain.specs.Numbers.{NONE}
 use Rattle.plain.specs.Lists.{written}

@@ -3,7 +3,7 @@
 
 #![tactic(auto)]
 
-ghost use Rattle.plain.specs.Library.{◌≡◌};
+ghost use Rattle.std.specs.Prelude.{◌≡◌};
 ghost use Rattle.plain.specs.Renumbering.{lookup as found, is_identity_map};
 ghost use Rattle.renumbering.specs.Calls.{through, Lookup, Compose, IsIdentity};
 

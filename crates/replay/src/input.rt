@@ -1,6 +1,6 @@
 // Recorded lines on standard input: a call, the operations of a strip, the bytes of an image. Crate replay_main tells what a line is.
 
-ghost use Rattle.plain.specs.Library.{◌+◌, ◌≤◌, ◌<◌, length};
+ghost use Rattle.std.specs.Prelude.{◌+◌, ◌≤◌, ◌<◌, length};
 
 use crate::Call;
 use std::io;

@@ -1,6 +1,6 @@
 -- The loop that moves a ring to the end of a run, and what is left when the ring is forgotten.
-use Rattle.plain.specs.Library.{ℕ, suc, ◌+◌, ◌*◌, ◌≤◌, ◌<◌, ◌≡◌, refl, sym, ap, ◌∙◌, subst, Bool, true, inl, ⊎_elim, ◌≢◌, List, [], ◌∷◌, ◌++◌, append-nil}
-use Rattle.plain.specs.Library.{append_assoc, length, get_or, length-append, append_snoc, arith}
+use Rattle.std.specs.Prelude.{ℕ, suc, ◌+◌, ◌*◌, ◌≤◌, ◌<◌, ◌≡◌, refl, Bool, true, ◌≢◌, List, [], ◌∷◌, ◌++◌, length, get_or}
+use Rattle.plain.specs.Library.{sym, ap, ◌∙◌, subst, inl, ⊎_elim, append-nil, append_assoc, length-append, append_snoc, arith}
 use native.Mathlib.Nat.{le_trans, le_refl}
 use Rattle.plain.specs.declared.Counts.{Counts}
 use Rattle.plain.specs.Numbers.{NONE}

@@ -1,5 +1,6 @@
 -- Taking over and sweeping, one after the other.
-use Rattle.plain.specs.Library.{ℕ, subst, Bool, List}
+use Rattle.std.specs.Prelude.{ℕ, Bool, List}
+use Rattle.plain.specs.Library.{subst}
 use Rattle.plain.specs.declared.Counts.{Counts}
 use Rattle.shape.specs.Shape.{adjacency_in}
 use Rattle.shape.specs.Steps.{swept}

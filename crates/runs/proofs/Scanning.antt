@@ -1,6 +1,6 @@
 -- The loop that reads a run up to its first dead entry.
-use Rattle.plain.specs.Library.{ℕ, ◌+◌, ◌-◌, ◌*◌, ◌≤◌, ◌<◌, ◌≡◌, refl, sym, ap, ◌∙◌, subst, Bool, true, false, ◌⊎◌, inl, inr, ⊎_elim, List, [], ◌∷◌, ◌++◌}
-use Rattle.plain.specs.Library.{length, take, drop, length-append, append_snoc, arith}
+use Rattle.std.specs.Prelude.{ℕ, ◌+◌, ◌-◌, ◌*◌, ◌≤◌, ◌<◌, ◌≡◌, refl, Bool, true, false, ◌⊎◌, List, [], ◌∷◌, ◌++◌, length, take, drop}
+use Rattle.plain.specs.Library.{sym, ap, ◌∙◌, subst, inl, inr, ⊎_elim, length-append, append_snoc, arith}
 use Prim.Native.Nat.{zero-le}
 use lib.Seq.{take-append_seam, drop-append_seam}
 use Rattle.plain.specs.declared.Counts.{Counts}

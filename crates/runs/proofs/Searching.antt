@@ -1,6 +1,6 @@
 -- The entry before another in a list: the loop that finds it along a chain, and what it says of the list.
-use Rattle.plain.specs.Library.{ℕ, ◌-◌, ◌*◌, ◌≤◌, ◌<◌, ◌≡◌, refl, sym, ap, ap₂, ◌∙◌, true, false, not, ◌≢◌, List, [], ◌∷◌, ◌++◌, eqb, arith, eq-eqb}
-use Rattle.plain.specs.Library.{ne_eqb, eqb-true}
+use Rattle.std.specs.Prelude.{ℕ, ◌-◌, ◌*◌, ◌≤◌, ◌<◌, ◌≡◌, refl, true, false, not, ◌≢◌, List, [], ◌∷◌, ◌++◌, eqb}
+use Rattle.plain.specs.Library.{sym, ap, ap₂, ◌∙◌, arith, eq-eqb, ne_eqb, eqb-true}
 use Rattle.plain.specs.Numbers.{NONE}
 use Rattle.plain.specs.Lists.{member, without, distinct}
 use Rattle.plain.proofs.Laws.Booleans.{by_test, true_false, refuted}

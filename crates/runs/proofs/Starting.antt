@@ -1,6 +1,6 @@
 -- The loop that copies the live entries of a base part to an empty run, and the start of a run.
-use Rattle.plain.specs.Library.{ℕ, ◌+◌, ◌*◌, ◌≤◌, ◌<◌, ◌≡◌, refl, sym, ap, ◌∙◌, subst, Bool, true, inl, inr, ⊎_elim, ◌≢◌, Option, none, some, List, [], ◌∷◌}
-use Rattle.plain.specs.Library.{◌++◌, append-nil, length, get_or, set, length-set, get_or-set_same, get_or-set_other, append_snoc, arith}
+use Rattle.std.specs.Prelude.{ℕ, ◌+◌, ◌*◌, ◌≤◌, ◌<◌, ◌≡◌, refl, Bool, true, ◌≢◌, List, [], ◌∷◌, ◌++◌, length, get_or, set}
+use Rattle.plain.specs.Library.{sym, ap, ◌∙◌, subst, inl, inr, ⊎_elim, Option, none, some, append-nil, length-set, get_or-set_same, get_or-set_other, append_snoc, arith}
 use Rattle.plain.specs.declared.Counts.{Counts}
 use Rattle.plain.specs.Lists.{keep}
 use Rattle.plain.proofs.Laws.Booleans.{true_false, both_true}

@@ -1,6 +1,6 @@
 -- Taking the dead entries out of a run: the run is made to end before the first of them, and the live ones of what came behind are appended again.
-use Rattle.plain.specs.Library.{ℕ, ◌+◌, ◌-◌, ◌*◌, ◌≤◌, ◌<◌, ◌≡◌, refl, sym, ap, ap₂, ◌∙◌, subst, Bool, false, inl, ◌≢◌, List, [], ◌∷◌, ◌++◌, append-nil}
-use Rattle.plain.specs.Library.{append_assoc, length, get_or, set, take, drop, length-set, get_or-set_same, get_or-set_other, append_snoc, arith}
+use Rattle.std.specs.Prelude.{ℕ, ◌+◌, ◌-◌, ◌*◌, ◌≤◌, ◌<◌, ◌≡◌, refl, Bool, false, ◌≢◌, List, [], ◌∷◌, ◌++◌, length, get_or, set, take, drop}
+use Rattle.plain.specs.Library.{sym, ap, ap₂, ◌∙◌, subst, inl, append-nil, append_assoc, length-set, get_or-set_same, get_or-set_other, append_snoc, arith}
 use lib.ListN.{take-append-drop}
 use Rattle.plain.specs.declared.Counts.{Counts}
 use Rattle.plain.specs.Lists.{keep}

@@ -9,9 +9,8 @@
 -- 4. Its last entry is `tail` where e was not the last, else b: two lists that are equal have the same last entry (`last_none`, `last_some`).
 -- 5. The words of other runs: no edge is in two runs, so no link of theirs is b's. All else is as it was by `get_or-set_other`, and `edited` makes of this that the run of
 --    the node is the run without e, and everything else the shape's (`out`).
-use Rattle.plain.specs.Library.{ℕ, ◌+◌, ◌-◌, ◌*◌, ◌<◌, ◌≡◌, refl, sym, ap, ◌∙◌, subst, true, false, ◌⊎◌, inl, inr, ⊎_elim, ◌≢◌, List, [], ◌∷◌, ◌++◌}
-use Rattle.plain.specs.Library.{append_assoc, length, get_or, set, length-set, get_or-set_same, get_or-set_other, append_snoc, eqb, arith, eq-eqb, eqb-true}
-use Rattle.plain.specs.Library.{eqb-false}
+use Rattle.std.specs.Prelude.{ℕ, ◌+◌, ◌-◌, ◌*◌, ◌<◌, ◌≡◌, refl, true, false, ◌⊎◌, ◌≢◌, List, [], ◌∷◌, ◌++◌, length, get_or, set, eqb}
+use Rattle.plain.specs.Library.{sym, ap, ◌∙◌, subst, inl, inr, ⊎_elim, append_assoc, length-set, get_or-set_same, get_or-set_other, append_snoc, arith, eq-eqb, eqb-true, eqb-false}
 use Rattle.plain.specs.declared.Counts.{Counts}
 use Rattle.plain.specs.Numbers.{NONE}
 use Rattle.plain.specs.Lists.{member, without, distinct}

@@ -1,6 +1,6 @@
 -- What the functions that give a node a run in place of its base part and ring ask and promise, of the words of an axis at entry, `ws`, and at exit, `vs`. All of
 -- them promise an `Edited`, or a `Remade` once the ring is taken over.
-use Rattle.plain.specs.Library.{ℕ, ◌*◌, ◌≤◌, ◌<◌, ◌≡◌, Bool, true, false, ◌≢◌, List, [], ◌++◌, length, get_or}
+use Rattle.std.specs.Prelude.{ℕ, ◌*◌, ◌≤◌, ◌<◌, ◌≡◌, Bool, true, false, ◌≢◌, List, [], ◌++◌, length, get_or}
 use Rattle.plain.specs.declared.Counts.{Counts}
 use Rattle.plain.specs.Lists.{distinct}
 use Rattle.liveness.specs.Flags.{live_flags}

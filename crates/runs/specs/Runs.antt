@@ -1,6 +1,7 @@
 -- What the functions that edit one node's run ask and promise, of the words of an axis at entry, `ws`, and at exit, `vs`. All of them promise an `Edited`: which
 -- run the node has now, and that everything else is as before.
-use Rattle.plain.specs.Library.{ℕ, ◌+◌, ◌*◌, ◌≤◌, ◌<◌, ◌≡◌, Bool, true, false, cond, ◌≢◌, some, List, [], ◌∷◌, ◌++◌, length, get_or, take, drop, eqb}
+use Rattle.std.specs.Prelude.{ℕ, ◌+◌, ◌*◌, ◌≤◌, ◌<◌, ◌≡◌, Bool, true, false, cond, ◌≢◌, List, [], ◌∷◌, ◌++◌, length, get_or, take, drop, eqb}
+use Rattle.plain.specs.Library.{some}
 use Rattle.plain.specs.declared.Counts.{Counts}
 use Rattle.plain.specs.Numbers.{NONE, LIMIT}
 use Rattle.plain.specs.Lists.{distinct, without}

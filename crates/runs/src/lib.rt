@@ -5,7 +5,7 @@
 
 pub mod overlay;
 
-ghost use Rattle.plain.specs.Library.{◌*◌, ◌≡◌, [], ◌∷◌};
+ghost use Rattle.std.specs.Prelude.{◌*◌, ◌≡◌, [], ◌∷◌};
 ghost use Rattle.liveness.specs.Flags.{live_flags};
 ghost use Rattle.shape.specs.Columns.{cell};
 ghost use Rattle.shape.specs.Chains.{chain};

@@ -1,7 +1,7 @@
 -- The columns of an axis. One direction of adjacency is one slice of words; for `ce` edges and `cn` nodes of capacity its columns stand at
 --   ends 0, adjacency ce, next 2 ce, link 3 ce, last 4 ce, first 4 ce + cn, tail 4 ce + 2 cn, count 4 ce + 3 cn, mark 4 ce + 4 cn, offsets 4 ce + 5 cn,
 -- the first four a word an edge, the others a word a node, the offsets one more. All hold edge numbers but ends (nodes), count, mark and offsets.
-use Rattle.plain.specs.Library.{ℕ, ◌+◌, ◌*◌, ◌≤◌, List, length, get_or}
+use Rattle.std.specs.Prelude.{ℕ, ◌+◌, ◌*◌, ◌≤◌, List, length, get_or}
 use Rattle.plain.specs.Numbers.{LIMIT}
 
 -- a column, as the function from an entry to its word

@@ -1,5 +1,5 @@
 -- A store for each rule as the first that is broken, and the sound one that they are made from, proved by computation from the definition of `broken`.
-use Rattle.plain.specs.Library.{ℕ, ◌≡◌, refl, List, [], ◌∷◌, set}
+use Rattle.std.specs.Prelude.{ℕ, ◌≡◌, refl, List, [], ◌∷◌, set}
 use Rattle.plain.specs.declared.Slots.{Slots}
 use Rattle.plain.specs.Lists.{member, distinct, from, keep, all, count, joined}
 use Rattle.liveness.specs.Flags.{bit, live_bit, live_flags, packed}

@@ -3,7 +3,7 @@
 -- `NoField`, and of those `StripLeaves` and `RenewalLeaves` say which a call leaves as they were and which it leaves to the program. That no other word is read is
 -- `fields_shape` of Laws.Fields. That no field is left to the program, so that two outcomes of one call have `SameFields`, is Agreeing of crates strip, compact and
 -- image, from Laws.Agreeing.
-use Rattle.plain.specs.Library.{ℕ, ◌+◌, ◌*◌, ◌≤◌, ◌<◌, ◌≡◌, ◌⊎◌, ◌≢◌, List, length, get_or}
+use Rattle.std.specs.Prelude.{ℕ, ◌+◌, ◌*◌, ◌≤◌, ◌<◌, ◌≡◌, ◌⊎◌, ◌≢◌, List, length, get_or}
 use Rattle.plain.specs.declared.TraversalDirection.{TraversalDirection}
 use Rattle.plain.specs.declared.Counts.{Counts}
 use Rattle.shape.specs.Columns.{cell, tail_at, count_at, mark_at}

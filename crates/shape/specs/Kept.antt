@@ -1,6 +1,7 @@
 -- What calls leave of the words of a store: of the store at entry, w, and at exit, v, or of the words of one axis, `ws` and `vs`. Word i of a list is `get_or l i 0`;
 -- that every slice is as long as it was is said beside, by `SameLengths`.
-use Rattle.plain.specs.Library.{ℕ, ◌+◌, ◌*◌, ◌≤◌, ◌<◌, ◌≡◌, refl, sym, ap, ◌∙◌, ◌⊎◌, inl, inr, ⊎_elim, List, length, get_or, arith}
+use Rattle.std.specs.Prelude.{ℕ, ◌+◌, ◌*◌, ◌≤◌, ◌<◌, ◌≡◌, refl, ◌⊎◌, List, length, get_or}
+use Rattle.plain.specs.Library.{sym, ap, ◌∙◌, inl, inr, ⊎_elim, arith}
 use Rattle.std.proofs.Common.{le_refl, le_trans}
 use Rattle.plain.specs.declared.TraversalDirection.{TraversalDirection}
 use Rattle.plain.specs.declared.TraversalDirection.TheVariants.{Outgoing, Incoming}

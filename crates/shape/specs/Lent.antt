@@ -1,5 +1,5 @@
 -- The store that a function is lent, named once in a contract: its counts and the words behind its seven slices, as they are asked of (`lent`), at entry and at exit.
-use Rattle.plain.specs.Library.{ℕ, List}
+use Rattle.std.specs.Prelude.{ℕ, List}
 use Rattle.plain.specs.declared.Counts.{Counts}
 use Rattle.shape.specs.Shape.{Words, store}
 

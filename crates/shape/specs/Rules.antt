@@ -1,5 +1,5 @@
 -- The rules of the check as tests on counts, lengths and words, and `broken`, the first that fails. Document 01, "Checking a store".
-use Rattle.plain.specs.Library.{ℕ, suc, ◌+◌, ◌*◌, ◌-◌, Bool, false, cond, ◌&&◌, ◌||◌, not, List, [], ◌∷◌, map, length, get_or, eqb, leb, ltb}
+use Rattle.std.specs.Prelude.{ℕ, suc, ◌+◌, ◌*◌, ◌-◌, Bool, false, cond, ◌&&◌, ◌||◌, not, List, [], ◌∷◌, map, length, get_or, eqb, leb, ltb}
 use Rattle.plain.specs.declared.TraversalDirection.{TraversalDirection}
 use Rattle.plain.specs.declared.TraversalDirection.TheVariants.{Outgoing, Incoming}
 use Rattle.plain.specs.declared.Slots.{Slots}

@@ -1,6 +1,7 @@
 -- The shape of a store: what the Rust holds in its vectors, as lists of edge numbers, dead entries included. It is a total function of the counts and the seven
 -- lists of words; the plain lists are a total function of it.
-use Rattle.plain.specs.Library.{ℕ, suc, ◌-◌, ◌*◌, Bool, true, false, cond, ◌&&◌, not, Option, none, some, List, [], ◌++◌, map, length, get_or, eqb, ltb}
+use Rattle.std.specs.Prelude.{ℕ, suc, ◌-◌, ◌*◌, Bool, true, false, cond, ◌&&◌, not, List, [], ◌++◌, map, length, get_or, eqb, ltb}
+use Rattle.plain.specs.Library.{Option, none, some}
 use Rattle.plain.specs.declared.TraversalDirection.{TraversalDirection}
 use Rattle.plain.specs.declared.TraversalDirection.TheVariants.{Outgoing, Incoming}
 use Rattle.plain.specs.declared.Counts.{Counts}

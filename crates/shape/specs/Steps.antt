@@ -6,7 +6,8 @@
 --   redirect e from old to new, old ≠ new: R(old) := sweep(taken(old)) without e; R(new) := sweep(taken(new)) ++ [e]
 --   move old to new, walk of old not empty: m := sweep(taken(old)); R(old) := [] and still a run; ends of m := new; R(new) := sweep(taken(new)) ++ m
 -- Removing edits no run. A removed node keeps run and ring. A move of an empty walk edits nothing.
-use Rattle.plain.specs.Library.{ℕ, ◌≡◌, Bool, true, false, cond, ◌&&◌, not, Option, none, some, List, [], ◌∷◌, ◌++◌, length, get_or, set, eqb}
+use Rattle.std.specs.Prelude.{ℕ, ◌≡◌, Bool, true, false, cond, ◌&&◌, not, List, [], ◌∷◌, ◌++◌, length, get_or, set, eqb}
+use Rattle.plain.specs.Library.{Option, none, some}
 use Rattle.plain.specs.declared.TraversalDirection.{TraversalDirection}
 use Rattle.plain.specs.declared.TraversalDirection.TheVariants.{Outgoing, Incoming}
 use Rattle.plain.specs.declared.Operation.{Operation}

@@ -1,6 +1,6 @@
 -- A store after a node or an edge was added: from what the liveness words and the two directions became, the shape and the check of the whole.
-use Rattle.plain.specs.Library.{ℕ, ◌+◌, ◌<◌, ◌^◌, ◌≡◌, refl, sym, ap, ◌∙◌, true, false, inl, inr, List, length, get_or, set, length-set, get_or-set_same}
-use Rattle.plain.specs.Library.{get_or-set_other, arith}
+use Rattle.std.specs.Prelude.{ℕ, ◌+◌, ◌<◌, ◌^◌, ◌≡◌, refl, true, false, List, length, get_or, set}
+use Rattle.plain.specs.Library.{sym, ap, ◌∙◌, inl, inr, length-set, get_or-set_same, get_or-set_other, arith}
 use Rattle.plain.specs.declared.TraversalDirection.{TraversalDirection}
 use Rattle.plain.specs.declared.TraversalDirection.TheVariants.{Outgoing, Incoming}
 use Rattle.plain.specs.declared.EdgePayload.{EdgePayload}

@@ -1,6 +1,6 @@
 -- One direction of a checked store after a node was opened in it, or an edge appended: its shape, and that it passes the check.
-use Rattle.plain.specs.Library.{ℕ, ◌+◌, ◌*◌, ◌≤◌, ◌<◌, ◌≡◌, refl, sym, ap, ◌∙◌, true, false, ⊎_elim, List, [], ◌∷◌, ◌++◌, length, get_or, get_or-append, eqb}
-use Rattle.plain.specs.Library.{arith, le-ltb}
+use Rattle.std.specs.Prelude.{ℕ, ◌+◌, ◌*◌, ◌≤◌, ◌<◌, ◌≡◌, refl, true, false, List, [], ◌∷◌, ◌++◌, length, get_or, eqb}
+use Rattle.plain.specs.Library.{sym, ap, ◌∙◌, ⊎_elim, get_or-append, arith, le-ltb}
 use lib.Seq.{get_or_at}
 use Rattle.plain.specs.declared.TraversalDirection.{TraversalDirection}
 use Rattle.plain.specs.declared.Counts.{Counts}

@@ -1,6 +1,6 @@
 -- A store after a node was removed: its slot is dead, the edges of both its walks are dead, and no list is edited.
-use Rattle.plain.specs.Library.{ℕ, ◌+◌, ◌≤◌, ◌<◌, ◌≡◌, refl, sym, ap, subst, ◌∙◌, Bool, true, false, ◌⊎◌, inl, inr, List, ◌++◌, map, length, get_or, set, eqb}
-use Rattle.plain.specs.Library.{arith, eqb-true}
+use Rattle.std.specs.Prelude.{ℕ, ◌+◌, ◌≤◌, ◌<◌, ◌≡◌, refl, Bool, true, false, ◌⊎◌, List, ◌++◌, map, length, get_or, set, eqb}
+use Rattle.plain.specs.Library.{sym, ap, subst, ◌∙◌, inl, inr, arith, eqb-true}
 use Rattle.plain.specs.declared.TraversalDirection.{TraversalDirection}
 use Rattle.plain.specs.declared.TraversalDirection.TheVariants.{Outgoing, Incoming}
 use Rattle.plain.specs.declared.Operation.TheVariants.{RemoveNode}

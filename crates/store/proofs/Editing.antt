@@ -1,6 +1,6 @@
 -- A store after an edge was removed or given another payload: no list is edited, so the directions are as they were.
-use Rattle.plain.specs.Library.{ℕ, ◌<◌, ◌^◌, ◌≡◌, refl, sym, ap, ◌∙◌, Bool, true, false, cond, List, map, length, get_or, set, length-set, get_or-eq_default}
-use Rattle.plain.specs.Library.{get_or-set_other, eqb, arith}
+use Rattle.std.specs.Prelude.{ℕ, ◌<◌, ◌^◌, ◌≡◌, refl, Bool, true, false, cond, List, map, length, get_or, set, eqb}
+use Rattle.plain.specs.Library.{sym, ap, ◌∙◌, length-set, get_or-eq_default, get_or-set_other, arith}
 use lib.Seq.{set-get_or}
 use Rattle.plain.specs.declared.TraversalDirection.{TraversalDirection}
 use Rattle.plain.specs.declared.TraversalDirection.TheVariants.{Outgoing, Incoming}

@@ -1,5 +1,6 @@
 -- Words that the operations leave: live words past the slots, and the words of an axis.
-use Rattle.plain.specs.Library.{ℕ, ◌+◌, ◌*◌, ◌/◌, ◌≤◌, ◌<◌, ◌≡◌, ap, ◌∙◌, Bool, ◌⊎◌, ◌≢◌, inl, inr, ⊎_elim, List, get_or, get_or-set_other, arith}
+use Rattle.std.specs.Prelude.{ℕ, ◌+◌, ◌*◌, ◌/◌, ◌≤◌, ◌<◌, ◌≡◌, Bool, ◌⊎◌, ◌≢◌, List, get_or}
+use Rattle.plain.specs.Library.{ap, ◌∙◌, inl, inr, ⊎_elim, get_or-set_other, arith}
 use Rattle.plain.proofs.Laws.Booleans.{below_or_not}
 use Rattle.plain.proofs.Laws.Rank.{live_below}
 use Rattle.liveness.specs.Flags.{live_flags}

@@ -1,6 +1,6 @@
 -- Lists made of the slots below a number, as the lists of a shape are: one more slot, one slot set.
-use Rattle.plain.specs.Library.{ℕ, ◌+◌, ◌<◌, ◌≡◌, sym, ap, ◌∙◌, Bool, true, false, cond, ◌≢◌, List, [], ◌∷◌, ◌++◌, map, length, get_or, set, length-append}
-use Rattle.plain.specs.Library.{length-set, ext_get_or, get_or-set_same, get_or-set_other, eqb, arith, eqb-true, eqb-false, eq-eqb, ne_eqb}
+use Rattle.std.specs.Prelude.{ℕ, ◌+◌, ◌<◌, ◌≡◌, Bool, true, false, cond, ◌≢◌, List, [], ◌∷◌, ◌++◌, map, length, get_or, set, eqb}
+use Rattle.plain.specs.Library.{sym, ap, ◌∙◌, length-append, length-set, ext_get_or, get_or-set_same, get_or-set_other, arith, eqb-true, eqb-false, eq-eqb, ne_eqb}
 use Rattle.plain.specs.declared.EdgePayload.{EdgePayload}
 use Rattle.plain.specs.Lists.{from}
 use Rattle.plain.proofs.Laws.Booleans.{by_test}

@@ -1,5 +1,6 @@
 -- A store whose edges are relocated on one axis: a checked store has what crate `relocate` asks of the axis, and is checked afterwards.
-use Rattle.plain.specs.Library.{ℕ, ◌<◌, ◌≡◌, refl, sym, ap, subst, ◌∙◌, Bool, true, false, not, ◌≢◌, inl, inr, List, length, get_or, eqb, arith, eqb-true, ne_eqb}
+use Rattle.std.specs.Prelude.{ℕ, ◌<◌, ◌≡◌, refl, Bool, true, false, not, ◌≢◌, List, length, get_or, eqb}
+use Rattle.plain.specs.Library.{sym, ap, subst, ◌∙◌, inl, inr, arith, eqb-true, ne_eqb}
 use Rattle.plain.specs.declared.TraversalDirection.{TraversalDirection}
 use Rattle.plain.specs.declared.TraversalDirection.TheVariants.{Outgoing, Incoming}
 use Rattle.plain.specs.declared.Operation.{Operation}

@@ -1,7 +1,7 @@
 -- What the operations on a checked store ask and promise, of the store at entry, w, and at exit, v. Every operation promises the same: the shape is what the
 -- shape's own step makes of it, a run that it edits holds live edges only, the store is checked again, and every slice is as long as it was. That the plain lists are then those of document 01 is
 -- `step_refines` of crate `shape`.
-use Rattle.plain.specs.Library.{ℕ, ◌+◌, ◌-◌, ◌≤◌, ◌<◌, ◌≡◌, Bool, true, false, ◌≢◌, [], length, get_or}
+use Rattle.std.specs.Prelude.{ℕ, ◌+◌, ◌-◌, ◌≤◌, ◌<◌, ◌≡◌, Bool, true, false, ◌≢◌, [], length, get_or}
 use Rattle.plain.specs.declared.Operation.{Operation}
 use Rattle.plain.specs.declared.Operation.TheVariants.{RemoveEdge, RemoveNode, Redirect, Move}
 use Rattle.plain.specs.declared.TraversalDirection.{TraversalDirection}

@@ -3,7 +3,7 @@
 
 #![tactic(auto)]
 
-ghost use Rattle.plain.specs.Library.{◌≤◌, ◌≡◌};
+ghost use Rattle.std.specs.Prelude.{◌≤◌, ◌≡◌};
 ghost use Rattle.plain.specs.declared.Operation.TheVariants.{AddNode, AddEdge, SetPayload};
 ghost use Rattle.shape.specs.Checked.{Checked};
 ghost use Rattle.shape.specs.Lent.{lent, at_entry, at_exit};

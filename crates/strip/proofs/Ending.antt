@@ -1,5 +1,6 @@
 -- The ways that a strip ends, by what it answers before its first operation: refused, or its operations done in turn.
-use Rattle.plain.specs.Library.{ℕ, zero, suc, ◌*◌, ◌/◌, ◌%◌, ◌≤◌, ◌<◌, ◌≡◌, refl, sym, ap, subst, ◌∙◌, List, [], length, arith}
+use Rattle.std.specs.Prelude.{ℕ, zero, suc, ◌*◌, ◌/◌, ◌%◌, ◌≤◌, ◌<◌, ◌≡◌, refl, List, [], length}
+use Rattle.plain.specs.Library.{sym, ap, subst, ◌∙◌, arith}
 use Rattle.plain.specs.declared.Answer.{Answer}
 use Rattle.plain.specs.Lists.{written}
 use Rattle.plain.specs.Operations.{operation_words, operations}

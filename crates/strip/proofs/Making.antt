@@ -1,5 +1,6 @@
 -- Memory that is long enough is a store with no slot, and what making it comes to follows from the answer to its lengths.
-use Rattle.plain.specs.Library.{ℕ, ◌≤◌, ◌≡◌, refl, sym, ap, subst, ◌∙◌, inl, List, length, arith}
+use Rattle.std.specs.Prelude.{ℕ, ◌≤◌, ◌≡◌, refl, List, length}
+use Rattle.plain.specs.Library.{sym, ap, subst, ◌∙◌, inl, arith}
 use Rattle.plain.specs.declared.TraversalDirection.{TraversalDirection}
 use Rattle.plain.specs.declared.TraversalDirection.TheVariants.{Outgoing, Incoming}
 use Rattle.plain.specs.declared.Answer.{Answer}

@@ -1,6 +1,6 @@
 -- The operations of a strip in turn: what holds as one begins, and the laws of the loop, operation by operation.
-use Rattle.plain.specs.Library.{ℕ, ◌+◌, ◌*◌, ◌/◌, ◌≤◌, ◌<◌, ◌≡◌, refl, sym, ap, ap₂, subst, ◌∙◌, List, [], ◌∷◌, ◌++◌, append_assoc, length, get_or, set, take}
-use Rattle.plain.specs.Library.{drop, length-append, length-set, add-one, arith}
+use Rattle.std.specs.Prelude.{ℕ, ◌+◌, ◌*◌, ◌/◌, ◌≤◌, ◌<◌, ◌≡◌, refl, List, [], ◌∷◌, ◌++◌, length, get_or, set, take, drop}
+use Rattle.plain.specs.Library.{sym, ap, ap₂, subst, ◌∙◌, append_assoc, length-append, length-set, add-one, arith}
 use lib.Seq.{take-suc, take_all, length-take-le}
 use Rattle.plain.specs.declared.Operation.{Operation}
 use Rattle.plain.specs.declared.Operation.TheVariants.{Unknown}

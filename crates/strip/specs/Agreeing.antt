@@ -1,5 +1,6 @@
 -- Two outcomes of one strip agree on every field, so what is no field is all that the contract leaves to the program.
-use Rattle.plain.specs.Library.{ℕ, sym, ◌∙◌, List, eqb, eqb-true, eqb-false}
+use Rattle.std.specs.Prelude.{ℕ, List, eqb}
+use Rattle.plain.specs.Library.{sym, ◌∙◌, eqb-true, eqb-false}
 use Rattle.plain.proofs.Laws.Booleans.{by_test}
 use Rattle.shape.specs.Shape.{Words}
 use Rattle.shape.specs.Fields.{SameFields}

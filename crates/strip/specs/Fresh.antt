@@ -1,5 +1,5 @@
 -- What making a store comes to on a device. "A fresh store is empty with bounds 0." "Fresh: 13, nodes before edges, then 2."
-use Rattle.plain.specs.Library.{ℕ, ◌≡◌}
+use Rattle.std.specs.Prelude.{ℕ, ◌≡◌}
 use Rattle.plain.specs.declared.Slots.{Slots}
 use Rattle.plain.specs.declared.Counts.{Counts}
 use Rattle.plain.specs.declared.Answer.{Answer}

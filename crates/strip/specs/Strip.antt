@@ -1,5 +1,5 @@
 -- What a strip comes to: one equation with the fold of document 01's operations, answers as a whole list.
-use Rattle.plain.specs.Library.{ℕ, ◌*◌, ◌/◌, ◌%◌, ◌≤◌, ◌<◌, ◌≡◌, List, [], ◌∷◌, length}
+use Rattle.std.specs.Prelude.{ℕ, ◌*◌, ◌/◌, ◌%◌, ◌≤◌, ◌<◌, ◌≡◌, List, [], ◌∷◌, length}
 use Rattle.plain.specs.declared.Answer.{Answer}
 use Rattle.plain.specs.declared.Operation.{Operation}
 use Rattle.plain.specs.Numbers.{done, no_store, too_short, ragged}

@@ -2,7 +2,7 @@
 
 #![tactic(auto)]
 
-ghost use Rattle.plain.specs.Library.{◌+◌, ◌*◌, ◌≤◌, ◌≡◌, length, get_or, set};
+ghost use Rattle.std.specs.Prelude.{◌+◌, ◌*◌, ◌≤◌, ◌≡◌, length, get_or, set};
 ghost use Rattle.plain.specs.declared.Operation.TheVariants.{Unknown};
 ghost use Rattle.plain.specs.Operations.{operation_words, operations};
 ghost use Rattle.plain.specs.Devices.{box, skid, Proper};

@@ -1,5 +1,5 @@
 -- The lists that compaction takes over from one direction, by the words of its axis: the walks of the live nodes, ring order included.
-use Rattle.plain.specs.Library.{ℕ, ◌+◌, ◌*◌, ◌≤◌, ◌<◌, ◌≡◌, Bool, true, false, List, ◌++◌, map, length, take, drop}
+use Rattle.std.specs.Prelude.{ℕ, ◌+◌, ◌*◌, ◌≤◌, ◌<◌, ◌≡◌, Bool, true, false, List, ◌++◌, map, length, take, drop}
 use Rattle.plain.specs.declared.Counts.{Counts}
 use Rattle.plain.specs.Lists.{joined}
 use Rattle.plain.specs.Reads.{live_slots}

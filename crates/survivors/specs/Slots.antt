@@ -1,5 +1,5 @@
 -- What the functions over slots ask and promise.
-use Rattle.plain.specs.Library.{ℕ, ◌*◌, ◌+◌, ◌<◌, ◌≤◌, ◌≡◌, Bool, List, map, get_or, length}
+use Rattle.std.specs.Prelude.{ℕ, ◌*◌, ◌+◌, ◌<◌, ◌≤◌, ◌≡◌, Bool, List, map, get_or, length}
 use Rattle.plain.specs.Numbers.{NONE}
 use Rattle.plain.specs.Reads.{live_count, live_slots}
 use Rattle.liveness.specs.Flags.{live_flags}

@@ -1,7 +1,7 @@
 // Slots under compaction: the map from old slots to new ones, the words of the live slots moved down, and words put through a map. Port of `surviving_slots`,
 // `take_live_nodes` and `remap_endpoint` of compact.rs. All functions are internal and work in place: there is no second column to move to.
 
-ghost use Rattle.plain.specs.Library.{◌≡◌};
+ghost use Rattle.std.specs.Prelude.{◌≡◌};
 ghost use Rattle.plain.specs.Lists.{written};
 ghost use Rattle.plain.specs.Reads.{live_count};
 ghost use Rattle.plain.specs.Compaction.{renumbering_from};

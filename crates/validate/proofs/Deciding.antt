@@ -1,6 +1,6 @@
 -- What rule 1 establishes, the first broken rule in parts, what each rule takes from the rules before it, and rule 7 by the words of each direction.
-use Rattle.plain.specs.Library.{ℕ, zero, suc, ◌*◌, ◌^◌, ◌≤◌, ◌<◌, ◌≡◌, refl, sym, ap, ap₂, ◌∙◌, Bool, true, false, cond, ◌&&◌, ◌||◌, not, List, length, get_or}
-use Rattle.plain.specs.Library.{eqb, ltb, arith, ltb-true}
+use Rattle.std.specs.Prelude.{ℕ, zero, suc, ◌*◌, ◌^◌, ◌≤◌, ◌<◌, ◌≡◌, refl, Bool, true, false, cond, ◌&&◌, ◌||◌, not, List, length, get_or, eqb, ltb}
+use Rattle.plain.specs.Library.{sym, ap, ap₂, ◌∙◌, arith, ltb-true}
 use Rattle.plain.specs.declared.Answer.{Answer}
 use Rattle.plain.specs.declared.Slots.{Slots}
 use Rattle.plain.specs.declared.TraversalDirection.{TraversalDirection}

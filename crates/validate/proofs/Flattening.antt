@@ -5,9 +5,8 @@
 -- entry that stands in two parts would stand where the offsets do not let it. So such a part holds edges of its node, none twice.
 -- The links of the shown edges of the delta are shown edges of the delta, none twice: so each is linked to, from a lower one or from the last of its ring. By
 -- induction on the slot each is on the ring of its end, which the links do not leave.
-use Rattle.plain.specs.Library.{ℕ, zero, suc, ◌+◌, ◌-◌, ◌*◌, ◌≤◌, ◌<◌, ◌%◌, ◌≡◌, refl, sym, ap, subst, ◌∙◌, Bool, true, false, cond, ◌&&◌, not, ◌⊎◌, inl, inr}
-use Rattle.plain.specs.Library.{⊎_elim, List, [], ◌∷◌, ◌++◌, map, length, get_or, length-map, length-append, eqb, ltb, leb, arith, eq-eqb, eqb-true, eqb-false}
-use Rattle.plain.specs.Library.{not-true, not-false, lt-ltb, le-leb, ltb-true, leb-true}
+use Rattle.std.specs.Prelude.{ℕ, zero, suc, ◌+◌, ◌-◌, ◌*◌, ◌≤◌, ◌<◌, ◌%◌, ◌≡◌, refl, Bool, true, false, cond, ◌&&◌, not, ◌⊎◌, List, [], ◌∷◌, ◌++◌, map, length, get_or, eqb, ltb, leb}
+use Rattle.plain.specs.Library.{sym, ap, subst, ◌∙◌, inl, inr, ⊎_elim, length-map, length-append, arith, eq-eqb, eqb-true, eqb-false, not-true, not-false, lt-ltb, le-leb, ltb-true, leb-true}
 use mathlib.Core.List.{map-append}
 use Rattle.plain.specs.Numbers.{LIMIT}
 use Rattle.plain.specs.declared.Counts.{Counts}

@@ -5,8 +5,8 @@
 -- the node; without one, the second has seen the same of the base part, and rule 5 of the ring, which has edges of the delta alone. So every list holds edges of its
 -- node, none twice, and of runs none is in two. What is marked is in the list of its end: an entry of a run or of the ring behind it, a shown entry of the compressed
 -- index, or what a shown edge of the delta is linked to. So every live edge is in the list of its end.
-use Rattle.plain.specs.Library.{ℕ, zero, suc, ◌+◌, ◌*◌, ◌≤◌, ◌<◌, ◌≡◌, refl, sym, ap, ◌∙◌, Bool, true, false, ◌||◌, not, inl, inr, ⊎_elim, List, []}
-use Rattle.plain.specs.Library.{◌∷◌, ◌++◌, length, get_or, replicate, length-replicate, eqb, ltb, arith, eq-eqb, eqb-true, ne_eqb, ltb-true}
+use Rattle.std.specs.Prelude.{ℕ, zero, suc, ◌+◌, ◌*◌, ◌≤◌, ◌<◌, ◌≡◌, refl, Bool, true, false, ◌||◌, not, List, [], ◌∷◌, ◌++◌, length, get_or, replicate, eqb, ltb}
+use Rattle.plain.specs.Library.{sym, ap, ◌∙◌, inl, inr, ⊎_elim, length-replicate, arith, eq-eqb, eqb-true, ne_eqb, ltb-true}
 use Rattle.plain.specs.Numbers.{LIMIT}
 use Rattle.plain.specs.declared.Counts.{Counts}
 use Rattle.plain.specs.Lists.{member, distinct, all, from, keep, count}

@@ -1,5 +1,5 @@
 -- The first broken rule in three parts: what is left to decide once the counts are right, and once the ends, the index and the rings are.
-use Rattle.plain.specs.Library.{ℕ, ◌≡◌, true, cond, not}
+use Rattle.std.specs.Prelude.{ℕ, ◌≡◌, true, cond, not}
 use Rattle.shape.specs.Shape.{Words}
 use Rattle.shape.specs.Rules.{rule_1, rule_2, rule_3, rule_4, rule_5, rule_6, rule_7}
 

@@ -1,5 +1,5 @@
 -- The check before a call: where a rule is broken the call answers 1 with that rule; else the store is checked and what the call itself answers counts.
-use Rattle.plain.specs.Library.{ℕ, ◌≡◌, []}
+use Rattle.std.specs.Prelude.{ℕ, ◌≡◌, []}
 use Rattle.plain.specs.declared.Answer.{Answer}
 use Rattle.plain.specs.Numbers.{no_store}
 use Rattle.plain.specs.Reads.{Reply}

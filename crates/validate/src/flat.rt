@@ -2,7 +2,7 @@
 // edges of the delta. Each marks what it finds in one map, so that nothing is found twice, and in the end every live edge is marked. Runs are followed once, and
 // with them the rings of their nodes; what has no run is looked at entry by entry, not node by node, since a walk of unknown length is what a check is slow at.
 
-ghost use Rattle.plain.specs.Library.{ℕ, ◌*◌, ◌<◌, ◌≡◌, true, false, not, length, get_or, eqb};
+ghost use Rattle.std.specs.Prelude.{ℕ, ◌*◌, ◌<◌, ◌≡◌, true, false, not, length, get_or, eqb};
 ghost use Rattle.liveness.specs.Flags.{live_bit, live_flags};
 ghost use Rattle.shape.specs.Columns.{Sized, end_at, mark_at};
 ghost use Rattle.shape.specs.Rules.{runs_right as runs_test};

@@ -1,7 +1,7 @@
 -- Nodes with a run, one after the other, where their rings are followed too: that no entry comes twice, each ends at its node, and what is marked is in the list of
 -- its end.
-use Rattle.plain.specs.Library.{ℕ, zero, suc, ◌+◌, ◌-◌, ◌*◌, ◌≤◌, ◌<◌, ◌≡◌, refl, sym, ap, subst, ◌∙◌, Bool, true, false, cond, ◌||◌, not, ⊎_elim, List}
-use Rattle.plain.specs.Library.{[], ◌∷◌, ◌++◌, length, get_or, eqb, ltb, arith, eq-eqb, eqb-true, ne_eqb}
+use Rattle.std.specs.Prelude.{ℕ, zero, suc, ◌+◌, ◌-◌, ◌*◌, ◌≤◌, ◌<◌, ◌≡◌, refl, Bool, true, false, cond, ◌||◌, not, List, [], ◌∷◌, ◌++◌, length, get_or, eqb, ltb}
+use Rattle.plain.specs.Library.{sym, ap, subst, ◌∙◌, ⊎_elim, arith, eq-eqb, eqb-true, ne_eqb}
 use Rattle.plain.specs.Numbers.{NONE}
 use Rattle.plain.specs.declared.Counts.{Counts}
 use Rattle.plain.specs.Lists.{member, distinct, all}

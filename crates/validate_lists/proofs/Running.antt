@@ -1,6 +1,6 @@
 -- Runs: the chain of one, and the runs of all nodes, one after the other: what the nodes from one on decide, where the entries before are marked.
-use Rattle.plain.specs.Library.{ℕ, zero, suc, ◌+◌, ◌-◌, ◌*◌, ◌≤◌, ◌<◌, ◌≡◌, refl, sym, ap, subst, ◌∙◌, Bool, true, false, ◌&&◌, ◌||◌, not, List, [], ◌∷◌, map}
-use Rattle.plain.specs.Library.{get_or, eqb, ltb, arith, eq-eqb, ne_eqb, ltb-true}
+use Rattle.std.specs.Prelude.{ℕ, zero, suc, ◌+◌, ◌-◌, ◌*◌, ◌≤◌, ◌<◌, ◌≡◌, refl, Bool, true, false, ◌&&◌, ◌||◌, not, List, [], ◌∷◌, map, get_or, eqb, ltb}
+use Rattle.plain.specs.Library.{sym, ap, subst, ◌∙◌, arith, eq-eqb, ne_eqb, ltb-true}
 use Rattle.plain.specs.Lists.{member, distinct, all, from, joined}
 use Rattle.plain.proofs.Laws.Booleans.{true_false, refuted, and_left, and_right, and_false, both_true}
 use Rattle.shape.specs.Columns.{cell, end_at, tail_at, mark_at, count_at, first_at}

@@ -1,6 +1,6 @@
 -- The walks of all nodes, one after the other: what the nodes from one on decide, and that the edges marked are those that the walks before have listed.
-use Rattle.plain.specs.Library.{ℕ, ◌+◌, ◌≤◌, ◌<◌, ◌≡◌, sym, ap, ◌∙◌, Bool, true, false, ◌&&◌, ◌||◌, not, List, length, get_or, eqb, ltb, arith, eqb-true}
-use Rattle.plain.specs.Library.{eqb-false, lt-ltb, le-ltb, ltb-true}
+use Rattle.std.specs.Prelude.{ℕ, ◌+◌, ◌≤◌, ◌<◌, ◌≡◌, Bool, true, false, ◌&&◌, ◌||◌, not, List, length, get_or, eqb, ltb}
+use Rattle.plain.specs.Library.{sym, ap, ◌∙◌, arith, eqb-true, eqb-false, lt-ltb, le-ltb, ltb-true}
 use Rattle.plain.specs.declared.Counts.{Counts}
 use Rattle.plain.specs.Lists.{member, distinct, all, from}
 use Rattle.plain.proofs.Laws.Booleans.{by_test, same_truth, and_left, and_right, both_true, and_true, and_false, or_true, or_false}

@@ -1,5 +1,6 @@
 -- Words whose bits are bits of other words.
-use Rattle.plain.specs.Library.{ℕ, zero, suc, ◌/◌, ◌≡◌, sym, ◌∙◌, arith}
+use Rattle.std.specs.Prelude.{ℕ, zero, suc, ◌/◌, ◌≡◌}
+use Rattle.plain.specs.Library.{sym, ◌∙◌, arith}
 use lib.Bits.{bit_and, and_step}
 use Rattle.liveness.specs.Flags.{bit}
 use Rattle.liveness.specs.Laws.Bits.{bit_zero, bit_suc}

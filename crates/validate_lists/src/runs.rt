@@ -1,7 +1,7 @@
 // Rule 6 for one direction: the runs. Every entry is marked as it is passed, so that the first that is out of range or comes twice ends the check, whatever length
 // a run says that it has: runs that pass cost a step an entry. The quick test of flat.rt follows them by the same loop, strictly, with the rings of their nodes.
 
-ghost use Rattle.plain.specs.Library.{◌*◌, ◌≤◌, ◌<◌, ◌≡◌, true, false, not, ◌||◌, length, eqb};
+ghost use Rattle.std.specs.Prelude.{◌*◌, ◌≤◌, ◌<◌, ◌≡◌, true, false, not, ◌||◌, length, eqb};
 ghost use Rattle.liveness.specs.Flags.{live_flags};
 ghost use Rattle.shape.specs.Columns.{cell, end_at, tail_at, mark_at};
 ghost use Rattle.shape.specs.Chains.{chain, until};

@@ -2,7 +2,7 @@
 // twice, or one that does not end at its node, ends the check; the live edges that no walk has listed are those that are not marked in the end. Where the quick
 // test of flat.rt has told that the walks are right they are not followed.
 
-ghost use Rattle.plain.specs.Library.{ℕ, ◌*◌, ◌≤◌, ◌<◌, ◌≡◌, true, length, get_or, eqb};
+ghost use Rattle.std.specs.Prelude.{ℕ, ◌*◌, ◌≤◌, ◌<◌, ◌≡◌, true, length, get_or, eqb};
 ghost use Rattle.plain.specs.Lists.{all, from};
 ghost use Rattle.liveness.specs.Flags.{live_flags};
 ghost use Rattle.shape.specs.Columns.{end_at};

@@ -1,6 +1,6 @@
 -- Rings that climb: a step past an edge, the edges one after the other, and that every ring closes where all climb and as many are a last as there are rings.
-use Rattle.plain.specs.Library.{ℕ, zero, suc, ◌+◌, ◌-◌, ◌*◌, ◌≤◌, ◌<◌, ◌≡◌, sym, ap, subst, ◌∙◌, Bool, true, cond, ◌&&◌, not, ⊎_elim, List, map, length}
-use Rattle.plain.specs.Library.{length-map, eqb, ltb, leb, arith, eq-eqb, ne_eqb, eqb-true, eqb-false, lt-ltb, le-leb, ltb-true, leb-true}
+use Rattle.std.specs.Prelude.{ℕ, zero, suc, ◌+◌, ◌-◌, ◌*◌, ◌≤◌, ◌<◌, ◌≡◌, Bool, true, cond, ◌&&◌, not, List, map, length, eqb, ltb, leb}
+use Rattle.plain.specs.Library.{sym, ap, subst, ◌∙◌, ⊎_elim, length-map, arith, eq-eqb, ne_eqb, eqb-true, eqb-false, lt-ltb, le-leb, ltb-true, leb-true}
 use Rattle.plain.specs.Numbers.{NONE, LIMIT}
 use Rattle.plain.specs.Lists.{member, distinct, all, from, keep, count}
 use Rattle.plain.proofs.Laws.Booleans.{by_test, below_or_not, and_left, and_right, both_true}

@@ -1,5 +1,6 @@
 -- Rule 2 by what counting the live slots answers.
-use Rattle.plain.specs.Library.{ℕ, ◌≡◌, false, List, eqb, arith}
+use Rattle.std.specs.Prelude.{ℕ, ◌≡◌, false, List, eqb}
+use Rattle.plain.specs.Library.{arith}
 use Rattle.plain.specs.declared.Slots.{Slots}
 use Rattle.plain.specs.Reads.{live_count}
 use Rattle.plain.proofs.Laws.Booleans.{by_test}

@@ -1,5 +1,6 @@
 -- Rule 4 by its parts.
-use Rattle.plain.specs.Library.{ℕ, suc, ◌+◌, ◌*◌, ◌≡◌, Bool, true, ◌&&◌, ◌⊎◌, inl, inr, List, get_or, eqb, leb, ltb, eq-eqb, ne_eqb}
+use Rattle.std.specs.Prelude.{ℕ, suc, ◌+◌, ◌*◌, ◌≡◌, Bool, true, ◌&&◌, ◌⊎◌, List, get_or, eqb, leb, ltb}
+use Rattle.plain.specs.Library.{inl, inr, eq-eqb, ne_eqb}
 use native.Mathlib.Nat.{add-zero}
 use Rattle.plain.specs.Lists.{all, from}
 use Rattle.plain.proofs.Laws.Booleans.{and_false}

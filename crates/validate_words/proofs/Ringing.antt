@@ -1,6 +1,6 @@
 -- Following a ring: what the entries from one on decide, and rule 5 for one node by it.
-use Rattle.plain.specs.Library.{ℕ, zero, suc, ◌-◌, ◌*◌, ◌≤◌, ◌<◌, ◌≡◌, refl, sym, ap, ◌∙◌, Bool, true, false, ◌&&◌, List, eqb, ltb, leb, arith, eq-eqb, ne_eqb}
-use Rattle.plain.specs.Library.{ltb-true}
+use Rattle.std.specs.Prelude.{ℕ, zero, suc, ◌-◌, ◌*◌, ◌≤◌, ◌<◌, ◌≡◌, refl, Bool, true, false, ◌&&◌, List, eqb, ltb, leb}
+use Rattle.plain.specs.Library.{sym, ap, ◌∙◌, arith, eq-eqb, ne_eqb, ltb-true}
 use Rattle.plain.specs.Numbers.{NONE}
 use Rattle.plain.specs.Lists.{member, all}
 use Rattle.plain.proofs.Laws.Booleans.{and_left, and_right, refuted}

@@ -1,5 +1,5 @@
 -- Rings that climb: what a quick test of each edge of the delta says, by its link, its end and the last edge of its end's ring.
-use Rattle.plain.specs.Library.{ℕ, ◌≤◌, ◌<◌, ◌≡◌, Bool, cond, not, List, eqb}
+use Rattle.std.specs.Prelude.{ℕ, ◌≤◌, ◌<◌, ◌≡◌, Bool, cond, not, List, eqb}
 use Rattle.plain.specs.Numbers.{NONE}
 use Rattle.shape.specs.Columns.{Sized, cell, end_at, next_at, last_at}
 

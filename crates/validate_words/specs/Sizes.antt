@@ -1,5 +1,5 @@
 -- Rule 1 as a test of the counts and the lengths of the seven slices, and what it says of one direction.
-use Rattle.plain.specs.Library.{ℕ, ◌+◌, ◌*◌, Bool, ◌&&◌, List, leb}
+use Rattle.std.specs.Prelude.{ℕ, ◌+◌, ◌*◌, Bool, ◌&&◌, List, leb}
 use Rattle.plain.specs.declared.Counts.{Counts}
 use Rattle.shape.specs.Columns.{Sized}
 use Rattle.shape.specs.Checked.{Bounded}

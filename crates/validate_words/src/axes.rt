@@ -1,6 +1,6 @@
 // Rules 3 and 4 for one direction: the ends of the edges and the compressed index.
 
-ghost use Rattle.plain.specs.Library.{suc, ◌+◌, ◌≤◌, ◌<◌, ◌≡◌, length, leb, ltb};
+ghost use Rattle.std.specs.Prelude.{suc, ◌+◌, ◌≤◌, ◌<◌, ◌≡◌, length, leb, ltb};
 ghost use Rattle.plain.specs.Lists.{all, from};
 ghost use Rattle.shape.specs.Columns.{cell};
 ghost use Rattle.shape.specs.Rules.{ends_right as ends_test, index_right as index_test};

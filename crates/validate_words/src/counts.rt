@@ -1,6 +1,6 @@
 // Rules 1 and 2: the counts, against the lengths of the seven slices and against the live bits.
 
-ghost use Rattle.plain.specs.Library.{◌*◌, ◌≤◌, ◌≡◌, length};
+ghost use Rattle.std.specs.Prelude.{◌*◌, ◌≤◌, ◌≡◌, length};
 ghost use Rattle.shape.specs.Rules.{slots_right as slots_test, live_agrees as Live_test};
 ghost use Rattle.validate_words.specs.Sizes.{sizes_test};
 

@@ -2,7 +2,7 @@
 // rings that pass cost a step an edge together, and the first that does not ends the check. Rings that climb, as all do that edges are only added to, are not
 // followed: one pass over the edges of the delta in their order tells that they close.
 
-ghost use Rattle.plain.specs.Library.{◌+◌, ◌≤◌, ◌<◌, ◌≡◌, true, length};
+ghost use Rattle.std.specs.Prelude.{◌+◌, ◌≤◌, ◌<◌, ◌≡◌, true, length};
 ghost use Rattle.plain.specs.Lists.{all, from, count as count_of};
 ghost use Rattle.shape.specs.Rules.{ring_right as ring_test};
 ghost use Rattle.validate_words.specs.Sizes.{AxisSized};

@@ -1,6 +1,6 @@
 // Rule 3 of the edges' weights.
 
-ghost use Rattle.plain.specs.Library.{◌≤◌, ◌≡◌, length};
+ghost use Rattle.std.specs.Prelude.{◌≤◌, ◌≡◌, length};
 ghost use Rattle.shape.specs.Rules.{weights_right as weights_test};
 
 // Rule 3: the low of no edge, removed or not, is above its high.

@@ -1,5 +1,6 @@
 -- Bounds and counts: the plain lists of a checked store have them as its record of counts says, and they are answered behind the check.
-use Rattle.plain.specs.Library.{ℕ, zero, suc, ◌≡◌, refl, sym, ap, ◌∙◌, Bool, List, eqb, arith}
+use Rattle.std.specs.Prelude.{ℕ, zero, suc, ◌≡◌, refl, Bool, List, eqb}
+use Rattle.plain.specs.Library.{sym, ap, ◌∙◌, arith}
 use Rattle.plain.specs.declared.Slots.{Slots}
 use Rattle.plain.specs.declared.Answer.{Answer}
 use Rattle.plain.specs.Calls.{judged}

@@ -1,5 +1,6 @@
 -- Listing the live slots by the next live one: what the loop holds, and what the two reads answer.
-use Rattle.plain.specs.Library.{ℕ, ◌+◌, ◌≤◌, ◌<◌, ◌≡◌, refl, sym, ap, ◌∙◌, Bool, List, [], ◌∷◌, ◌++◌, length, set, drop, length-append, length-set, arith}
+use Rattle.std.specs.Prelude.{ℕ, ◌+◌, ◌≤◌, ◌<◌, ◌≡◌, refl, Bool, List, [], ◌∷◌, ◌++◌, length, set, drop}
+use Rattle.plain.specs.Library.{sym, ap, ◌∙◌, length-append, length-set, arith}
 use Rattle.plain.specs.declared.TraversalDirection.TheVariants.{Outgoing}
 use Rattle.plain.specs.declared.Slots.{Slots}
 use Rattle.plain.specs.declared.Answer.{Answer}

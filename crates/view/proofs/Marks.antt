@@ -1,6 +1,6 @@
 -- Whether a checked store is compact, by its counts and the marks of its runs.
-use Rattle.plain.specs.Library.{ℕ, suc, ◌+◌, ◌≡◌, refl, sym, ap, ◌∙◌, Bool, true, false, ◌&&◌, not, List, [], ◌∷◌, map, length, eqb, ltb, arith, eqb-true}
-use Rattle.plain.specs.Library.{eqb-false, lt-ltb, le-ltb}
+use Rattle.std.specs.Prelude.{ℕ, suc, ◌+◌, ◌≡◌, refl, Bool, true, false, ◌&&◌, not, List, [], ◌∷◌, map, length, eqb, ltb}
+use Rattle.plain.specs.Library.{sym, ap, ◌∙◌, arith, eqb-true, eqb-false, lt-ltb, le-ltb}
 use Rattle.plain.specs.declared.TraversalDirection.{TraversalDirection}
 use Rattle.plain.specs.declared.TraversalDirection.TheVariants.{Outgoing, Incoming}
 use Rattle.plain.specs.declared.Counts.{Counts}

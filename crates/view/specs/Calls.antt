@@ -1,6 +1,6 @@
 -- What the public reads promise: behind the check, "words are no store | 1 | rule 1 to 7 | everything", each is its definition of crate plain, on the store's
 -- plain lists.
-use Rattle.plain.specs.Library.{ℕ, ◌≡◌, List, length}
+use Rattle.std.specs.Prelude.{ℕ, ◌≡◌, List, length}
 use Rattle.plain.specs.declared.Answer.{Answer}
 use Rattle.plain.specs.declared.Record.{Record}
 use Rattle.plain.specs.declared.Total.{Total}

@@ -1,5 +1,5 @@
 -- What the marks of a store say: that no node below a bound has a run.
-use Rattle.plain.specs.Library.{ℕ, ◌+◌, ◌*◌, ◌≤◌, Bool, List, length, ltb}
+use Rattle.std.specs.Prelude.{ℕ, ◌+◌, ◌*◌, ◌≤◌, Bool, List, length, ltb}
 use Rattle.plain.specs.Numbers.{LIMIT}
 use Rattle.plain.specs.Lists.{all, from}
 use Rattle.shape.specs.Columns.{cell}

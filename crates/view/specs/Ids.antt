@@ -1,5 +1,5 @@
 -- What listing the live slots of one kind asks.
-use Rattle.plain.specs.Library.{ℕ, ◌*◌, ◌≤◌, ◌≡◌, List, length}
+use Rattle.std.specs.Prelude.{ℕ, ◌*◌, ◌≤◌, ◌≡◌, List, length}
 use Rattle.plain.specs.declared.Slots.{Slots}
 use Rattle.plain.specs.Numbers.{LIMIT}
 use Rattle.plain.specs.Reads.{live_count}

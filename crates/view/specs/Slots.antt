@@ -1,5 +1,5 @@
 -- What the reads of a slot answer by the words that they read.
-use Rattle.plain.specs.Library.{ℕ, ◌<◌, List, length, get_or}
+use Rattle.std.specs.Prelude.{ℕ, ◌<◌, List, length, get_or}
 use Rattle.plain.specs.declared.Answer.{Answer}
 use Rattle.plain.specs.declared.Record.{Record}
 use Rattle.plain.specs.Numbers.{NONE, done}

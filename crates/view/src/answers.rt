@@ -1,6 +1,6 @@
 // What the reads answer, by value: done, yes or no, refused, and any of these behind the check.
 
-ghost use Rattle.plain.specs.Library.{◌≡◌};
+ghost use Rattle.std.specs.Prelude.{◌≡◌};
 ghost use Rattle.plain.specs.Calls.{judged as judged_of};
 ghost use Rattle.plain.specs.Numbers.{NONE as none};
 ghost use Rattle.plain.specs.Reads.{answered as answer_of, yes_or_no as test_of, no_record, no_total};

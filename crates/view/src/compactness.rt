@@ -1,6 +1,6 @@
 // Whether a store is compact: no slot behind the base, none removed, no run. The Rust knows whether any run exists; here the marks are read, once all else holds.
 
-ghost use Rattle.plain.specs.Library.{◌≡◌};
+ghost use Rattle.std.specs.Prelude.{◌≡◌};
 ghost use Rattle.plain.specs.Reads.{is_compact as compact_answer};
 ghost use Rattle.shape.specs.Checked.{Checked};
 ghost use Rattle.shape.specs.Shape.{shape_of, is_compact};

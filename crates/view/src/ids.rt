@@ -1,6 +1,6 @@
 // Public reads that list the live slots in slot order. "List of live nodes or edges in slot order: 1, 2."
 
-ghost use Rattle.plain.specs.Library.{◌≡◌};
+ghost use Rattle.std.specs.Prelude.{◌≡◌};
 ghost use Rattle.plain.specs.Lists.{written};
 ghost use Rattle.plain.specs.Reads.{live_slots, node_slots, edge_slots};
 ghost use Rattle.liveness.specs.Flags.{live_flags};

@@ -1,6 +1,6 @@
 // Public reads of a slot: payloads, records and whether it is live. The check comes first.
 
-ghost use Rattle.plain.specs.Library.{◌≡◌};
+ghost use Rattle.std.specs.Prelude.{◌≡◌};
 ghost use Rattle.plain.specs.Reads.{node_payload, edge_record, live_edge_record, contains_node, contains_edge};
 ghost use Rattle.shape.specs.Shape.{lists};
 ghost use Rattle.shape.specs.Lent.{at_entry};

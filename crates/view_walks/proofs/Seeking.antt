@@ -1,5 +1,6 @@
 -- Finding an edge from one node to another: the first wanted entry of the words' walk is the one that the plain lists give.
-use Rattle.plain.specs.Library.{ℕ, ◌≤◌, ◌<◌, ◌≡◌, sym, ap, ◌∙◌, Bool, false, get_or, eqb}
+use Rattle.std.specs.Prelude.{ℕ, ◌≤◌, ◌<◌, ◌≡◌, Bool, false, get_or, eqb}
+use Rattle.plain.specs.Library.{sym, ap, ◌∙◌}
 use Rattle.plain.specs.declared.TraversalDirection.TheVariants.{Outgoing, Incoming}
 use Rattle.plain.specs.declared.Answer.{Answer}
 use Rattle.plain.specs.Numbers.{NONE}

@@ -1,5 +1,6 @@
 -- The reads of a node's list, way out by way out: what counting comes to, what is answered before anything is written, and what is written.
-use Rattle.plain.specs.Library.{ℕ, ◌≤◌, ◌<◌, ◌≡◌, refl, sym, ap, ◌∙◌, Bool, false, List, [], map, length, get_or, length-map, arith}
+use Rattle.std.specs.Prelude.{ℕ, ◌≤◌, ◌<◌, ◌≡◌, refl, Bool, false, List, [], map, length, get_or}
+use Rattle.plain.specs.Library.{sym, ap, ◌∙◌, length-map, arith}
 use Rattle.plain.specs.declared.TraversalDirection.{TraversalDirection}
 use Rattle.plain.specs.declared.Answer.{Answer}
 use Rattle.plain.specs.Numbers.{NONE}

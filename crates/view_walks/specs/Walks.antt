@@ -1,5 +1,5 @@
 -- What the reads of a node's list ask and answer: its entries, their far ends, how many there are.
-use Rattle.plain.specs.Library.{ℕ, ◌≤◌, ◌<◌, ◌≡◌, List, map, length}
+use Rattle.std.specs.Prelude.{ℕ, ◌≤◌, ◌<◌, ◌≡◌, List, map, length}
 use Rattle.plain.specs.declared.TraversalDirection.{TraversalDirection}
 use Rattle.plain.specs.declared.Answer.{Answer}
 use Rattle.plain.specs.Numbers.{NONE, done, too_short, out_of_range_node}

@@ -5,7 +5,7 @@
 
 pub mod finding;
 
-ghost use Rattle.plain.specs.Library.{◌≡◌};
+ghost use Rattle.std.specs.Prelude.{◌≡◌};
 ghost use Rattle.plain.specs.Lists.{written};
 ghost use Rattle.plain.specs.Reads.{degree as degree_of, total as total_of, walk as walk_of, neighbors as neighbors_of};
 ghost use Rattle.shape.specs.Shape.{lists};

@@ -1,5 +1,6 @@
 -- Laws of edges made dead: none, some and then more, only the live ones of them, and both walks of a node.
-use Rattle.plain.specs.Library.{ℕ, zero, suc, ◌+◌, ◌≡◌, refl, sym, ◌∙◌, Bool, true, false, cond, ◌&&◌, ◌||◌, not, List, [], ◌∷◌, ◌++◌, get_or, set, eqb, arith}
+use Rattle.std.specs.Prelude.{ℕ, zero, suc, ◌+◌, ◌≡◌, refl, Bool, true, false, cond, ◌&&◌, ◌||◌, not, List, [], ◌∷◌, ◌++◌, get_or, set, eqb}
+use Rattle.plain.specs.Library.{sym, ◌∙◌, arith}
 use Rattle.std.proofs.Math.Dec.{eqb-zero-suc, eqb-suc-zero, eqb-suc-suc}
 use Rattle.plain.specs.Lists.{member, keep}
 use Rattle.plain.proofs.Laws.Booleans.{by_test, true_false, and_left, and_true, and_false}

@@ -1,5 +1,6 @@
 -- Laws of the ends of a ring, for those who read and walk it: when they can be read, what they are, and that between them stands the ring.
-use Rattle.plain.specs.Library.{ℕ, ◌*◌, ◌≤◌, ◌<◌, ◌≡◌, ◌⊎◌, inl, inr, ◌≢◌, List, [], eqb, arith, ne_eqb, eqb-true, eqb-false}
+use Rattle.std.specs.Prelude.{ℕ, ◌*◌, ◌≤◌, ◌<◌, ◌≡◌, ◌⊎◌, ◌≢◌, List, [], eqb}
+use Rattle.plain.specs.Library.{inl, inr, arith, ne_eqb, eqb-true, eqb-false}
 use Rattle.std.proofs.Common.{le_trans}
 use Rattle.plain.specs.Numbers.{NONE, LIMIT}
 use Rattle.plain.proofs.Laws.Booleans.{by_test}

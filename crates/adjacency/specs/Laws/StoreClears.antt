@@ -1,7 +1,7 @@
 -- The edges of a node of a whole store made dead: both walks can be cleared, one after the other, and what that leaves is what the shape's own step leaves of the
 -- edge slots.
-use Rattle.plain.specs.Library.{ℕ, ◌+◌, ◌-◌, ◌≤◌, ◌<◌, ◌≡◌, refl, sym, ap₂, ◌∙◌, Bool, true, false, ◌&&◌, not, List, [], ◌∷◌, ◌++◌, map, map-map, length, get_or}
-use Rattle.plain.specs.Library.{set, length-map, ext_get_or, eqb, arith}
+use Rattle.std.specs.Prelude.{ℕ, ◌+◌, ◌-◌, ◌≤◌, ◌<◌, ◌≡◌, refl, Bool, true, false, ◌&&◌, not, List, [], ◌∷◌, ◌++◌, map, length, get_or, set, eqb}
+use Rattle.plain.specs.Library.{sym, ap₂, ◌∙◌, map-map, length-map, ext_get_or, arith}
 use Rattle.std.proofs.Math.Seq.{map-set_same}
 use Rattle.plain.specs.declared.TraversalDirection.{TraversalDirection}
 use Rattle.plain.specs.declared.TraversalDirection.TheVariants.{Outgoing, Incoming}

@@ -1,6 +1,7 @@
 -- Walks of a whole store: where it is checked each node can be walked, and the walk is the node's list of the plain lists. So a public read answers with what
 -- the functions over an axis give.
-use Rattle.plain.specs.Library.{ℕ, ◌<◌, ◌≡◌, ◌∙◌, false, List, map, get_or, arith}
+use Rattle.std.specs.Prelude.{ℕ, ◌<◌, ◌≡◌, false, List, map, get_or}
+use Rattle.plain.specs.Library.{◌∙◌, arith}
 use Rattle.plain.specs.declared.TraversalDirection.{TraversalDirection}
 use Rattle.plain.specs.declared.TraversalDirection.TheVariants.{Outgoing, Incoming}
 use Rattle.plain.specs.Plain.{list_of, end_of, opposite}

@@ -1,6 +1,6 @@
 -- Laws of walks: the columns as slices, what a started walk reads, and that a walk that spares the live bits reads the same.
-use Rattle.plain.specs.Library.{ℕ, zero, suc, ◌+◌, ◌*◌, ◌≤◌, ◌<◌, ◌≡◌, refl, sym, ap, ◌∙◌, Bool, true, false, cond, List, [], ◌∷◌, ◌++◌, length, drop}
-use Rattle.plain.specs.Library.{length-drop, length-append, eqb, arith, eqb-true}
+use Rattle.std.specs.Prelude.{ℕ, zero, suc, ◌+◌, ◌*◌, ◌≤◌, ◌<◌, ◌≡◌, refl, Bool, true, false, cond, List, [], ◌∷◌, ◌++◌, length, drop, eqb}
+use Rattle.plain.specs.Library.{sym, ap, ◌∙◌, length-drop, length-append, arith, eqb-true}
 use Rattle.std.proofs.Common.{le_of_suc-le-suc, not-suc-le-zero, length-take, get_or-take, get_or-drop}
 use Rattle.plain.specs.declared.Counts.{Counts}
 use Rattle.plain.specs.Numbers.{NONE, LIMIT}

@@ -1,5 +1,6 @@
 -- `bits::cut` meets its contract: the mask is a power of two less one.
-use Rattle.plain.specs.Library.{◌/◌, ◌^◌, pow_pos, arith}
+use Rattle.std.specs.Prelude.{◌/◌, ◌^◌}
+use Rattle.plain.specs.Library.{pow_pos, arith}
 use lib.Bits.{and_mask}
 use Rattle.bits.proofs.Fields.{one_shl}
 use Rattle.bits.proofs.cut.Goals as goal

@@ -1,5 +1,6 @@
 -- `bits::read_bytewise` meets its contract: what was read is the field's front.
-use Rattle.plain.specs.Library.{◌-◌, ap, ◌∙◌, arith}
+use Rattle.std.specs.Prelude.{◌-◌}
+use Rattle.plain.specs.Library.{ap, ◌∙◌, arith}
 use native.Mathlib.Nat.{sub_self}
 use Rattle.plain.specs.Bits.{field_at}
 use Rattle.plain.proofs.Laws.Bits.{field_at_zero}

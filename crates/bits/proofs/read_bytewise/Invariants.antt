@@ -1,5 +1,5 @@
 -- `bits::read_bytewise` meets its contract: what was read is the field's front.
-use Rattle.plain.specs.Library.{◌+◌, ◌-◌, ◌≤◌, ◌≡◌}
+use Rattle.std.specs.Prelude.{◌+◌, ◌-◌, ◌≤◌, ◌≡◌}
 use Rattle.plain.specs.Bits.{field_at}
 use Rattle.bits.proofs.read_bytewise.Given as goal
 

@@ -1,5 +1,6 @@
 -- `bits::read_field` meets its contract: a field in a window of eight bytes, or byte by byte.
-use Rattle.plain.specs.Library.{◌≡◌, arith}
+use Rattle.std.specs.Prelude.{◌≡◌}
+use Rattle.plain.specs.Library.{arith}
 use Rattle.plain.specs.Bits.{field_at}
 use Rattle.bits.proofs.Fields.{window_past, field_at_fits}
 use Rattle.bits.proofs.read_field.Goals.{After-cut}

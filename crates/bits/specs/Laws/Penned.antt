@@ -1,6 +1,6 @@
 -- Laws of the pen: puts that follow each other are one, and finishing writes the stream from the first bit on.
-use Rattle.plain.specs.Library.{ℕ, ◌+◌, ◌-◌, ◌*◌, ◌^◌, ◌≤◌, ◌<◌, ◌≡◌, refl, sym, ap, ap₂, ◌∙◌, List, [], ◌++◌, append_assoc, append-nil, length, take, drop}
-use Rattle.plain.specs.Library.{length-append, arith}
+use Rattle.std.specs.Prelude.{ℕ, ◌+◌, ◌-◌, ◌*◌, ◌^◌, ◌≤◌, ◌<◌, ◌≡◌, refl, List, [], ◌++◌, length, take, drop}
+use Rattle.plain.specs.Library.{sym, ap, ap₂, ◌∙◌, append_assoc, append-nil, length-append, arith}
 use Rattle.std.proofs.Common.{mod-eq_of_lt, drop-drop}
 use Rattle.std.proofs.Math.Pow.{high, low}
 use Rattle.plain.specs.Bits.{bits_of, bits}

@@ -1,5 +1,6 @@
 -- Laws of `Wrote`: whole bytes, and what was written from the first bit on.
-use Rattle.plain.specs.Library.{ℕ, ◌+◌, ◌*◌, ◌≤◌, ◌≡◌, sym, ap, ap₂, ◌∙◌, List, ◌++◌, length, take, drop, length-append, take_at, arith}
+use Rattle.std.specs.Prelude.{ℕ, ◌+◌, ◌*◌, ◌≤◌, ◌≡◌, List, ◌++◌, length, take, drop}
+use Rattle.plain.specs.Library.{sym, ap, ap₂, ◌∙◌, length-append, take_at, arith}
 use Rattle.std.proofs.Common.{length-take, take-append-drop, drop_at}
 use Rattle.plain.specs.Lists.{written}
 use Rattle.plain.specs.Bits.{bits_of, bits, bytes_for, padding, pack}

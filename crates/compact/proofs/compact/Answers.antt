@@ -1,6 +1,6 @@
 -- `compact::compact` meets its contract: the check and the answer before it begins, then the store. A slice is as long as it was, by `refl` where the compaction is
 -- refused and else by the word of `settle`.
-use Rattle.plain.specs.Library.{refl}
+use Rattle.std.specs.Prelude.{refl}
 use Rattle.compact.proofs.Entry.{compact_refused, compact_settleable, compact_settled}
 use Rattle.compact.proofs.compact.Goals as goal
 

@@ -1,5 +1,6 @@
 -- What an axis is once a new base was put into it.
-use Rattle.plain.specs.Library.{ℕ, ◌*◌, ◌+◌, ◌<◌, ◌≤◌, ◌∙◌, ◌≡◌, sym, List, get_or, take, arith}
+use Rattle.std.specs.Prelude.{ℕ, ◌*◌, ◌+◌, ◌<◌, ◌≤◌, ◌≡◌, List, get_or, take}
+use Rattle.plain.specs.Library.{◌∙◌, sym, arith}
 use Rattle.plain.specs.declared.Counts.{Counts}
 use Rattle.plain.specs.Lists.{joined}
 use Rattle.plain.specs.WellFormed.{Fitted}

@@ -9,8 +9,8 @@
 --    sound, since lists made of sound survivors are well formed (`holding_checked`).
 -- 5. Canonical words: offsets count the ends below each node, the entries are the lists of all nodes joined, rings are NONE and marks are 0, all by the new base
 --    (`holding_canonical`). That is what a second compaction meets (proofs/Again).
-use Rattle.plain.specs.Library.{ℕ, ◌%◌, ◌*◌, ◌+◌, ◌-◌, ◌/◌, ◌^◌, ◌≤◌, ◌∙◌, ◌≡◌, ap, ap₂, refl, subst, sym, Bool, cond, false, true, List, [], ◌++◌, ◌∷◌, map}
-use Rattle.plain.specs.Library.{map-map, drop, get_or, length, length-append, length-replicate, replicate, eqb, arith, eqb-false, lt-ltb, ltb-true}
+use Rattle.std.specs.Prelude.{ℕ, ◌%◌, ◌*◌, ◌+◌, ◌-◌, ◌/◌, ◌^◌, ◌≤◌, ◌≡◌, refl, Bool, cond, false, true, List, [], ◌++◌, ◌∷◌, map, drop, get_or, length, replicate, eqb}
+use Rattle.plain.specs.Library.{◌∙◌, ap, ap₂, subst, sym, map-map, length-append, length-replicate, arith, eqb-false, lt-ltb, ltb-true}
 use Rattle.std.proofs.Math.Seq.{drop-append_seam}
 use Rattle.std.proofs.Common.{get_or-append-add, get_or-drop}
 use Rattle.plain.specs.declared.Counts.{Counts}

@@ -1,6 +1,6 @@
 -- The shape of survivors is compact, and its plain lists are the survivors'.
-use Rattle.plain.specs.Library.{ℕ, ◌<◌, ◌∙◌, ◌≡◌, ap, ap₂, refl, sym, Bool, false, not, true, List, [], ◌∷◌, append-nil, map, get_or-map, get_or, length}
-use Rattle.plain.specs.Library.{length-map, replicate, arith, eq-eqb, lt-ltb, ltb-true}
+use Rattle.std.specs.Prelude.{ℕ, ◌<◌, ◌≡◌, refl, Bool, false, not, true, List, [], ◌∷◌, map, get_or, length, replicate}
+use Rattle.plain.specs.Library.{◌∙◌, ap, ap₂, sym, append-nil, get_or-map, length-map, arith, eq-eqb, lt-ltb, ltb-true}
 use Rattle.plain.specs.Compaction.{EdgeRecord, Survivors, kept_edge, kept_node, of_survivors, source_of, target_of}
 use Rattle.plain.specs.Lists.{all, from, member}
 use Rattle.plain.specs.Plain.{EdgeSlot, Incidence, NodeSlot, Plain, node_flags, edge_flags}

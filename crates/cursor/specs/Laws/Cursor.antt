@@ -1,6 +1,6 @@
 -- Laws of the cursor: a step finds the head of what remains and leaves the tail, and nothing is found exactly where nothing remains.
-use Rattle.plain.specs.Library.{ℕ, ◌+◌, ◌-◌, ◌≤◌, ◌<◌, ◌≡◌, refl, sym, ap, ◌∙◌, subst, Bool, true, false, inl, inr, ⊎_elim, List, [], ◌∷◌, ◌++◌, length, eqb}
-use Rattle.plain.specs.Library.{ltb, arith, eqb-true, eqb-false, ne_eqb, ltb-true}
+use Rattle.std.specs.Prelude.{ℕ, ◌+◌, ◌-◌, ◌≤◌, ◌<◌, ◌≡◌, refl, Bool, true, false, List, [], ◌∷◌, ◌++◌, length, eqb, ltb}
+use Rattle.plain.specs.Library.{sym, ap, ◌∙◌, subst, inl, inr, ⊎_elim, arith, eqb-true, eqb-false, ne_eqb, ltb-true}
 use Rattle.std.proofs.Common.{ltb-false}
 use Rattle.plain.specs.Numbers.{NONE}
 use Rattle.plain.specs.Lists.{member, keep}

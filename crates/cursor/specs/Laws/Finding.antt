@@ -1,5 +1,6 @@
 -- A search in a walk, turn by turn: the entry found is the first that is wanted, and one that is not wanted changes nothing.
-use Rattle.plain.specs.Library.{ℕ, ◌≡◌, refl, ◌∙◌, Bool, true, false, List}
+use Rattle.std.specs.Prelude.{ℕ, ◌≡◌, refl, Bool, true, false, List}
+use Rattle.plain.specs.Library.{◌∙◌}
 use Rattle.plain.specs.Numbers.{NONE}
 use Rattle.plain.specs.Lists.{keep}
 use Rattle.plain.proofs.Laws.Booleans.{by_test}

@@ -1,6 +1,6 @@
 -- What a search in a walk found, how many entries a walk can have, and one entry more written to a slice.
-use Rattle.plain.specs.Library.{ℕ, suc, ◌+◌, ◌≤◌, ◌<◌, ◌≡◌, refl, sym, ap, ◌∙◌, Bool, true, false, cond, ◌&&◌, not, List, [], ◌∷◌, ◌++◌, append-nil, length}
-use Rattle.plain.specs.Library.{get_or, set, drop, length-append, append_snoc, eqb, add-one, arith, eqb-true}
+use Rattle.std.specs.Prelude.{ℕ, suc, ◌+◌, ◌≤◌, ◌<◌, ◌≡◌, refl, Bool, true, false, cond, ◌&&◌, not, List, [], ◌∷◌, ◌++◌, length, get_or, set, drop, eqb}
+use Rattle.plain.specs.Library.{sym, ap, ◌∙◌, append-nil, length-append, append_snoc, add-one, arith, eqb-true}
 use Rattle.std.proofs.Common.{drop-cons}
 use Rattle.std.proofs.lemmas.List.{set_at}
 use Rattle.plain.specs.Numbers.{NONE, LIMIT}

@@ -1,5 +1,6 @@
 -- What a step reads stands in the columns.
-use Rattle.plain.specs.Library.{ℕ, ◌≤◌, ◌<◌, ◌≡◌, ◌∙◌, subst, Bool, true, false, ⊎_elim, List, length, arith, ne_eqb}
+use Rattle.std.specs.Prelude.{ℕ, ◌≤◌, ◌<◌, ◌≡◌, Bool, true, false, List, length}
+use Rattle.plain.specs.Library.{◌∙◌, subst, ⊎_elim, arith, ne_eqb}
 use Rattle.plain.specs.Numbers.{NONE}
 use Rattle.plain.specs.Lists.{member}
 use Rattle.plain.proofs.Laws.Booleans.{or_true}

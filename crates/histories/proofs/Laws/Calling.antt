@@ -1,5 +1,6 @@
 -- Laws on the definitions of calls: reading into a store's own memory, and the numbers that a call of a history can answer.
-use Rattle.plain.specs.Library.{ℕ, ◌*◌, ◌%◌, ◌≤◌, ◌≡◌, sym, ap, ◌∙◌, ⊎_elim, Option, List, ◌∷◌, length, eqb, ltb, arith, ltb-true, eqb-false}
+use Rattle.std.specs.Prelude.{ℕ, ◌*◌, ◌%◌, ◌≤◌, ◌≡◌, List, ◌∷◌, length, eqb, ltb}
+use Rattle.plain.specs.Library.{sym, ap, ◌∙◌, ⊎_elim, Option, arith, ltb-true, eqb-false}
 use Rattle.plain.specs.declared.TraversalDirection.TheVariants.{Outgoing, Incoming}
 use Rattle.plain.specs.Plain.{Plain}
 use Rattle.plain.specs.Operations.{operation_words, operations}

@@ -1,6 +1,7 @@
 -- What image writing and the closing calls come to on every checked store: the image is that of the survivors of its plain lists, and a further compaction finds nothing
 -- to do.
-use Rattle.plain.specs.Library.{ℕ, ◌≡◌, sym, ap, ap₂, subst, ◌∙◌, Bool, true, ◌⊎◌, ⊎_elim, none, List, length, take, drop, replicate, arith}
+use Rattle.std.specs.Prelude.{ℕ, ◌≡◌, Bool, true, ◌⊎◌, List, length, take, drop, replicate}
+use Rattle.plain.specs.Library.{sym, ap, ap₂, subst, ◌∙◌, ⊎_elim, none, arith}
 use Rattle.std.proofs.Math.Seq.{take-append_seam}
 use Rattle.plain.specs.Lists.{written, from}
 use Rattle.plain.specs.Step.{State}

@@ -1,5 +1,6 @@
 -- Every run follows its history: call by call, from the record of the entry's contract.
-use Rattle.plain.specs.Library.{ℕ, zero, suc, ◌≡◌, refl, sym, ap, ap₂, subst, subst₂, ◌∙◌, cond, List, [], ◌∷◌, length, eqb, arith}
+use Rattle.std.specs.Prelude.{ℕ, zero, suc, ◌≡◌, refl, cond, List, [], ◌∷◌, length, eqb}
+use Rattle.plain.specs.Library.{sym, ap, ap₂, subst, subst₂, ◌∙◌, arith}
 use Rattle.plain.specs.declared.TraversalDirection.TheVariants.{Outgoing}
 use Rattle.plain.specs.declared.Answer.{Answer}
 use Rattle.plain.specs.Lists.{written}

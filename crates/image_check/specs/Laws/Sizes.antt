@@ -1,5 +1,6 @@
 -- The sizes of an image's parts are small numbers: what computing its places asks.
-use Rattle.plain.specs.Library.{ℕ, ◌+◌, ◌*◌, ◌≤◌, arith}
+use Rattle.std.specs.Prelude.{ℕ, ◌+◌, ◌*◌, ◌≤◌}
+use Rattle.plain.specs.Library.{arith}
 use Rattle.std.proofs.Common.{mul-le-mul_right}
 use Rattle.plain.specs.Bits.{least_width}
 use Rattle.plain.specs.Image.{edge_payload_width, record_width}

@@ -1,5 +1,6 @@
 -- Fields at equal distances in bytes: what a turn of their reading asks, and what lists they make. Rows of fields and the columns of records are such fields.
-use Rattle.plain.specs.Library.{ℕ, zero, suc, ◌+◌, ◌*◌, ◌^◌, ◌≤◌, ◌<◌, ◌≡◌, refl, sym, ap, ap₂, ◌∙◌, List, ◌∷◌, map, map-map, length, get_or, zero-add, arith}
+use Rattle.std.specs.Prelude.{ℕ, zero, suc, ◌+◌, ◌*◌, ◌^◌, ◌≤◌, ◌<◌, ◌≡◌, refl, List, ◌∷◌, map, length, get_or}
+use Rattle.plain.specs.Library.{sym, ap, ap₂, ◌∙◌, map-map, zero-add, arith}
 use Rattle.std.proofs.Common.{mul-le-mul_left, mul-zero, mul-suc, add-zero}
 use Rattle.plain.specs.Lists.{from}
 use Rattle.plain.specs.Bits.{field_at, fields_at}

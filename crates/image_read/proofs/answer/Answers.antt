@@ -1,5 +1,6 @@
 -- `image_read::answer` meets its contract: the first broken rule, then the counts.
-use Rattle.plain.specs.Library.{◌≡◌, sym, ◌∙◌, arith}
+use Rattle.std.specs.Prelude.{◌≡◌}
+use Rattle.plain.specs.Library.{sym, ◌∙◌, arith}
 use Rattle.plain.specs.Image.{count_width, broken_image}
 use Rattle.image_read.proofs.Reading.{count_room}
 use Rattle.image_read.proofs.Answering.{whole_told, broken_told}

@@ -1,5 +1,6 @@
 -- `image_read::read_axes` meets its contract: the places, and each direction.
-use Rattle.plain.specs.Library.{ℕ, ◌+◌, ◌≡◌, ap₂}
+use Rattle.std.specs.Prelude.{ℕ, ◌+◌, ◌≡◌}
+use Rattle.plain.specs.Library.{ap₂}
 use Rattle.plain.specs.Bits.{least_width}
 use Rattle.plain.specs.Image.{edges_start}
 use Rattle.image_read.proofs.Directions.{readable_at, read_at}

@@ -1,6 +1,7 @@
 -- `image_read::read_fields` meets its contract. The loop's invariant: the fields passed are in their words, all other words are as they were, and the next field is
 -- where the distances say. The measure is the number of fields left.
-use Rattle.plain.specs.Library.{ℕ, ap, ◌∙◌, arith}
+use Rattle.std.specs.Prelude.{ℕ}
+use Rattle.plain.specs.Library.{ap, ◌∙◌, arith}
 use native.Mathlib.Nat.{mul-zero}
 use Rattle.plain.specs.Bits.{field_at}
 use Rattle.shape.proofs.Laws.Indexing.{rewritten_none, rewritten_more, rewritten_all}

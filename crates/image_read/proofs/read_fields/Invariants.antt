@@ -1,6 +1,6 @@
 -- `image_read::read_fields` meets its contract. The loop's invariant: the fields passed are in their words, all other words are as they were, and the next field is
 -- where the distances say. The measure is the number of fields left.
-use Rattle.plain.specs.Library.{◌+◌, ◌-◌, ◌*◌, ◌≤◌, ◌≡◌}
+use Rattle.std.specs.Prelude.{◌+◌, ◌-◌, ◌*◌, ◌≤◌, ◌≡◌}
 use Rattle.shape.specs.Index.{Rewritten}
 use Rattle.image_check.specs.Spread.{spread}
 use Rattle.image_read.proofs.read_fields.Given as goal

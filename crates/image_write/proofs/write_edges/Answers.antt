@@ -1,5 +1,6 @@
 -- `image_write::write_edges` meets its contract: after each turn the record of one live edge more was written.
-use Rattle.plain.specs.Library.{ℕ, ◌≡◌, length, arith}
+use Rattle.std.specs.Prelude.{ℕ, ◌≡◌, length}
+use Rattle.plain.specs.Library.{arith}
 use Rattle.plain.specs.Reads.{live_slots}
 use Rattle.plain.specs.Image.{record_width}
 use Rattle.liveness.specs.Flags.{live_flags}

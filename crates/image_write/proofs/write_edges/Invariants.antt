@@ -1,5 +1,5 @@
 -- `image_write::write_edges` meets its contract: after each turn the record of one live edge more was written.
-use Rattle.plain.specs.Library.{◌-◌}
+use Rattle.std.specs.Prelude.{◌-◌}
 use Rattle.plain.specs.Image.{record_width}
 use Rattle.liveness.specs.Flags.{live_flags}
 use Rattle.image_write.proofs.Strung.{StrungLive}

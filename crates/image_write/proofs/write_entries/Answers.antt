@@ -1,5 +1,6 @@
 -- `image_write::write_entries` meets its contract: after each turn one entry more was written.
-use Rattle.plain.specs.Library.{get_or, arith}
+use Rattle.std.specs.Prelude.{get_or}
+use Rattle.plain.specs.Library.{arith}
 use Rattle.plain.specs.Compaction.{rank}
 use Rattle.plain.proofs.Laws.Bits.{length_bits_of}
 use Rattle.liveness.specs.Flags.{live_flags}

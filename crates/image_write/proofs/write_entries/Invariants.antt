@@ -1,5 +1,5 @@
 -- `image_write::write_entries` meets its contract: after each turn one entry more was written.
-use Rattle.plain.specs.Library.{◌-◌, ◌≤◌, length}
+use Rattle.std.specs.Prelude.{◌-◌, ◌≤◌, length}
 use Rattle.image_write.proofs.Strung.{StrungTo}
 use Rattle.image_write.proofs.Writing.{entry_bits}
 use Rattle.image_write.proofs.write_entries.Given as goal

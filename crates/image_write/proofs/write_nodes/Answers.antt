@@ -1,5 +1,6 @@
 -- `image_write::write_nodes` meets its contract: after each turn the payload of one live node more was written.
-use Rattle.plain.specs.Library.{get_or, arith}
+use Rattle.std.specs.Prelude.{get_or}
+use Rattle.plain.specs.Library.{arith}
 use Rattle.plain.specs.Reads.{live_slots}
 use Rattle.plain.specs.Image.{node_payload_width}
 use Rattle.plain.proofs.Laws.Bits.{length_bits_of}

@@ -1,5 +1,5 @@
 -- `image_write::write_nodes` meets its contract: after each turn the payload of one live node more was written.
-use Rattle.plain.specs.Library.{◌-◌}
+use Rattle.std.specs.Prelude.{◌-◌}
 use Rattle.plain.specs.Image.{node_payload_width}
 use Rattle.liveness.specs.Flags.{live_flags}
 use Rattle.image_write.proofs.Strung.{StrungLive}

@@ -1,5 +1,6 @@
 -- The answer of joining by numbers: each refusal as it is told, and what is at hand where the answer is 0.
-use Rattle.plain.specs.Library.{ℕ, ◌+◌, ◌<◌, ◌≤◌, suc, zero, ◌∙◌, ◌≡◌, ap, refl, sym, ⊎_elim, eqb, arith, eq-eqb, eqb-false, eqb-true, le-ltb, lt-ltb, ne_eqb}
+use Rattle.std.specs.Prelude.{ℕ, ◌+◌, ◌<◌, ◌≤◌, suc, zero, ◌≡◌, refl, eqb}
+use Rattle.plain.specs.Library.{◌∙◌, ap, sym, ⊎_elim, arith, eq-eqb, eqb-false, eqb-true, le-ltb, lt-ltb, ne_eqb}
 use Rattle.plain.specs.declared.Answer.{Answer}
 use Rattle.plain.specs.Calls.{fresh, judged, short_answer}
 use Rattle.plain.specs.Devices.{Takes, box}

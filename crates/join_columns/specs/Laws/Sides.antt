@@ -1,6 +1,6 @@
 -- One direction of two books, call by call: the ends of both are written, then the lists of both, and the base is built on them.
-use Rattle.plain.specs.Library.{ℕ, ◌*◌, ◌+◌, ◌<◌, ◌≤◌, ◌∙◌, ◌≡◌, ap, subst, sym, List, ◌++◌, get_or-append, drop, get_or, length, length-append, length-map}
-use Rattle.plain.specs.Library.{arith}
+use Rattle.std.specs.Prelude.{ℕ, ◌*◌, ◌+◌, ◌<◌, ◌≤◌, ◌≡◌, List, ◌++◌, drop, get_or, length}
+use Rattle.plain.specs.Library.{◌∙◌, ap, subst, sym, get_or-append, length-append, length-map, arith}
 use Rattle.plain.specs.declared.Counts.{Counts}
 use Rattle.plain.specs.Lists.{written}
 use Rattle.plain.specs.Numbers.{NONE}

@@ -1,6 +1,6 @@
 -- Slices that lists were written to: one list behind another in a part of the slice, entries put through a map, and a part as a range of the whole.
-use Rattle.plain.specs.Library.{ℕ, ◌+◌, ◌-◌, ◌<◌, ◌≤◌, ◌∙◌, ◌≡◌, ap, ap₂, sym, List, [], ◌++◌, append_assoc, append-nil, map, map-map, get_or-append, drop}
-use Rattle.plain.specs.Library.{get_or, length, length-append, length-drop, length-map, take, take_at, arith}
+use Rattle.std.specs.Prelude.{ℕ, ◌+◌, ◌-◌, ◌<◌, ◌≤◌, ◌≡◌, List, [], ◌++◌, map, drop, get_or, length, take}
+use Rattle.plain.specs.Library.{◌∙◌, ap, ap₂, sym, append_assoc, append-nil, map-map, get_or-append, length-append, length-drop, length-map, take_at, arith}
 use Rattle.std.proofs.Common.{drop_of_length-le, drop_at, drop-drop, get_or-append-add, get_or-drop, get_or-take, length-take-le, take_all}
 use Rattle.plain.specs.Lists.{from, written}
 use Rattle.plain.proofs.Laws.ListLaws.{map_get_or, member_at}

@@ -1,5 +1,6 @@
 -- What a checked book hands over: its live slots can be read, and in each direction the ends and lists by its maps are those of its survivors, raised.
-use Rattle.plain.specs.Library.{ℕ, ◌+◌, ◌<◌, ◌≤◌, ◌∙◌, ◌≡◌, ap, refl, sym, Bool, false, true, List, map, map-map, get_or, length, arith}
+use Rattle.std.specs.Prelude.{ℕ, ◌+◌, ◌<◌, ◌≤◌, ◌≡◌, refl, Bool, false, true, List, map, get_or, length}
+use Rattle.plain.specs.Library.{◌∙◌, ap, sym, map-map, arith}
 use Rattle.plain.specs.declared.Slots.{Slots}
 use Rattle.plain.specs.declared.TraversalDirection.{TraversalDirection}
 use Rattle.plain.specs.declared.TraversalDirection.TheVariants.{Incoming, Outgoing}

@@ -6,8 +6,8 @@
 --    base that is built is one of the joined survivors (`base_of`).
 -- 4. With the payloads of both, every slot live and in the base, that is `Holding` of crate compact: shape, check, plain lists and canonical words follow from it as for
 --    compaction and image reading.
-use Rattle.plain.specs.Library.{ℕ, ◌*◌, ◌+◌, ◌-◌, ◌<◌, ◌≤◌, ◌∙◌, ◌≡◌, ap, ap₂, refl, subst, subst₂, sym, List, ◌++◌, map, get_or-append, drop, get_or, length}
-use Rattle.plain.specs.Library.{length-append, length-map, arith}
+use Rattle.std.specs.Prelude.{ℕ, ◌*◌, ◌+◌, ◌-◌, ◌<◌, ◌≤◌, ◌≡◌, refl, List, ◌++◌, map, drop, get_or, length}
+use Rattle.plain.specs.Library.{◌∙◌, ap, ap₂, subst, subst₂, sym, get_or-append, length-append, length-map, arith}
 use Rattle.std.proofs.Common.{get_or-append-add, get_or-drop, take_all}
 use Rattle.plain.specs.declared.Counts.{Counts}
 use Rattle.plain.specs.declared.TraversalDirection.{TraversalDirection}

@@ -1,5 +1,6 @@
 -- `liveness::clear` meets its contract: the two ways are `clear_live` and `clear_dead` of proofs/Words.antt.
-use Rattle.plain.specs.Library.{◌≡◌, sym, ◌∙◌, true, false, get_or, arith}
+use Rattle.std.specs.Prelude.{◌≡◌, true, false, get_or}
+use Rattle.plain.specs.Library.{sym, ◌∙◌, arith}
 use Rattle.liveness.specs.Flags.{live_flags}
 use Rattle.liveness.specs.Laws.Bits.{power, unmark_room}
 use Rattle.liveness.proofs.Words.{live_below, live_one, clear_live, clear_dead}

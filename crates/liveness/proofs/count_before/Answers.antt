@@ -1,6 +1,7 @@
 -- `liveness::count_before` meets its contract. The loop's invariant: what is counted so far are the live flags of the words passed.
 -- The measure is the number of whole words left.
-use Rattle.plain.specs.Library.{ℕ, List, ◌+◌, ◌*◌, ◌/◌, ◌%◌, ◌^◌, ◌≤◌, ◌≡◌, refl, sym, ap, ◌∙◌, get_or, pow_pos, arith}
+use Rattle.std.specs.Prelude.{ℕ, List, ◌+◌, ◌*◌, ◌/◌, ◌%◌, ◌^◌, ◌≤◌, ◌≡◌, refl, get_or}
+use Rattle.plain.specs.Library.{sym, ap, ◌∙◌, pow_pos, arith}
 use lib.Count.{ones, ones-le}
 use Rattle.plain.specs.Reads.{live_count}
 use Rattle.plain.specs.Lists.{from, count}

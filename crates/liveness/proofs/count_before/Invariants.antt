@@ -1,6 +1,6 @@
 -- `liveness::count_before` meets its contract. The loop's invariant: what is counted so far are the live flags of the words passed.
 -- The measure is the number of whole words left.
-use Rattle.plain.specs.Library.{◌-◌, ◌*◌, ◌≤◌, ◌≡◌}
+use Rattle.std.specs.Prelude.{◌-◌, ◌*◌, ◌≤◌, ◌≡◌}
 use Rattle.plain.specs.Reads.{live_count}
 use Rattle.liveness.specs.Flags.{live_flags}
 use Rattle.liveness.proofs.count_before.Given as goal

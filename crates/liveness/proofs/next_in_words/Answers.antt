@@ -1,6 +1,7 @@
 -- `liveness::next_in_words` meets its contract. The loop's invariant: the next live slot from the first word on is that from word `i` on.
 -- The measure is the number of words left.
-use Rattle.plain.specs.Library.{◌<◌, refl, sym, ◌∙◌, get_or, arith}
+use Rattle.std.specs.Prelude.{◌<◌, refl, get_or}
+use Rattle.plain.specs.Library.{sym, ◌∙◌, arith}
 use native.Mathlib.Nat.{div-one}
 use lib.Count.{count_trailing_zeros}
 use Rattle.liveness.specs.Laws.Flags.{length_flags}

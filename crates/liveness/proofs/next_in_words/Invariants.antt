@@ -1,6 +1,6 @@
 -- `liveness::next_in_words` meets its contract. The loop's invariant: the next live slot from the first word on is that from word `i` on.
 -- The measure is the number of words left.
-use Rattle.plain.specs.Library.{◌+◌, ◌-◌, ◌*◌, ◌≡◌}
+use Rattle.std.specs.Prelude.{◌+◌, ◌-◌, ◌*◌, ◌≡◌}
 use Rattle.liveness.specs.Flags.{live_flags, next_live}
 use Rattle.liveness.proofs.next_in_words.Given as goal
 

@@ -1,5 +1,6 @@
 -- `liveness::next_live` meets its contract: none past the end, else in the rest of the slot's word, else in the words after it.
-use Rattle.plain.specs.Library.{◌+◌, ◌/◌, ◌%◌, ◌^◌, ◌<◌, sym, ◌∙◌, get_or, arith}
+use Rattle.std.specs.Prelude.{◌+◌, ◌/◌, ◌%◌, ◌^◌, ◌<◌, get_or}
+use Rattle.plain.specs.Library.{sym, ◌∙◌, arith}
 use lib.Count.{count_trailing_zeros}
 use Rattle.liveness.specs.Laws.Flags.{length_flags}
 use Rattle.liveness.proofs.NextWords.{next_end, next_word, next_zero, zeros_room}

@@ -1,5 +1,6 @@
 -- `liveness::push_live` meets its contract: the three ways are `push_first`, `push_bit` and `push_set` of proofs/Words.antt.
-use Rattle.plain.specs.Library.{◌/◌, ◌%◌, arith}
+use Rattle.std.specs.Prelude.{◌/◌, ◌%◌}
+use Rattle.plain.specs.Library.{arith}
 use Rattle.liveness.specs.Flags.{bit}
 use Rattle.liveness.specs.Laws.Bits.{power, mark_below}
 use Rattle.liveness.proofs.Words.{push_first, push_bit, push_set}

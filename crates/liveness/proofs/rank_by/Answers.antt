@@ -1,5 +1,6 @@
 -- `liveness::rank_by` meets its contract: the slots of the words before, and those of its own word before it.
-use Rattle.plain.specs.Library.{◌+◌, ◌/◌, ◌%◌, ◌^◌, ◌≡◌, sym, ◌∙◌, get_or, pow_pos, arith}
+use Rattle.std.specs.Prelude.{◌+◌, ◌/◌, ◌%◌, ◌^◌, ◌≡◌, get_or}
+use Rattle.plain.specs.Library.{sym, ◌∙◌, pow_pos, arith}
 use lib.Count.{ones}
 use Rattle.plain.specs.Reads.{live_count}
 use Rattle.liveness.specs.Flags.{live_flags}

@@ -1,6 +1,7 @@
 -- `liveness::reset_all_live` meets its contract. The loop's invariant: the words passed are whole, those after them as they were.
 -- The measure is the number of whole words left.
-use Rattle.plain.specs.Library.{ℕ, ◌-◌, ◌/◌, ◌^◌, ◌≤◌, ◌≡◌, refl, ap, ◌∙◌, ◌++◌, drop, replicate, length-set, pow_pos, arith}
+use Rattle.std.specs.Prelude.{ℕ, ◌-◌, ◌/◌, ◌^◌, ◌≤◌, ◌≡◌, refl, ◌++◌, drop, replicate}
+use Rattle.plain.specs.Library.{ap, ◌∙◌, length-set, pow_pos, arith}
 use borrow.Author.Fill.{fill_more}
 use Rattle.liveness.specs.Laws.Bits.{power}
 use Rattle.liveness.proofs.Resets.{filled, reset_full, reset_rest}

@@ -1,6 +1,6 @@
 -- `liveness::reset_all_live` meets its contract. The loop's invariant: the words passed are whole, those after them as they were.
 -- The measure is the number of whole words left.
-use Rattle.plain.specs.Library.{◌-◌, ◌^◌, ◌≤◌, ◌≡◌, ◌++◌, length, drop, replicate}
+use Rattle.std.specs.Prelude.{◌-◌, ◌^◌, ◌≤◌, ◌≡◌, ◌++◌, length, drop, replicate}
 use Rattle.liveness.proofs.reset_all_live.Given as goal
 
 abbrev pub invariant-loop-i : goal.invariant-loop-i

@@ -1,5 +1,6 @@
 -- `liveness::write_ranks` meets its contract: the counts before the words passed are there.
-use Rattle.plain.specs.Library.{◌*◌, ◌≡◌, refl, sym, subst, length-set, arith}
+use Rattle.std.specs.Prelude.{◌*◌, ◌≡◌, refl}
+use Rattle.plain.specs.Library.{sym, subst, length-set, arith}
 use lib.Count.{ones-le}
 use Rattle.plain.specs.Memory.{live_words}
 use Rattle.plain.specs.Lists.{from, count}

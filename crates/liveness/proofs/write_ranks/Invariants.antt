@@ -1,5 +1,5 @@
 -- `liveness::write_ranks` meets its contract: the counts before the words passed are there.
-use Rattle.plain.specs.Library.{◌-◌, ◌*◌, ◌≤◌, ◌≡◌, length}
+use Rattle.std.specs.Prelude.{◌-◌, ◌*◌, ◌≤◌, ◌≡◌, length}
 use Rattle.plain.specs.Memory.{live_words}
 use Rattle.plain.specs.Reads.{live_count}
 use Rattle.liveness.specs.Flags.{live_flags}

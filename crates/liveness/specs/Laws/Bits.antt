@@ -1,5 +1,6 @@
 -- Laws of a word's bits: setting a bit that is 0 by adding its power of two, clearing one that is 1 by taking it away.
-use Rattle.plain.specs.Library.{ℕ, zero, suc, ◌+◌, ◌-◌, ◌*◌, ◌/◌, ◌%◌, ◌^◌, ◌≤◌, ◌<◌, ◌≡◌, refl, sym, ap, ◌∙◌, pow_pos, arith}
+use Rattle.std.specs.Prelude.{ℕ, zero, suc, ◌+◌, ◌-◌, ◌*◌, ◌/◌, ◌%◌, ◌^◌, ◌≤◌, ◌<◌, ◌≡◌, refl}
+use Rattle.plain.specs.Library.{sym, ap, ◌∙◌, pow_pos, arith}
 use Rattle.std.proofs.Common.{div-one, pow-suc, sub-add_cancel, one-mul, shl_exact}
 use Rattle.std.proofs.Math.Nat.{div-div-eq-div-mul, pow-succ', div-eq_of_lt}
 use Rattle.std.proofs.Math.Arith.{lt-one}

@@ -1,6 +1,6 @@
 -- What callers conclude from the promise of making all live: the words made so are words of 64 bits.
-use Rattle.plain.specs.Library.{ℕ, ◌+◌, ◌-◌, ◌*◌, ◌/◌, ◌%◌, ◌^◌, ◌≤◌, ◌<◌, ◌≡◌, ap, ◌∙◌, cond, List, [], ◌∷◌, ◌++◌, append_assoc, length, get_or, drop, replicate}
-use Rattle.plain.specs.Library.{length-replicate, get_or-append, eqb, pow_pos, lt_of_lt_of_le, arith}
+use Rattle.std.specs.Prelude.{ℕ, ◌+◌, ◌-◌, ◌*◌, ◌/◌, ◌%◌, ◌^◌, ◌≤◌, ◌<◌, ◌≡◌, cond, List, [], ◌∷◌, ◌++◌, length, get_or, drop, replicate, eqb}
+use Rattle.plain.specs.Library.{ap, ◌∙◌, append_assoc, length-replicate, get_or-append, pow_pos, lt_of_lt_of_le, arith}
 use Rattle.std.proofs.Math.Decide.{dec_le}
 use Rattle.std.proofs.Common.{pow_mono}
 use Rattle.std.proofs.lemmas.List.{get_or-replicate}

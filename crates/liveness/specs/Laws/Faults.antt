@@ -1,5 +1,6 @@
 -- What follows from a slot's fault, and from there being none.
-use Rattle.plain.specs.Library.{ℕ, ◌≤◌, ◌<◌, ◌≡◌, refl, Bool, true, false, List, get_or, leb, arith, leb-true}
+use Rattle.std.specs.Prelude.{ℕ, ◌≤◌, ◌<◌, ◌≡◌, refl, Bool, true, false, List, get_or, leb}
+use Rattle.plain.specs.Library.{arith, leb-true}
 use Rattle.std.proofs.Common.{leb-false}
 use Rattle.plain.proofs.Laws.Booleans.{by_test}
 use Rattle.liveness.specs.Faults.{fault_of}

@@ -1,7 +1,6 @@
 -- Laws of the live flags: read at a slot, one more slot, one slot changed.
-use Rattle.plain.specs.Library.{ℕ, zero, suc, ◌+◌, ◌*◌, ◌/◌, ◌%◌, ◌^◌, ◌≤◌, ◌<◌, ◌≡◌, refl, sym, ap, ◌∙◌, Bool, true, false, List, [], ◌∷◌, ◌++◌, map, length}
-use Rattle.plain.specs.Library.{get_or, set, take, length-set, length-map, get_or-eq_default, ext_get_or, get_or-set_same, get_or-set_other, eqb, pow_pos, arith}
-use Rattle.plain.specs.Library.{eq-eqb, ne_eqb, eqb-true}
+use Rattle.std.specs.Prelude.{ℕ, zero, suc, ◌+◌, ◌*◌, ◌/◌, ◌%◌, ◌^◌, ◌≤◌, ◌<◌, ◌≡◌, refl, Bool, true, false, List, [], ◌∷◌, ◌++◌, map, length, get_or, set, take, eqb}
+use Rattle.plain.specs.Library.{sym, ap, ◌∙◌, length-set, length-map, get_or-eq_default, ext_get_or, get_or-set_same, get_or-set_other, pow_pos, arith, eq-eqb, ne_eqb, eqb-true}
 use Rattle.std.proofs.Common.{add-zero, div-lt_iff_lt-mul, get_or-take, length-take-le}
 use Rattle.std.proofs.Math.Nat.{div-eq_of_lt}
 use Rattle.std.proofs.Math.Decide.{ℕ_discrete, dec_le}

@@ -1,5 +1,6 @@
 -- Laws of the next live slot, for listing: where it is a slot, the list of live slots goes on with it; where it is none, the list ends.
-use Rattle.plain.specs.Library.{ℕ, zero, suc, ◌+◌, ◌≤◌, ◌<◌, ◌≡◌, refl, Bool, true, false, ◌⊎◌, inl, inr, List, [], ◌∷◌, length, get_or, drop, arith}
+use Rattle.std.specs.Prelude.{ℕ, zero, suc, ◌+◌, ◌≤◌, ◌<◌, ◌≡◌, refl, Bool, true, false, ◌⊎◌, List, [], ◌∷◌, length, get_or, drop}
+use Rattle.plain.specs.Library.{inl, inr, arith}
 use Rattle.std.proofs.Common.{lt_irrefl, not-le_of_lt, drop_of_length-le, drop-cons}
 use Rattle.std.proofs.Math.Decide.{dec_le}
 use Rattle.plain.specs.Reads.{live_from}

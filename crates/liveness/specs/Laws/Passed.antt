@@ -1,6 +1,6 @@
 -- Going through the live slots in slot order, from one to the next: what a loop by `next_live` has passed, and what is left.
-use Rattle.plain.specs.Library.{ℕ, suc, ◌+◌, ◌≤◌, ◌<◌, ◌≡◌, refl, sym, ap, ◌∙◌, Bool, true, false, ⊎_elim, List, [], ◌∷◌, ◌++◌, append-nil, length, get_or, drop}
-use Rattle.plain.specs.Library.{length-append, append_snoc, add-one, arith}
+use Rattle.std.specs.Prelude.{ℕ, suc, ◌+◌, ◌≤◌, ◌<◌, ◌≡◌, refl, Bool, true, false, List, [], ◌∷◌, ◌++◌, length, get_or, drop}
+use Rattle.plain.specs.Library.{sym, ap, ◌∙◌, ⊎_elim, append-nil, length-append, append_snoc, add-one, arith}
 use Rattle.plain.specs.Reads.{live_count, live_from, live_slots}
 use Rattle.plain.proofs.Laws.Booleans.{below_or_not}
 use Rattle.plain.proofs.Laws.Rank.{length_live_slots}

@@ -1,5 +1,6 @@
 -- `lotstrip_text::print` meets its contract: the lines, the image and a newline one after the other.
-use Rattle.plain.specs.Library.{◌<◌, length, arith}
+use Rattle.std.specs.Prelude.{◌<◌, length}
+use Rattle.plain.specs.Library.{arith}
 use Rattle.bits.specs.Laws.Put.{put_length}
 use Rattle.lotstrip_text.proofs.Pieces.{append_then, append_one}
 use Rattle.lotstrip_text.proofs.Printing.{length_printed}

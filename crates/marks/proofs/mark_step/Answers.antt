@@ -1,5 +1,6 @@
 -- `marks::mark_step` meets its contract: nothing is marked, or the edge is.
-use Rattle.plain.specs.Library.{ℕ, refl, ap, not, eqb, ne_eqb}
+use Rattle.std.specs.Prelude.{ℕ, refl, not, eqb}
+use Rattle.plain.specs.Library.{ap, ne_eqb}
 use Rattle.marks.specs.Laws.Following.{entered_unlisted, entered_marking}
 use Rattle.marks.proofs.mark_step.Goals as goal
 

@@ -1,6 +1,6 @@
 -- Following a list of entries and marking each, up to the first that does not pass.
-use Rattle.plain.specs.Library.{ℕ, ◌≡◌, refl, sym, ap, subst, ◌∙◌, Bool, true, false, ◌&&◌, ◌||◌, not, inl, inr, ⊎_elim, List, [], ◌∷◌, ◌++◌, length, eqb}
-use Rattle.plain.specs.Library.{not-true, not-false}
+use Rattle.std.specs.Prelude.{ℕ, ◌≡◌, refl, Bool, true, false, ◌&&◌, ◌||◌, not, List, [], ◌∷◌, ◌++◌, length, eqb}
+use Rattle.plain.specs.Library.{sym, ap, subst, ◌∙◌, inl, inr, ⊎_elim, not-true, not-false}
 use Rattle.std.proofs.lemmas.Bool.{false≢true}
 use Rattle.plain.specs.Lists.{member, distinct, all, keep}
 use Rattle.plain.proofs.Laws.Booleans.{by_test, true_false, refuted, and_left, and_right, both_true, or_other, or_false, or_true}

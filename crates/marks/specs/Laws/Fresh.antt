@@ -1,6 +1,6 @@
 -- A clear map, and lists of which no entry is marked and none comes twice: entry by entry, and list by list, where what is passed is marked.
-use Rattle.plain.specs.Library.{ℕ, ◌/◌, ◌%◌, ◌≡◌, refl, sym, ap, ◌∙◌, Bool, true, false, ◌&&◌, ◌||◌, not, ⊎_elim, List, [], ◌∷◌, ◌++◌, get_or, replicate}
-use Rattle.plain.specs.Library.{length-replicate, get_or-eq_default, eqb, pow_pos, eq-eqb, ne_eqb, not-true}
+use Rattle.std.specs.Prelude.{ℕ, ◌/◌, ◌%◌, ◌≡◌, refl, Bool, true, false, ◌&&◌, ◌||◌, not, List, [], ◌∷◌, ◌++◌, get_or, replicate, eqb}
+use Rattle.plain.specs.Library.{sym, ap, ◌∙◌, ⊎_elim, length-replicate, get_or-eq_default, pow_pos, eq-eqb, ne_eqb, not-true}
 use Rattle.std.proofs.lemmas.List.{get_or-replicate}
 use Rattle.plain.specs.Lists.{member, distinct, all}
 use Rattle.plain.proofs.Laws.Booleans.{by_test, below_or_not, same_truth, true_false, refuted, and_left, and_right, both_true, and_false, and_true, or_true, or_false}

@@ -1,5 +1,5 @@
 -- `nearest::nearest` meets its contract: refused before the search, or searched.
-use Rattle.plain.specs.Library.{refl}
+use Rattle.std.specs.Prelude.{refl}
 use Rattle.nearest.proofs.Entry.{nearest_refused, nearest_searched}
 use Rattle.nearest.proofs.nearest.Goals as goal
 

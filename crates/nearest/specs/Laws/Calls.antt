@@ -1,6 +1,6 @@
 -- The call's definition by cases, and the sentences of document 02, No. 4, about what it answers, for the plain lists of every store.
-use Rattle.plain.specs.Library.{ℕ, zero, suc, ◌≤◌, ◌<◌, ◌≡◌, refl, sym, ap, ◌∙◌, false, cond, inl, ⊎_elim, Option, none, some, List, [], ◌∷◌, length, get_or, eqb}
-use Rattle.plain.specs.Library.{ltb, arith, lt-ltb, le-ltb}
+use Rattle.std.specs.Prelude.{ℕ, zero, suc, ◌≤◌, ◌<◌, ◌≡◌, refl, false, cond, List, [], ◌∷◌, length, get_or, eqb, ltb}
+use Rattle.plain.specs.Library.{sym, ap, ◌∙◌, inl, ⊎_elim, Option, none, some, arith, lt-ltb, le-ltb}
 use Rattle.std.proofs.Common.{zero-le}
 use Rattle.plain.specs.declared.TraversalDirection.TheVariants.{Outgoing, Incoming}
 use Rattle.plain.specs.Numbers.{NONE}

@@ -1,7 +1,7 @@
 -- Laws of chains over any out-lists. What document 02 says of the nearest one: `nearest_chain`, `nearest_shortest`, `nearest_first`, `nearest_none`; and that
 -- these sentences determine it: `first_unique`, `first_nearest`.
-use Rattle.plain.specs.Library.{ℕ, zero, suc, ◌+◌, ◌≤◌, ◌<◌, ◌≡◌, refl, sym, ap, ap₂, ◌∙◌, subst, Bool, true, false, cond, not, ◌⊎◌, inl, inr, ⊎_elim, Option}
-use Rattle.plain.specs.Library.{none, some, List, [], ◌∷◌, ◌++◌, map, length, length-map, eqb, arith, eqb-true, eqb-false, eq-eqb, lt-ltb}
+use Rattle.std.specs.Prelude.{ℕ, zero, suc, ◌+◌, ◌≤◌, ◌<◌, ◌≡◌, refl, Bool, true, false, cond, not, ◌⊎◌, List, [], ◌∷◌, ◌++◌, map, length, eqb}
+use Rattle.plain.specs.Library.{sym, ap, ap₂, ◌∙◌, subst, inl, inr, ⊎_elim, Option, none, some, length-map, arith, eqb-true, eqb-false, eq-eqb, lt-ltb}
 use Prim.Native.Nat.{zero-le}
 use Rattle.std.proofs.Math.Nat.{suc_inj}
 use Rattle.std.proofs.Math.Option.{some-injective}

@@ -1,5 +1,6 @@
 -- `operation::decode` meets its contract: an arm's key picks the case of `decoded`, and the default is none of the keys.
-use Rattle.plain.specs.Library.{ℕ, ◌≡◌, refl, sym, ap, ◌∙◌, ne_eqb}
+use Rattle.std.specs.Prelude.{ℕ, ◌≡◌, refl}
+use Rattle.plain.specs.Library.{sym, ap, ◌∙◌, ne_eqb}
 use Rattle.plain.specs.declared.Operation.{Operation}
 use Rattle.plain.specs.Operations.{decoded}
 use Rattle.operation.proofs.decode.Goals as goal

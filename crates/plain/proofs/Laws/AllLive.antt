@@ -1,6 +1,6 @@
 -- Lists in which every slot is live: compaction leaves them as they are, and their image read gives them back. So are the lists of every compact store.
-use Rattle.plain.specs.Library.{ℕ, ◌≤◌, ◌<◌, ◌≡◌, sym, ap, ◌∙◌, Bool, true, false, List, [], length, get_or, replicate, get_or-map, ext_get_or, eqb, arith}
-use Rattle.plain.specs.Library.{lt-ltb}
+use Rattle.std.specs.Prelude.{ℕ, ◌≤◌, ◌<◌, ◌≡◌, Bool, true, false, List, [], length, get_or, replicate, eqb}
+use Rattle.plain.specs.Library.{sym, ap, ◌∙◌, get_or-map, ext_get_or, arith, lt-ltb}
 use Rattle.plain.specs.declared.TraversalDirection.{TraversalDirection}
 use Rattle.plain.specs.declared.TraversalDirection.TheVariants.{Outgoing, Incoming}
 use Rattle.plain.specs.Numbers.{LIMIT}

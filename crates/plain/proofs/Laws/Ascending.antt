@@ -1,6 +1,6 @@
 -- Rule 6 of an image by one pass over the joined entries: they are right exactly when they are below m, none is repeated, and their ends do not descend.
-use Rattle.plain.specs.Library.{ℕ, zero, suc, ◌≤◌, ◌<◌, ◌≡◌, refl, sym, ap, ◌∙◌, Bool, true, ◌&&◌, List, [], ◌∷◌, ◌++◌, map, length, take, drop, get_or}
-use Rattle.plain.specs.Library.{eqb, leb, ltb, zero-add, arith, leb-true, le-leb, eqb-true, eqb-false, eq-eqb, ne_eqb}
+use Rattle.std.specs.Prelude.{ℕ, zero, suc, ◌≤◌, ◌<◌, ◌≡◌, refl, Bool, true, ◌&&◌, List, [], ◌∷◌, ◌++◌, map, length, take, drop, get_or, eqb, leb, ltb}
+use Rattle.plain.specs.Library.{sym, ap, ◌∙◌, zero-add, arith, leb-true, le-leb, eqb-true, eqb-false, eq-eqb, ne_eqb}
 use Rattle.std.proofs.Common.{le_refl}
 use Rattle.std.proofs.Math.Numerals.{one-add}
 use Rattle.plain.specs.Lists.{member, distinct, from, keep, all, count, joined}

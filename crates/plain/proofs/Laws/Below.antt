@@ -1,6 +1,6 @@
 -- Lists whose entries are all below a bound: bits below 2, bytes below 256, values below the power of two that holds them.
-use Rattle.plain.specs.Library.{ℕ, zero, suc, ◌≤◌, ◌<◌, ◌≡◌, refl, true, List, [], ◌∷◌, ◌++◌, length, take, drop, get_or, ltb, lt_of_lt_of_le, arith}
-use Rattle.plain.specs.Library.{ltb-true, lt-ltb}
+use Rattle.std.specs.Prelude.{ℕ, zero, suc, ◌≤◌, ◌<◌, ◌≡◌, refl, true, List, [], ◌∷◌, ◌++◌, length, take, drop, get_or, ltb}
+use Rattle.plain.specs.Library.{lt_of_lt_of_le, arith, ltb-true, lt-ltb}
 use Rattle.std.proofs.Math.Bool.{and-eq-true_iff}
 use Rattle.plain.specs.Lists.{all}
 

@@ -1,6 +1,6 @@
 -- Laws of bits: a number and its bits at a width, the bits of bytes, and fields and rows of fields within them.
-use Rattle.plain.specs.Library.{ℕ, zero, suc, ◌+◌, ◌*◌, ◌/◌, ◌%◌, ◌^◌, ◌≤◌, ◌<◌, ◌≡◌, refl, sym, ap, ap₂, ◌∙◌, List, [], ◌∷◌, ◌++◌, append_assoc, length}
-use Rattle.plain.specs.Library.{take, drop, length-append, take_at, zero-add, lt_of_lt_of_le, arith}
+use Rattle.std.specs.Prelude.{ℕ, zero, suc, ◌+◌, ◌*◌, ◌/◌, ◌%◌, ◌^◌, ◌≤◌, ◌<◌, ◌≡◌, refl, List, [], ◌∷◌, ◌++◌, length, take, drop}
+use Rattle.plain.specs.Library.{sym, ap, ap₂, ◌∙◌, append_assoc, length-append, take_at, zero-add, lt_of_lt_of_le, arith}
 use Rattle.std.proofs.Common.{one-add, suc-add, add_comm, mod-eq_of_lt, pow-suc, length-take, drop_at, pow-add, pow_mono, shr-shr}
 use Rattle.std.proofs.lemmas.Nat.{mod-pow-add}
 use Rattle.std.proofs.Math.Pow.{mod-mod-pow, field, high, low}

@@ -1,6 +1,6 @@
 -- Laws of tests: cases on a test, equality of two tests, conjunction, and when two comparisons give the same.
-use Rattle.plain.specs.Library.{ℕ, ◌≤◌, ◌<◌, ◌≡◌, refl, sym, ◌∙◌, Bool, true, false, ◌&&◌, ◌||◌, ◌⊎◌, inl, inr, eqb, leb, ltb, ltb-true, leb-true, le-leb}
-use Rattle.plain.specs.Library.{eqb-true, eq-eqb}
+use Rattle.std.specs.Prelude.{ℕ, ◌≤◌, ◌<◌, ◌≡◌, refl, Bool, true, false, ◌&&◌, ◌||◌, ◌⊎◌, eqb, leb, ltb}
+use Rattle.plain.specs.Library.{sym, ◌∙◌, inl, inr, ltb-true, leb-true, le-leb, eqb-true, eq-eqb}
 use Rattle.std.proofs.Common.{true≢false, ltb-false}
 
 -- by cases on a test

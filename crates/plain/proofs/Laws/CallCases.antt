@@ -1,7 +1,7 @@
 -- Each call's answer, by facts on bounds, live flags and lengths: the table of document 01 and its orders of refusal. The cases of a call exclude each other and
 -- leave nothing out, so each number is given exactly in its case; a refused call leaves the store.
-use Rattle.plain.specs.Library.{ℕ, zero, suc, ◌*◌, ◌%◌, ◌≤◌, ◌<◌, ◌≡◌, refl, sym, ap, ◌∙◌, Bool, false, ◌⊎◌, inl, inr, ⊎_elim, Option, none, some, List}
-use Rattle.plain.specs.Library.{[], ◌∷◌, map, length, get_or, length-map, get_or-map, arith, eq-eqb, ne_eqb, le-leb, lt-leb, lt-ltb, le-ltb}
+use Rattle.std.specs.Prelude.{ℕ, zero, suc, ◌*◌, ◌%◌, ◌≤◌, ◌<◌, ◌≡◌, refl, Bool, false, ◌⊎◌, List, [], ◌∷◌, map, length, get_or}
+use Rattle.plain.specs.Library.{sym, ap, ◌∙◌, inl, inr, ⊎_elim, Option, none, some, length-map, get_or-map, arith, eq-eqb, ne_eqb, le-leb, lt-leb, lt-ltb, le-ltb}
 use Rattle.std.proofs.Math.ListN.{get_elem?}
 use Rattle.plain.specs.declared.TraversalDirection.{TraversalDirection}
 use Rattle.plain.specs.declared.TraversalDirection.TheVariants.{Outgoing, Incoming}

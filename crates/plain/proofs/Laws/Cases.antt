@@ -1,7 +1,7 @@
 -- The table of document 01 as cases: what each operation comes to, by facts on bounds and live flags and in document 01's order. `case_of` and `comes_to` say
 -- that `step` gives each outcome exactly in its case; so a definition that refused too much or too little would fail them.
-use Rattle.plain.specs.Library.{ℕ, zero, suc, ◌≤◌, ◌<◌, ◌≡◌, refl, sym, ap, subst, ◌∙◌, Bool, true, false, ⊎_elim, none, some, List, [], ◌∷◌, map, length}
-use Rattle.plain.specs.Library.{get_or, length-map, eqb, arith, eq-eqb, ne_eqb, eqb-true, eqb-false, le-leb, lt-leb}
+use Rattle.std.specs.Prelude.{ℕ, zero, suc, ◌≤◌, ◌<◌, ◌≡◌, refl, Bool, true, false, List, [], ◌∷◌, map, length, get_or, eqb}
+use Rattle.plain.specs.Library.{sym, ap, subst, ◌∙◌, ⊎_elim, none, some, length-map, arith, eq-eqb, ne_eqb, eqb-true, eqb-false, le-leb, lt-leb}
 use Rattle.std.proofs.Math.Option
 use mathlib.Core.List.{nil≢cons}
 use Rattle.std.proofs.Math.ListN.{get_elem?}

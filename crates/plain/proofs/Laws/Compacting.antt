@@ -1,6 +1,6 @@
 -- Compaction: what it leaves is well formed with every slot live, and has the survivors that it had.
-use Rattle.plain.specs.Library.{ℕ, ◌≤◌, ◌<◌, ◌^◌, ◌≡◌, refl, sym, ap, ap₂, ◌∙◌, subst, subst₂, Bool, true, false, List, [], map, map-map, length, get_or}
-use Rattle.plain.specs.Library.{replicate, length-map, length-replicate, get_or-map, eqb, arith, eqb-true, eq-eqb, ltb-true, lt-ltb}
+use Rattle.std.specs.Prelude.{ℕ, ◌≤◌, ◌<◌, ◌^◌, ◌≡◌, refl, Bool, true, false, List, [], map, length, get_or, replicate, eqb}
+use Rattle.plain.specs.Library.{sym, ap, ap₂, ◌∙◌, subst, subst₂, map-map, length-map, length-replicate, get_or-map, arith, eqb-true, eq-eqb, ltb-true, lt-ltb}
 use Rattle.std.proofs.Math.Path.{fun_ext}
 use Rattle.std.proofs.Common.{map-id}
 use Rattle.plain.specs.declared.TraversalDirection.{TraversalDirection}

@@ -1,6 +1,6 @@
 -- The compact flag: where it is set, every slot is live. So the image of a compact store, read, gives its lists back.
-use Rattle.plain.specs.Library.{ℕ, ◌*◌, ◌%◌, ◌≡◌, refl, sym, ap, ◌∙◌, true, Option, none, some, List, [], ◌∷◌, length, get_or, replicate, length-set, eqb}
-use Rattle.plain.specs.Library.{ltb}
+use Rattle.std.specs.Prelude.{ℕ, ◌*◌, ◌%◌, ◌≡◌, refl, true, List, [], ◌∷◌, length, get_or, replicate, eqb, ltb}
+use Rattle.plain.specs.Library.{sym, ap, ◌∙◌, Option, none, some, length-set}
 use Rattle.std.proofs.lemmas.Bool.{false≢true}
 use Rattle.std.proofs.Math.Seq.{map-set_same}
 use Rattle.plain.specs.declared.EdgePayload.{EdgePayload}

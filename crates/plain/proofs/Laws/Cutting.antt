@@ -1,6 +1,6 @@
 -- Lists of lists: joined into one, and cut out of it again by their lengths. And the lengths that a list of ends asks for: as many as there are ends.
-use Rattle.plain.specs.Library.{ℕ, zero, suc, ◌+◌, ◌≤◌, ◌<◌, ◌≡◌, refl, ap, ap₂, ◌∙◌, cond, ⊎_elim, List, [], ◌∷◌, ◌++◌, map, length, take, drop}
-use Rattle.plain.specs.Library.{length-append, length-drop, eqb, zero-add, arith, eq-eqb, ne_eqb}
+use Rattle.std.specs.Prelude.{ℕ, zero, suc, ◌+◌, ◌≤◌, ◌<◌, ◌≡◌, refl, cond, List, [], ◌∷◌, ◌++◌, map, length, take, drop, eqb}
+use Rattle.plain.specs.Library.{ap, ap₂, ◌∙◌, ⊎_elim, length-append, length-drop, zero-add, arith, eq-eqb, ne_eqb}
 use Rattle.std.proofs.Common.{eq-or-lt_of_le, take-append-drop, length-take-le}
 use Rattle.std.proofs.Math.Seq.{take-append_seam, drop-append_seam}
 use Rattle.plain.specs.Lists.{sum, joined, count, from}

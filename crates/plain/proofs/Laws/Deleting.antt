@@ -1,6 +1,6 @@
 -- Laws of a list after an entry is set, appended or deleted, each as one equation by cases on the index.
-use Rattle.plain.specs.Library.{ℕ, zero, suc, ◌<◌, ◌≡◌, refl, sym, ap, ◌∙◌, true, false, cond, ◌||◌, not, List, [], ◌∷◌, ◌++◌, map, length, get_or, set}
-use Rattle.plain.specs.Library.{length-set, get_or-set_same, get_or-set_other, eqb, eq-eqb, eqb-true, eqb-false, not-true}
+use Rattle.std.specs.Prelude.{ℕ, zero, suc, ◌<◌, ◌≡◌, refl, true, false, cond, ◌||◌, not, List, [], ◌∷◌, ◌++◌, map, length, get_or, set, eqb}
+use Rattle.plain.specs.Library.{sym, ap, ◌∙◌, length-set, get_or-set_same, get_or-set_other, eq-eqb, eqb-true, eqb-false, not-true}
 use Rattle.std.proofs.lemmas.Bool.{false≢true}
 use Rattle.std.proofs.Math.Dec.{eqb-zero-suc, eqb-suc-zero, eqb-suc-suc}
 use Rattle.plain.specs.Lists.{member, without, distinct, keep, append_at, delete_at, set_all}

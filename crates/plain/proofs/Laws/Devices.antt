@@ -1,5 +1,6 @@
 -- Devices: what the skid takes a box takes, both are proper, and the boxes' reading is what it was before there was a skid.
-use Rattle.plain.specs.Library.{ℕ, zero, suc, ◌≤◌, ◌<◌, ◌≡◌, refl, sym, ap, ◌∙◌, List, [], ◌∷◌, length, get_or, replicate, arith}
+use Rattle.std.specs.Prelude.{ℕ, zero, suc, ◌≤◌, ◌<◌, ◌≡◌, refl, List, [], ◌∷◌, length, get_or, replicate}
+use Rattle.plain.specs.Library.{sym, ap, ◌∙◌, arith}
 use Rattle.plain.specs.declared.Answer.{Answer}
 use Rattle.plain.specs.Lists.{member, distinct, from, all, count, joined}
 use Rattle.plain.specs.Plain.{no_payload}

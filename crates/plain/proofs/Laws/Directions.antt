@@ -1,6 +1,6 @@
 -- Each operation's change to one direction keeps the direction well formed: `Incident`.
-use Rattle.plain.specs.Library.{ℕ, ◌+◌, ◌≤◌, ◌<◌, ◌≡◌, refl, sym, ◌∙◌, Bool, true, false, cond, ◌&&◌, List, [], ◌∷◌, ◌++◌, length, get_or, set, length-set}
-use Rattle.plain.specs.Library.{length-append, get_or-eq_default, eqb, arith, eq-eqb, eqb-true, eqb-false}
+use Rattle.std.specs.Prelude.{ℕ, ◌+◌, ◌≤◌, ◌<◌, ◌≡◌, refl, Bool, true, false, cond, ◌&&◌, List, [], ◌∷◌, ◌++◌, length, get_or, set, eqb}
+use Rattle.plain.specs.Library.{sym, ◌∙◌, length-set, length-append, get_or-eq_default, arith, eq-eqb, eqb-true, eqb-false}
 use Rattle.std.proofs.Common.{le_refl}
 use Rattle.plain.specs.Lists.{member, without, distinct, append_at, delete_at}
 use Rattle.plain.specs.Plain.{Incidence, widened, attached, detached, redirected, moved}

@@ -1,6 +1,7 @@
 -- The found edge: a live edge from the one node to the other, and NONE only where there is none. So what finding gives is what it was allowed to give before
 -- request 1, when any such edge would do.
-use Rattle.plain.specs.Library.{ℕ, ◌≡◌, refl, sym, ap, ◌∙◌, Bool, true, false, ◌&&◌, List, [], ◌∷◌, get_or, eqb, eq-eqb}
+use Rattle.std.specs.Prelude.{ℕ, ◌≡◌, refl, Bool, true, false, ◌&&◌, List, [], ◌∷◌, get_or, eqb}
+use Rattle.plain.specs.Library.{sym, ap, ◌∙◌, eq-eqb}
 use Rattle.plain.specs.declared.TraversalDirection.TheVariants.{Outgoing, Incoming}
 use Rattle.plain.specs.Numbers.{NONE}
 use Rattle.plain.specs.Lists.{member, keep}

@@ -1,7 +1,6 @@
 -- One direction whose edges are all live: to be well formed (`Incident`) and to have an image (`Fitted`) are the same.
-use Rattle.plain.specs.Library.{ℕ, zero, suc, ◌+◌, ◌<◌, ◌≡◌, refl, sym, ap, ap₂, ◌∙◌, subst, Bool, true, false, ◌&&◌, List, [], ◌∷◌, map, map-map, length}
-use Rattle.plain.specs.Library.{get_or, replicate, length-map, length-replicate, get_or-map, eqb, ltb, zero-add, arith, eqb-true, eq-eqb, ltb-true}
-use Rattle.plain.specs.Library.{lt-ltb}
+use Rattle.std.specs.Prelude.{ℕ, zero, suc, ◌+◌, ◌<◌, ◌≡◌, refl, Bool, true, false, ◌&&◌, List, [], ◌∷◌, map, length, get_or, replicate, eqb, ltb}
+use Rattle.plain.specs.Library.{sym, ap, ap₂, ◌∙◌, subst, map-map, length-map, length-replicate, get_or-map, zero-add, arith, eqb-true, eq-eqb, ltb-true, lt-ltb}
 use Rattle.plain.specs.Lists.{member, distinct, from, keep, all, count, joined}
 use Rattle.plain.specs.Plain.{Incidence}
 use Rattle.plain.specs.Image.{list_lengths, at_their_nodes, lists_right}

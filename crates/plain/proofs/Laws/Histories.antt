@@ -1,7 +1,7 @@
 -- Whole histories on the definitions: they keep the lists well formed, what is refused leaves the store, and what the closing calls answer. Demand 3 itself is
 -- the theorem of crate histories.
-use Rattle.plain.specs.Library.{ℕ, zero, suc, ◌*◌, ◌%◌, ◌≤◌, ◌<◌, ◌≡◌, refl, sym, ap, ◌∙◌, true, cond, ◌⊎◌, inl, inr, ⊎_elim, Option, none, some, List}
-use Rattle.plain.specs.Library.{[], ◌∷◌, length, eqb, ltb, arith, ne_eqb}
+use Rattle.std.specs.Prelude.{ℕ, zero, suc, ◌*◌, ◌%◌, ◌≤◌, ◌<◌, ◌≡◌, refl, true, cond, ◌⊎◌, List, [], ◌∷◌, length, eqb, ltb}
+use Rattle.plain.specs.Library.{sym, ap, ◌∙◌, inl, inr, ⊎_elim, Option, none, some, arith, ne_eqb}
 use Rattle.plain.specs.declared.Answer.{Answer}
 use Rattle.plain.specs.Numbers.{NONE}
 use Rattle.plain.specs.Operations.{operation_words, operations}

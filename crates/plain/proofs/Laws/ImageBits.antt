@@ -1,5 +1,6 @@
 -- The parts of an image's bits: where each stands in bytes, that it is read back from there, and that what is read there has those bits.
-use Rattle.plain.specs.Library.{ℕ, zero, suc, ◌+◌, ◌*◌, ◌^◌, ◌≤◌, ◌≡◌, refl, ap, ◌∙◌, List, [], ◌∷◌, ◌++◌, map, length, length-append, arith}
+use Rattle.std.specs.Prelude.{ℕ, zero, suc, ◌+◌, ◌*◌, ◌^◌, ◌≤◌, ◌≡◌, refl, List, [], ◌∷◌, ◌++◌, map, length}
+use Rattle.plain.specs.Library.{ap, ◌∙◌, length-append, arith}
 use Rattle.plain.specs.declared.EdgePayload.{EdgePayload}
 use Rattle.plain.specs.Lists.{joined}
 use Rattle.plain.specs.Compaction.{EdgeRecord, Survivors, source_of, target_of}

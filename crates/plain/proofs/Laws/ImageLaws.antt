@@ -1,6 +1,6 @@
 -- The image: its length, that it is bytes, that reading what was written gives the survivors back, and that whatever is read was written.
-use Rattle.plain.specs.Library.{ℕ, ◌+◌, ◌-◌, ◌*◌, ◌^◌, ◌<◌, ◌≡◌, sym, ap, ap₂, ◌∙◌, true, ◌&&◌, ⊎_elim, List, ◌++◌, map, length, get_or, length-append}
-use Rattle.plain.specs.Library.{length-map, get_or-map, get_or-eq_default, ltb, pow_pos, zero-add, arith}
+use Rattle.std.specs.Prelude.{ℕ, ◌+◌, ◌-◌, ◌*◌, ◌^◌, ◌<◌, ◌≡◌, true, ◌&&◌, List, ◌++◌, map, length, get_or, ltb}
+use Rattle.plain.specs.Library.{sym, ap, ap₂, ◌∙◌, ⊎_elim, length-append, length-map, get_or-map, get_or-eq_default, pow_pos, zero-add, arith}
 use Rattle.std.proofs.Math.Bool.{and-eq-true_iff}
 use Rattle.std.proofs.Common.{lit<}
 use Rattle.plain.specs.Lists.{sum, joined, all, distinct}

@@ -1,8 +1,7 @@
 -- Laws of joining: the result is well formed, its lists are the renumbered lists of both, what the maps give, that joining is associative on survivors, and that an empty
 -- book adds nothing to what compaction leaves.
-use Rattle.plain.specs.Library.{ℕ, zero, suc, ◌+◌, ◌-◌, ◌≤◌, ◌<◌, ◌^◌, ◌≡◌, refl, sym, ap, ap₂, ◌∙◌, subst, Bool, true, false, cond, ◌&&◌, ⊎_elim}
-use Rattle.plain.specs.Library.{List, [], ◌∷◌, ◌++◌, map, map-map, append_assoc, append-nil, length, get_or, replicate, length-append, length-map}
-use Rattle.plain.specs.Library.{length-replicate, get_or-append, get_or-map, eqb, zero-add, arith, ne_eqb, lt-ltb, le-ltb}
+use Rattle.std.specs.Prelude.{ℕ, zero, suc, ◌+◌, ◌-◌, ◌≤◌, ◌<◌, ◌^◌, ◌≡◌, refl, Bool, true, false, cond, ◌&&◌, List, [], ◌∷◌, ◌++◌, map, length, get_or, replicate, eqb}
+use Rattle.plain.specs.Library.{sym, ap, ap₂, ◌∙◌, subst, ⊎_elim, map-map, append_assoc, append-nil, length-append, length-map, length-replicate, get_or-append, get_or-map, zero-add, arith, ne_eqb, lt-ltb, le-ltb}
 use Rattle.std.proofs.lemmas.List.{map-append}
 use Rattle.std.proofs.Common.{add_assoc, get_or-append-add}
 use Rattle.plain.specs.declared.TraversalDirection.{TraversalDirection}

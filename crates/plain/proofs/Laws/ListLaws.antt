@@ -1,8 +1,7 @@
 -- General laws of the functions on lists that the definitions use: elements, members, filters and counts, lists without repeats and the pigeonhole,
 -- consecutive numbers, lists of lists.
-use Rattle.plain.specs.Library.{ℕ, zero, suc, ◌+◌, ◌≤◌, ◌<◌, ◌≡◌, refl, sym, ap, ap₂, ◌∙◌, subst, Bool, true, false, cond, ◌&&◌, ◌||◌, not, List, [], ◌∷◌}
-use Rattle.plain.specs.Library.{◌++◌, map, map-map, length, get_or, replicate, eqb, leb, ltb, arith, eqb-true, eqb-false, eq-eqb, ne_eqb, leb-true, le-leb}
-use Rattle.plain.specs.Library.{lt-leb, lt-ltb, ltb-true, not-true}
+use Rattle.std.specs.Prelude.{ℕ, zero, suc, ◌+◌, ◌≤◌, ◌<◌, ◌≡◌, refl, Bool, true, false, cond, ◌&&◌, ◌||◌, not, List, [], ◌∷◌, ◌++◌, map, length, get_or, replicate, eqb, leb, ltb}
+use Rattle.plain.specs.Library.{sym, ap, ap₂, ◌∙◌, subst, map-map, arith, eqb-true, eqb-false, eq-eqb, ne_eqb, leb-true, le-leb, lt-leb, lt-ltb, ltb-true, not-true}
 use Prim.Native.Nat.{zero-le, suc-le-suc}
 use Rattle.std.proofs.Common.{not-suc-le-zero, le_of_suc-le-suc, map-id}
 use Rattle.std.proofs.Math.Bool.{or_assoc, or-true, and-true, and-false}

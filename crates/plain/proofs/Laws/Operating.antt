@@ -1,6 +1,6 @@
 -- Every operation keeps the plain lists well formed.
-use Rattle.plain.specs.Library.{ℕ, ◌+◌, ◌<◌, ◌^◌, ◌≡◌, refl, sym, ap, subst, ◌∙◌, Bool, true, false, ◌&&◌, not, List, [], ◌∷◌, ◌++◌, map, length, get_or}
-use Rattle.plain.specs.Library.{set, length-set, length-append, length-map, eqb, arith, eq-eqb, ne_eqb, eqb-true, not-true}
+use Rattle.std.specs.Prelude.{ℕ, ◌+◌, ◌<◌, ◌^◌, ◌≡◌, refl, Bool, true, false, ◌&&◌, not, List, [], ◌∷◌, ◌++◌, map, length, get_or, set, eqb}
+use Rattle.plain.specs.Library.{sym, ap, subst, ◌∙◌, length-set, length-append, length-map, arith, eq-eqb, ne_eqb, eqb-true, not-true}
 use Rattle.std.proofs.lemmas.Bool.{false≢true}
 use Rattle.std.proofs.Math.Seq.{map-set_same}
 use Rattle.std.proofs.Common.{lit<}

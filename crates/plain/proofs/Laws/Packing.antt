@@ -1,6 +1,6 @@
 -- Laws of packing: where bits stand in bytes, what is packed is read back, and bytes are packed from their bits.
-use Rattle.plain.specs.Library.{ℕ, zero, suc, ◌+◌, ◌-◌, ◌*◌, ◌/◌, ◌^◌, ◌≤◌, ◌<◌, ◌≡◌, refl, sym, ap, ap₂, ◌∙◌, List, [], ◌∷◌, ◌++◌, length, take, drop}
-use Rattle.plain.specs.Library.{replicate, length-append, length-drop, length-replicate, take_at, zero-add, arith}
+use Rattle.std.specs.Prelude.{ℕ, zero, suc, ◌+◌, ◌-◌, ◌*◌, ◌/◌, ◌^◌, ◌≤◌, ◌<◌, ◌≡◌, refl, List, [], ◌∷◌, ◌++◌, length, take, drop, replicate}
+use Rattle.plain.specs.Library.{sym, ap, ap₂, ◌∙◌, length-append, length-drop, length-replicate, take_at, zero-add, arith}
 use Rattle.std.proofs.Common.{suc-add, mod-eq_of_lt, length-take, take-add, take-take, take_all, drop-drop}
 use Rattle.std.proofs.Math.Nat.{zero-div}
 use Rattle.std.proofs.Math.Seq.{take-length, take-nil, take-append_seam, take-append-add, drop-append_seam}

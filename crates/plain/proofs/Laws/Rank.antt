@@ -1,6 +1,6 @@
 -- Laws of `rank`, the number that a slot gets, and of the live slots in slot order.
-use Rattle.plain.specs.Library.{ℕ, zero, suc, ◌+◌, ◌≤◌, ◌<◌, ◌≡◌, refl, sym, ap, ◌∙◌, subst, Bool, true, false, cond, ◌&&◌, List, [], ◌∷◌, ◌++◌, map}
-use Rattle.plain.specs.Library.{map-map, length, get_or, set, take, replicate, length-set, get_or-map, ltb, zero-add, arith, ltb-true, lt-ltb}
+use Rattle.std.specs.Prelude.{ℕ, zero, suc, ◌+◌, ◌≤◌, ◌<◌, ◌≡◌, refl, Bool, true, false, cond, ◌&&◌, List, [], ◌∷◌, ◌++◌, map, length, get_or, set, take, replicate, ltb}
+use Rattle.plain.specs.Library.{sym, ap, ◌∙◌, subst, map-map, length-set, get_or-map, zero-add, arith, ltb-true, lt-ltb}
 use Rattle.std.proofs.Common.{zero-le, suc-le-suc, not-suc-le-zero, le_of_suc-le-suc, one-add, ltb-false}
 use Rattle.std.proofs.Math.Nat.{suc_inj}
 use Rattle.std.proofs.Math.Path.{fun_ext}

@@ -1,7 +1,6 @@
 -- The six rules that refuse an image: what each says, that an image is refused by the first one broken, and examples of each.
-use Rattle.plain.specs.Library.{ℕ, ◌-◌, ◌*◌, ◌≤◌, ◌<◌, ◌≡◌, refl, ap, Bool, true, false, cond, not, ◌&&◌, ◌||◌, ◌⊎◌, ⊎_elim, List, [], ◌∷◌, map, length}
-use Rattle.plain.specs.Library.{get_or, length-map, get_or-map, eqb, ltb, leb, arith, ltb-true, lt-ltb, le-ltb, le-leb, leb-true, eqb-true, eq-eqb}
-use Rattle.plain.specs.Library.{ne_eqb, not-false}
+use Rattle.std.specs.Prelude.{ℕ, ◌-◌, ◌*◌, ◌≤◌, ◌<◌, ◌≡◌, refl, Bool, true, false, cond, not, ◌&&◌, ◌||◌, ◌⊎◌, List, [], ◌∷◌, map, length, get_or, eqb, ltb, leb}
+use Rattle.plain.specs.Library.{ap, ⊎_elim, length-map, get_or-map, arith, ltb-true, lt-ltb, le-ltb, le-leb, leb-true, eqb-true, eq-eqb, ne_eqb, not-false}
 use Rattle.std.proofs.Common.{true≢false}
 use Rattle.std.proofs.Math.Bool.{and-eq-true_iff, and-false, or-true}
 use borrow.Author.Tests.{ltb-false}

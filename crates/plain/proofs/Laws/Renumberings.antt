@@ -1,6 +1,6 @@
 -- Laws of the map of a compaction: its entries, where it is an identity map, and the maps of two compactions composed.
-use Rattle.plain.specs.Library.{ℕ, zero, suc, ◌+◌, ◌≤◌, ◌≡◌, refl, sym, ap, ap₂, ◌∙◌, Bool, true, false, cond, ◌&&◌, List, [], ◌∷◌, map, length, get_or}
-use Rattle.plain.specs.Library.{replicate, length-map, get_or-map, ext_get_or, eqb, zero-add, arith, ne_eqb}
+use Rattle.std.specs.Prelude.{ℕ, zero, suc, ◌+◌, ◌≤◌, ◌≡◌, refl, Bool, true, false, cond, ◌&&◌, List, [], ◌∷◌, map, length, get_or, replicate, eqb}
+use Rattle.plain.specs.Library.{sym, ap, ap₂, ◌∙◌, length-map, get_or-map, ext_get_or, zero-add, arith, ne_eqb}
 use Rattle.std.proofs.Common.{one-add}
 use Rattle.plain.specs.Numbers.{NONE}
 use Rattle.plain.specs.Lists.{from}

@@ -1,5 +1,6 @@
 -- A step and a strip: they keep the lists well formed, and what is refused changes nothing.
-use Rattle.plain.specs.Library.{ℕ, zero, suc, ◌<◌, ◌^◌, ◌≡◌, refl, Bool, true, false, cond, ◌&&◌, Option, none, some, List, [], ◌∷◌, get_or, eqb}
+use Rattle.std.specs.Prelude.{ℕ, zero, suc, ◌<◌, ◌^◌, ◌≡◌, refl, Bool, true, false, cond, ◌&&◌, List, [], ◌∷◌, get_or, eqb}
+use Rattle.plain.specs.Library.{Option, none, some}
 use Rattle.plain.specs.declared.TraversalDirection.{TraversalDirection}
 use Rattle.plain.specs.declared.EdgePayload.{EdgePayload}
 use Rattle.plain.specs.declared.Operation.{Operation}

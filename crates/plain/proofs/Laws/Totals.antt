@@ -1,5 +1,6 @@
 -- Totals: "as a low and a high sum, each exact in 64 bits: every choice of weights within the ranges sums to between them, and both ends are reached".
-use Rattle.plain.specs.Library.{ℕ, ◌*◌, ◌^◌, ◌≤◌, ◌<◌, ◌≡◌, refl, sym, ◌∙◌, false, List, [], ◌∷◌, map, length, get_or, eqb, arith, lt-ltb}
+use Rattle.std.specs.Prelude.{ℕ, ◌*◌, ◌^◌, ◌≤◌, ◌<◌, ◌≡◌, refl, false, List, [], ◌∷◌, map, length, get_or, eqb}
+use Rattle.plain.specs.Library.{sym, ◌∙◌, arith, lt-ltb}
 use Rattle.plain.specs.declared.TraversalDirection.{TraversalDirection}
 use Rattle.plain.specs.declared.EdgePayload.{EdgePayload}
 use Rattle.plain.specs.declared.Total.{Total}

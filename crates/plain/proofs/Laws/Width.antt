@@ -1,5 +1,6 @@
 -- Laws of the least width: it holds every number below n, and no lesser one does.
-use Rattle.plain.specs.Library.{ℕ, zero, suc, ◌+◌, ◌-◌, ◌^◌, ◌≤◌, ◌<◌, ◌≡◌, ⊎_elim, ltb, pow_pos, arith, ltb-true}
+use Rattle.std.specs.Prelude.{ℕ, zero, suc, ◌+◌, ◌-◌, ◌^◌, ◌≤◌, ◌<◌, ◌≡◌, ltb}
+use Rattle.plain.specs.Library.{⊎_elim, pow_pos, arith, ltb-true}
 use Rattle.std.proofs.Common.{add-zero, eq-or-lt_of_le, ltb-false}
 use Rattle.plain.specs.Bits.{least_from, least_width}
 use Rattle.plain.proofs.Laws.Booleans.{by_test}

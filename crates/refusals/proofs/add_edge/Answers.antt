@@ -1,5 +1,5 @@
 -- `refusals::add_edge` meets its contract: the fault of the payload, those of source and target, then the room, then the store's addition.
-use Rattle.plain.specs.Library.{◌≤◌}
+use Rattle.std.specs.Prelude.{◌≤◌}
 use Rattle.refusals.proofs.Told.{told_live, told_in_order}
 use Rattle.refusals.proofs.Additions.{edge_inverted, source_fault, target_fault, edge_full, edge_added}
 use Rattle.refusals.proofs.add_edge.Goals.{After-fault-from}

@@ -1,5 +1,6 @@
 -- `refusals::move_adjacency` meets its contract: the tests in document 01's order, then the store's move.
-use Rattle.plain.specs.Library.{sym, ap, ◌∙◌, length}
+use Rattle.std.specs.Prelude.{length}
+use Rattle.plain.specs.Library.{sym, ap, ◌∙◌}
 use Rattle.plain.proofs.Laws.ListLaws.{no_entries}
 use Rattle.refusals.proofs.Told.{told_live}
 use Rattle.refusals.proofs.Relocations.{onto_itself, old_absent, nothing_moved, new_fault, old_live, edges_moved}

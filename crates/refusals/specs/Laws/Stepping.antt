@@ -1,5 +1,6 @@
 -- The two ways that an operation ends: it leaves every word, or the store's function has done it.
-use Rattle.plain.specs.Library.{◌≡◌, refl, sym, ap, ◌∙◌, Bool, true, false, cond}
+use Rattle.std.specs.Prelude.{◌≡◌, refl, Bool, true, false, cond}
+use Rattle.plain.specs.Library.{sym, ap, ◌∙◌}
 use Rattle.plain.specs.declared.Operation.{Operation}
 use Rattle.plain.specs.declared.Operation.TheVariants.{Unknown}
 use Rattle.plain.specs.Numbers.{NONE}

@@ -1,7 +1,7 @@
 -- Redirections and moves of a checked store: what the functions over one axis ask holds of every checked store, dead edges in foreign places included. A live edge
 -- in a run is in the walk of the run's node, so it ends there by rule 7; a removed node's run has no live edge.
-use Rattle.plain.specs.Library.{ℕ, zero, suc, ◌<◌, ◌≡◌, refl, sym, ap, ◌∙◌, subst, Bool, true, false, ◌≢◌, Option, none, some, List, [], ◌∷◌, length, get_or, eqb}
-use Rattle.plain.specs.Library.{arith, eqb-true}
+use Rattle.std.specs.Prelude.{ℕ, zero, suc, ◌<◌, ◌≡◌, refl, Bool, true, false, ◌≢◌, List, [], ◌∷◌, length, get_or, eqb}
+use Rattle.plain.specs.Library.{sym, ap, ◌∙◌, subst, Option, none, some, arith, eqb-true}
 use Rattle.std.proofs.Common.{not-suc-le-zero, le_of_suc-le-suc}
 use Rattle.plain.specs.declared.TraversalDirection.{TraversalDirection}
 use Rattle.plain.specs.Lists.{distinct, count}

@@ -1,6 +1,7 @@
 -- `renumbering::compose` meets its contract. The loop's invariant: the composed map is written up to `i`, and the rest is as it was.
 -- The measure is the number of slots left.
-use Rattle.plain.specs.Library.{ℕ, ◌≡◌, refl, ap, ◌∙◌, ◌++◌, length, take, drop, length-set, arith}
+use Rattle.std.specs.Prelude.{ℕ, ◌≡◌, refl, ◌++◌, length, take, drop}
+use Rattle.plain.specs.Library.{ap, ◌∙◌, length-set, arith}
 use Rattle.plain.specs.Renumbering.{composed}
 use Rattle.renumbering.proofs.Maps.{compose_turn, compose_short, compose_done}
 use Rattle.renumbering.proofs.compose.Goals as goal

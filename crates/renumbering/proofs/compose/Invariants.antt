@@ -1,6 +1,6 @@
 -- `renumbering::compose` meets its contract. The loop's invariant: the composed map is written up to `i`, and the rest is as it was.
 -- The measure is the number of slots left.
-use Rattle.plain.specs.Library.{◌-◌, ◌≤◌, ◌≡◌, ◌++◌, length, take, drop}
+use Rattle.std.specs.Prelude.{◌-◌, ◌≤◌, ◌≡◌, ◌++◌, length, take, drop}
 use Rattle.plain.specs.Renumbering.{composed}
 use Rattle.renumbering.proofs.compose.Given as goal
 

@@ -1,6 +1,6 @@
 -- `renumbering::is_identity_map` meets its contract. The loop's invariant: the whole test is the test of the slots from `i` on.
 -- The measure is the number of slots left.
-use Rattle.plain.specs.Library.{◌-◌, ◌≡◌, length}
+use Rattle.std.specs.Prelude.{◌-◌, ◌≡◌, length}
 use Rattle.plain.specs.Renumbering.{is_identity_map}
 use Rattle.renumbering.proofs.Maps.{rest_same}
 use Rattle.renumbering.proofs.is_identity_map.Given as goal

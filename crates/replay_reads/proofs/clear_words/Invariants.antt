@@ -1,5 +1,5 @@
 -- `replay_reads::clear_words` is safe and ends. The count is at most the number of words looked at; the measure is the number of words left.
-use Rattle.plain.specs.Library.{◌-◌, ◌≤◌}
+use Rattle.std.specs.Prelude.{◌-◌, ◌≤◌}
 use Rattle.replay_reads.proofs.clear_words.Given as goal
 
 abbrev pub invariant-loop-i : goal.invariant-loop-i

@@ -1,5 +1,6 @@
 -- `runs::append_live` meets its contract. The invariant is `Appending`; the measure is how many entries are left.
-use Rattle.plain.specs.Library.{◌<◌, arith}
+use Rattle.std.specs.Prelude.{◌<◌}
+use Rattle.plain.specs.Library.{arith}
 use Rattle.runs.proofs.Sweeping.{append_start, append_below, append_keep, append_more, append_end}
 use Rattle.runs.proofs.append_live.Goals.{In-loop-left}
 use Rattle.runs.proofs.append_live.Goals as goal

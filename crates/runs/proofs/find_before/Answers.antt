@@ -1,5 +1,6 @@
 -- `runs::find_before` meets its contract. The invariant is `Searching`; the measure is how many entries are left.
-use Rattle.plain.specs.Library.{◌<◌, arith}
+use Rattle.std.specs.Prelude.{◌<◌}
+use Rattle.plain.specs.Library.{arith}
 use Rattle.runs.proofs.Searching.{search_start, search_below, search_found, search_more, search_none}
 use Rattle.runs.proofs.find_before.Goals.{At-loop-left}
 use Rattle.runs.proofs.find_before.Goals as goal

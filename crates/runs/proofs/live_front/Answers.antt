@@ -1,5 +1,6 @@
 -- `runs::live_front` meets its contract. The invariant is `Scanning`; the measure is how many entries are left.
-use Rattle.plain.specs.Library.{◌<◌, sym, ◌∙◌, arith}
+use Rattle.std.specs.Prelude.{◌<◌}
+use Rattle.plain.specs.Library.{sym, ◌∙◌, arith}
 use Rattle.runs.proofs.Scanning.{scan_start, scan_below, scan_more, scan_sum, scan_dead, scan_all}
 use Rattle.runs.proofs.live_front.Goals.{In-loop-left}
 use Rattle.runs.proofs.live_front.Goals as goal

@@ -1,5 +1,6 @@
 -- `runs::push` meets its contract: the stores of its two ways are those of `push_first` and `push_more`.
-use Rattle.plain.specs.Library.{◌<◌, length-set, arith}
+use Rattle.std.specs.Prelude.{◌<◌}
+use Rattle.plain.specs.Library.{length-set, arith}
 use Rattle.shape.specs.Columns.{tail_at}
 use Rattle.runs.specs.Laws.Pushing.{push_short, push_last, push_first, push_more}
 use Rattle.runs.proofs.push.Goals.{Else-length-eq0}

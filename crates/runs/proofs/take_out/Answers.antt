@@ -1,5 +1,6 @@
 -- `runs::take_out` meets its contract, from what `find_before` and `unlink` ensure; where the entry is the first, the stores are those of `out_head`.
-use Rattle.plain.specs.Library.{◌<◌, sym, ◌∙◌, length-set, arith}
+use Rattle.std.specs.Prelude.{◌<◌}
+use Rattle.plain.specs.Library.{sym, ◌∙◌, length-set, arith}
 use Rattle.shape.specs.Columns.{first_at}
 use Rattle.runs.proofs.Unlinking.{out_empty, out_first, out_searchable, out_none, out_some, out_head}
 use Rattle.runs.proofs.take_out.Goals.{Else-length-eq0}

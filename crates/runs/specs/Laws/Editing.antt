@@ -1,6 +1,6 @@
 -- A run edited once, twice, and seen from outside: its entries, its mark, and all that is as it was.
-use Rattle.plain.specs.Library.{ℕ, ◌+◌, ◌-◌, ◌*◌, ◌≤◌, ◌<◌, ◌≡◌, refl, sym, ap, ◌∙◌, subst, ◌≢◌, inl, inr, ⊎_elim, Option, none, some, List, length, get_or, eqb}
-use Rattle.plain.specs.Library.{arith, ne_eqb, eqb-true, eqb-false}
+use Rattle.std.specs.Prelude.{ℕ, ◌+◌, ◌-◌, ◌*◌, ◌≤◌, ◌<◌, ◌≡◌, refl, ◌≢◌, List, length, get_or, eqb}
+use Rattle.plain.specs.Library.{sym, ap, ◌∙◌, subst, inl, inr, ⊎_elim, Option, none, some, arith, ne_eqb, eqb-true, eqb-false}
 use Rattle.plain.specs.declared.Counts.{Counts}
 use Rattle.plain.proofs.Laws.Booleans.{by_test, below_or_not}
 use Rattle.shape.specs.Columns.{cell, link_at, first_at, tail_at, count_at, mark_at}

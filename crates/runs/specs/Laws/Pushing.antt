@@ -1,6 +1,6 @@
 -- What appending an entry to a run does: the stores of its two ways, and the runs after them; and appending where the entry is live.
-use Rattle.plain.specs.Library.{ℕ, ◌+◌, ◌*◌, ◌≤◌, ◌<◌, ◌≡◌, sym, ◌∙◌, Bool, true, false, inl, inr, ⊎_elim, ◌≢◌, List, [], ◌∷◌, ◌++◌, append-nil, length, get_or}
-use Rattle.plain.specs.Library.{set, length-set, length-append, get_or-set_same, get_or-set_other, arith}
+use Rattle.std.specs.Prelude.{ℕ, ◌+◌, ◌*◌, ◌≤◌, ◌<◌, ◌≡◌, Bool, true, false, ◌≢◌, List, [], ◌∷◌, ◌++◌, length, get_or, set}
+use Rattle.plain.specs.Library.{sym, ◌∙◌, inl, inr, ⊎_elim, append-nil, length-set, length-append, get_or-set_same, get_or-set_other, arith}
 use Rattle.std.proofs.Common.{zero-le}
 use Rattle.plain.specs.declared.Counts.{Counts}
 use Rattle.plain.specs.Lists.{member, keep}

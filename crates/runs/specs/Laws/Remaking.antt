@@ -1,5 +1,6 @@
 -- A node's list remade as a run: what the run holds, and that every other node has what it had.
-use Rattle.plain.specs.Library.{ℕ, ◌+◌, ◌*◌, ◌≤◌, ◌<◌, ◌≡◌, refl, ap, ◌∙◌, ◌≢◌, some, List, [], get_or, eqb, arith, eqb-true, eqb-false}
+use Rattle.std.specs.Prelude.{ℕ, ◌+◌, ◌*◌, ◌≤◌, ◌<◌, ◌≡◌, refl, ◌≢◌, List, [], get_or, eqb}
+use Rattle.plain.specs.Library.{ap, ◌∙◌, some, arith, eqb-true, eqb-false}
 use Rattle.std.proofs.Common.{le_trans}
 use Rattle.plain.specs.declared.Counts.{Counts}
 use Rattle.plain.proofs.Laws.Booleans.{by_test}

@@ -1,5 +1,6 @@
 -- Laws of a run by its words: the entries of a node with a mark, and of one with none; and that a live edge is below the bound.
-use Rattle.plain.specs.Library.{ℕ, ◌<◌, ◌≡◌, true, ◌≢◌, Option, none, some, List, [], eqb, ne_eqb, eqb-true, eqb-false}
+use Rattle.std.specs.Prelude.{ℕ, ◌<◌, ◌≡◌, true, ◌≢◌, List, [], eqb}
+use Rattle.plain.specs.Library.{Option, none, some, ne_eqb, eqb-true, eqb-false}
 use Rattle.plain.specs.declared.Counts.{Counts}
 use Rattle.plain.proofs.Laws.Booleans.{by_test}
 use Rattle.shape.specs.Columns.{mark_at}

@@ -1,8 +1,7 @@
 -- What the shape fixes of the words: two checked stores with equal lengths, one shape and equal marks have equal counts and an equal word at each field. So of the
 -- outcomes of a call whose contract gives the shape and the marks, only what is no field is left to the program.
-use Rattle.plain.specs.Library.{ℕ, zero, suc, ◌+◌, ◌-◌, ◌*◌, ◌^◌, ◌≤◌, ◌<◌, ◌≡◌, refl, sym, ap, ap₂, ◌∙◌, subst, subst₂, Bool, ◌⊎◌, inl, inr, ⊎_elim, ◌≢◌}
-use Rattle.plain.specs.Library.{Option, none, some, List, [], ◌∷◌, ◌++◌, length, get_or, length-map, length-append, eqb, zero-add, arith, ne_eqb, eqb-true}
-use Rattle.plain.specs.Library.{eqb-false, lt-ltb}
+use Rattle.std.specs.Prelude.{ℕ, zero, suc, ◌+◌, ◌-◌, ◌*◌, ◌^◌, ◌≤◌, ◌<◌, ◌≡◌, refl, Bool, ◌⊎◌, ◌≢◌, List, [], ◌∷◌, ◌++◌, length, get_or, eqb}
+use Rattle.plain.specs.Library.{sym, ap, ap₂, ◌∙◌, subst, subst₂, inl, inr, ⊎_elim, Option, none, some, length-map, length-append, zero-add, arith, ne_eqb, eqb-true, eqb-false, lt-ltb}
 use Rattle.plain.specs.declared.TraversalDirection.{TraversalDirection}
 use Rattle.plain.specs.declared.Slots.{Slots}
 use Rattle.plain.specs.declared.Counts.{Counts}

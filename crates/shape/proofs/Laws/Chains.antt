@@ -1,7 +1,7 @@
 -- Laws of linked lists. The relations `Line`, `Run` and `Ring` determine the list: `chain` and `ring` give it. A list depends only on the links of its own
 -- entries, so it stays where other links change; and it grows at its end by one entry.
-use Rattle.plain.specs.Library.{ℕ, zero, suc, ◌+◌, ◌-◌, ◌≤◌, ◌<◌, ◌≡◌, refl, sym, ap, ◌∙◌, subst, true, false, cond, ◌⊎◌, inl, inr, ⊎_elim, ◌≢◌, List, [], ◌∷◌}
-use Rattle.plain.specs.Library.{◌++◌, length, length-append, eqb, lt_of_lt_of_le, arith, eq-eqb, ne_eqb, eqb-true, eqb-false, le-leb, lt-ltb}
+use Rattle.std.specs.Prelude.{ℕ, zero, suc, ◌+◌, ◌-◌, ◌≤◌, ◌<◌, ◌≡◌, refl, true, false, cond, ◌⊎◌, ◌≢◌, List, [], ◌∷◌, ◌++◌, length, eqb}
+use Rattle.plain.specs.Library.{sym, ap, ◌∙◌, subst, inl, inr, ⊎_elim, length-append, lt_of_lt_of_le, arith, eq-eqb, ne_eqb, eqb-true, eqb-false, le-leb, lt-ltb}
 use Rattle.std.proofs.Common.{zero-le, not-suc-le-zero, le_of_suc-le-suc, le_trans, le_refl, sub-one}
 use Rattle.plain.specs.Numbers.{NONE, LIMIT}
 use Rattle.plain.specs.Lists.{member, distinct, from}

@@ -1,5 +1,6 @@
 -- The shape of a checked store is proper: its entries are edges of the store, and its walks are well formed. So every operation on it is document 01's.
-use Rattle.plain.specs.Library.{ℕ, ◌+◌, ◌-◌, ◌≤◌, ◌<◌, sym, ap, ◌∙◌, ⊎_elim, List, length, get_or-eq_default, eqb, leb, ltb, arith, ltb-true}
+use Rattle.std.specs.Prelude.{ℕ, ◌+◌, ◌-◌, ◌≤◌, ◌<◌, List, length, eqb, leb, ltb}
+use Rattle.plain.specs.Library.{sym, ap, ◌∙◌, ⊎_elim, get_or-eq_default, arith, ltb-true}
 use Rattle.plain.specs.declared.TraversalDirection.{TraversalDirection}
 use Rattle.plain.specs.declared.Counts.{Counts}
 use Rattle.plain.specs.Lists.{member, from}

@@ -1,7 +1,6 @@
 -- The tests of the check and what they mean: `broken` is 0 exactly where the words are a checked store.
-use Rattle.plain.specs.Library.{ℕ, zero, suc, ◌*◌, ◌-◌, ◌≤◌, ◌<◌, ◌≡◌, refl, sym, ap, subst, ◌∙◌, Bool, true, false, ◌&&◌, ◌||◌, not, inl, inr, ⊎_elim, List}
-use Rattle.plain.specs.Library.{[], ◌∷◌, ◌++◌, map, length, get_or, length-append, length-map, get_or-eq_default, eqb, leb, ltb, zero-add, arith, eq-eqb}
-use Rattle.plain.specs.Library.{ne_eqb, eqb-true, eqb-false, leb-true, le-leb, ltb-true, lt-ltb, not-true}
+use Rattle.std.specs.Prelude.{ℕ, zero, suc, ◌*◌, ◌-◌, ◌≤◌, ◌<◌, ◌≡◌, refl, Bool, true, false, ◌&&◌, ◌||◌, not, List, [], ◌∷◌, ◌++◌, map, length, get_or, eqb, leb, ltb}
+use Rattle.plain.specs.Library.{sym, ap, subst, ◌∙◌, inl, inr, ⊎_elim, length-append, length-map, get_or-eq_default, zero-add, arith, eq-eqb, ne_eqb, eqb-true, eqb-false, leb-true, le-leb, ltb-true, lt-ltb, not-true}
 use Rattle.std.proofs.Math.Nat.{suc_inj}
 use Rattle.plain.specs.declared.Counts.{Counts}
 use Rattle.plain.specs.declared.TraversalDirection.{TraversalDirection}

@@ -1,6 +1,6 @@
 -- Whether the shape is compact after an operation: as the compact flag beside the plain lists says.
-use Rattle.plain.specs.Library.{ℕ, zero, suc, ◌≤◌, ◌<◌, ◌≡◌, refl, sym, ap, ◌∙◌, Bool, true, false, cond, ◌&&◌, not, List, [], ◌∷◌, ◌++◌, length, get_or, set}
-use Rattle.plain.specs.Library.{length-set, length-map, length-append, get_or-set_same, eqb, arith, eq-eqb, ne_eqb}
+use Rattle.std.specs.Prelude.{ℕ, zero, suc, ◌≤◌, ◌<◌, ◌≡◌, refl, Bool, true, false, cond, ◌&&◌, not, List, [], ◌∷◌, ◌++◌, length, get_or, set, eqb}
+use Rattle.plain.specs.Library.{sym, ap, ◌∙◌, length-set, length-map, length-append, get_or-set_same, arith, eq-eqb, ne_eqb}
 use Rattle.std.proofs.Math.Seq.{map-set_same}
 use Rattle.plain.specs.declared.TraversalDirection.{TraversalDirection}
 use Rattle.plain.specs.declared.TraversalDirection.TheVariants.{Outgoing, Incoming}

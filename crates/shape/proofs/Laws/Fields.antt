@@ -1,7 +1,7 @@
 -- What is no field changes nothing that is read: a store whose fields are those of a checked one passes the check and has its shape, and so its plain lists,
 -- walks and image.
-use Rattle.plain.specs.Library.{ℕ, suc, ◌*◌, ◌/◌, ◌%◌, ◌≤◌, ◌<◌, ◌≡◌, sym, ap, ◌∙◌, subst, subst₂, Bool, true, false, inl, inr, ⊎_elim, ◌≢◌}
-use Rattle.plain.specs.Library.{List, [], ◌∷◌, ◌++◌, length, get_or, eqb, zero-add, arith, ne_eqb, eqb-true, eqb-false}
+use Rattle.std.specs.Prelude.{ℕ, suc, ◌*◌, ◌/◌, ◌%◌, ◌≤◌, ◌<◌, ◌≡◌, Bool, true, false, ◌≢◌, List, [], ◌∷◌, ◌++◌, length, get_or, eqb}
+use Rattle.plain.specs.Library.{sym, ap, ◌∙◌, subst, subst₂, inl, inr, ⊎_elim, zero-add, arith, ne_eqb, eqb-true, eqb-false}
 use Rattle.std.proofs.Common.{le_trans}
 use Rattle.plain.specs.declared.TraversalDirection.{TraversalDirection}
 use Rattle.plain.specs.declared.TraversalDirection.TheVariants.{Outgoing, Incoming}

@@ -1,8 +1,8 @@
 -- Which words the definitions of the shape read. Of two lists of words ws and vs, each law asks that they agree at the cells that a definition reads of ws, and
 -- gives that its values are equal; and where a rule of the check holds of ws, it holds of vs. A caller shows the cells equal from what it knows of the words
 -- by ranges of indices: the column, and `omega` for the place.
-use Rattle.plain.specs.Library.{ℕ, zero, suc, ◌+◌, ◌-◌, ◌*◌, ◌≤◌, ◌<◌, ◌≡◌, refl, sym, ◌∙◌, true, cond, ◌&&◌, ◌⊎◌, inl, inr, ⊎_elim, ◌≢◌, none, List, [], get_or}
-use Rattle.plain.specs.Library.{eqb, ltb, leb, arith, ltb-true, leb-true, eq-eqb, ne_eqb, eqb-true, eqb-false}
+use Rattle.std.specs.Prelude.{ℕ, zero, suc, ◌+◌, ◌-◌, ◌*◌, ◌≤◌, ◌<◌, ◌≡◌, refl, true, cond, ◌&&◌, ◌⊎◌, ◌≢◌, List, [], get_or, eqb, ltb, leb}
+use Rattle.plain.specs.Library.{sym, ◌∙◌, inl, inr, ⊎_elim, none, arith, ltb-true, leb-true, eq-eqb, ne_eqb, eqb-true, eqb-false}
 use Rattle.std.proofs.Common.{le_trans, le_refl}
 use Rattle.plain.specs.Numbers.{NONE, LIMIT}
 use Rattle.plain.specs.Lists.{from}

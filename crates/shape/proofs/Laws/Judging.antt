@@ -1,6 +1,6 @@
 -- `broken` is 0 exactly where the words are a checked store, both ways.
-use Rattle.plain.specs.Library.{ℕ, suc, ◌+◌, ◌*◌, ◌≤◌, ◌<◌, ◌^◌, ◌≡◌, refl, sym, ap, ◌∙◌, subst, Bool, true, false, cond, ◌&&◌, not, ⊎_elim, List, [], length}
-use Rattle.plain.specs.Library.{get_or, length-map, get_or-eq_default, eqb, leb, ltb, arith, eq-eqb, eqb-true, leb-true, le-leb, ltb-true, lt-ltb}
+use Rattle.std.specs.Prelude.{ℕ, suc, ◌+◌, ◌*◌, ◌≤◌, ◌<◌, ◌^◌, ◌≡◌, refl, Bool, true, false, cond, ◌&&◌, not, List, [], length, get_or, eqb, leb, ltb}
+use Rattle.plain.specs.Library.{sym, ap, ◌∙◌, subst, ⊎_elim, length-map, get_or-eq_default, arith, eq-eqb, eqb-true, leb-true, le-leb, ltb-true, lt-ltb}
 use Rattle.std.proofs.Common.{lit<}
 use Rattle.plain.specs.declared.TraversalDirection.{TraversalDirection}
 use Rattle.plain.specs.declared.TraversalDirection.TheVariants.{Outgoing, Incoming}

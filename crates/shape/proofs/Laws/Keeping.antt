@@ -1,6 +1,6 @@
 -- What the shape's step keeps: a proper shape stays proper.
-use Rattle.plain.specs.Library.{ℕ, zero, suc, ◌+◌, ◌<◌, ◌≡◌, refl, sym, ◌∙◌, Bool, true, not, Option, none, some, List, [], ◌∷◌, ◌++◌, length, get_or, set}
-use Rattle.plain.specs.Library.{length-set, length-append, eqb, arith, eqb-true}
+use Rattle.std.specs.Prelude.{ℕ, zero, suc, ◌+◌, ◌<◌, ◌≡◌, refl, Bool, true, not, List, [], ◌∷◌, ◌++◌, length, get_or, set, eqb}
+use Rattle.plain.specs.Library.{sym, ◌∙◌, Option, none, some, length-set, length-append, arith, eqb-true}
 use Rattle.plain.specs.declared.TraversalDirection.{TraversalDirection}
 use Rattle.plain.specs.declared.TraversalDirection.TheVariants.{Outgoing, Incoming}
 use Rattle.plain.specs.declared.Operation.{Operation}

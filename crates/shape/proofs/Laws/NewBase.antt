@@ -1,7 +1,7 @@
 -- A new base: words whose offsets were counted from the ends and whose adjacency column holds joined lists. Each node's base part is its list, and the index
 -- passes rule 4; with every ring empty and no run, that is the whole direction. What compaction and image reading leave.
-use Rattle.plain.specs.Library.{ℕ, suc, ◌+◌, ◌-◌, ◌*◌, ◌≤◌, ◌<◌, ◌≡◌, sym, ap, ap₂, ◌∙◌, subst, Bool, cond, ◌&&◌, inl, inr, none, List, [], map, map-map}
-use Rattle.plain.specs.Library.{length, get_or, take, eqb, ltb, zero-add, arith, lt-ltb, le-ltb, ltb-true}
+use Rattle.std.specs.Prelude.{ℕ, suc, ◌+◌, ◌-◌, ◌*◌, ◌≤◌, ◌<◌, ◌≡◌, Bool, cond, ◌&&◌, List, [], map, length, get_or, take, eqb, ltb}
+use Rattle.plain.specs.Library.{sym, ap, ap₂, ◌∙◌, subst, inl, inr, none, map-map, zero-add, arith, lt-ltb, le-ltb, ltb-true}
 use Rattle.plain.specs.declared.Counts.{Counts}
 use Rattle.plain.specs.Numbers.{NONE}
 use Rattle.plain.specs.Lists.{from, all, count, sum, joined, member, distinct}

@@ -1,6 +1,7 @@
 -- Of the words that are no field: every word of an axis has a place in a column; and what `Kept` and `Renewed` say by columns and bounds is, place by place, what
 -- the calls leave of them.
-use Rattle.plain.specs.Library.{ℕ, ◌+◌, ◌-◌, ◌*◌, ◌≤◌, ◌<◌, ◌≡◌, refl, ap, ◌∙◌, ◌⊎◌, inl, inr, ⊎_elim, List, length, get_or, arith}
+use Rattle.std.specs.Prelude.{ℕ, ◌+◌, ◌-◌, ◌*◌, ◌≤◌, ◌<◌, ◌≡◌, refl, ◌⊎◌, List, length, get_or}
+use Rattle.plain.specs.Library.{ap, ◌∙◌, inl, inr, ⊎_elim, arith}
 use Rattle.plain.specs.declared.TraversalDirection.{TraversalDirection}
 use Rattle.plain.proofs.Laws.Booleans.{below_or_not}
 use Rattle.shape.specs.Columns.{cell, offset_at}

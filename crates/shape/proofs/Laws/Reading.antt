@@ -1,5 +1,6 @@
 -- What the shape of a store's words holds: flags, bounds, ends and adjacencies, each by the words that it is read from.
-use Rattle.plain.specs.Library.{ℕ, ◌<◌, ◌≡◌, refl, sym, ap, ◌∙◌, Bool, false, List, map, map-map, length, get_or, length-map, zero-add, ltb-true}
+use Rattle.std.specs.Prelude.{ℕ, ◌<◌, ◌≡◌, refl, Bool, false, List, map, length, get_or}
+use Rattle.plain.specs.Library.{sym, ap, ◌∙◌, map-map, length-map, zero-add, ltb-true}
 use Rattle.plain.specs.declared.TraversalDirection.{TraversalDirection}
 use Rattle.plain.specs.declared.TraversalDirection.TheVariants.{Outgoing, Incoming}
 use Rattle.plain.specs.declared.Counts.{Counts}

@@ -1,7 +1,6 @@
 -- The shape's step is the plain lists' step: what each operation does to base parts, runs and rings is, on the walks, what document 01 says.
-use Rattle.plain.specs.Library.{ℕ, ◌+◌, ◌<◌, ◌≡◌, refl, sym, ap, ap₂, subst, ◌∙◌, Bool, true, false, cond, ◌&&◌, not, ⊎_elim, List, [], ◌∷◌, ◌++◌, map}
-use Rattle.plain.specs.Library.{append-nil, append_assoc, length, get_or, set, length-set, length-map, length-append, get_or-eq_default, ext_get_or, eqb}
-use Rattle.plain.specs.Library.{zero-add, arith, eq-eqb, ne_eqb, eqb-true}
+use Rattle.std.specs.Prelude.{ℕ, ◌+◌, ◌<◌, ◌≡◌, refl, Bool, true, false, cond, ◌&&◌, not, List, [], ◌∷◌, ◌++◌, map, length, get_or, set, eqb}
+use Rattle.plain.specs.Library.{sym, ap, ap₂, subst, ◌∙◌, ⊎_elim, append-nil, append_assoc, length-set, length-map, length-append, get_or-eq_default, ext_get_or, zero-add, arith, eq-eqb, ne_eqb, eqb-true}
 use Rattle.std.proofs.Math.Seq.{map-set_same}
 use Rattle.plain.specs.declared.TraversalDirection.{TraversalDirection}
 use Rattle.plain.specs.declared.TraversalDirection.TheVariants.{Outgoing, Incoming}

@@ -1,5 +1,6 @@
 -- A whole strip on the shape: its plain lists and compact flag are those of the strip of document 01.
-use Rattle.plain.specs.Library.{◌≡◌, refl, ap, ap₂, ◌∙◌, Bool, List, [], ◌∷◌, ◌++◌}
+use Rattle.std.specs.Prelude.{◌≡◌, refl, Bool, List, [], ◌∷◌, ◌++◌}
+use Rattle.plain.specs.Library.{ap, ap₂, ◌∙◌}
 use Rattle.plain.specs.declared.Operation.{Operation}
 use Rattle.plain.specs.Plain.{Plain}
 use Rattle.plain.specs.Step.{Capacities, State, stepped, run}

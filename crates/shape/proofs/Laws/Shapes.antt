@@ -1,5 +1,5 @@
 -- Two shapes with the same parts are one.
-use Rattle.plain.specs.Library.{◌≡◌}
+use Rattle.std.specs.Prelude.{◌≡◌}
 use Rattle.shape.specs.Shape.{Shape}
 
 -- two shapes with the same parts

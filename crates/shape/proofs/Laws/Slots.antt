@@ -1,5 +1,5 @@
 -- What the words of a store tell of the flags and bounds of its plain lists, by kind of slot.
-use Rattle.plain.specs.Library.{ℕ, ◌≤◌, ◌<◌, ◌≡◌, Bool, true, false, List, length, get_or}
+use Rattle.std.specs.Prelude.{ℕ, ◌≤◌, ◌<◌, ◌≡◌, Bool, true, false, List, length, get_or}
 use Rattle.plain.specs.Plain.{node_flags, edge_flags, node_bound, edge_bound}
 use Rattle.plain.proofs.Laws.Cases.{Absent, Removed, Live}
 use Rattle.liveness.specs.Laws.Flags.{length_flags}

@@ -1,5 +1,6 @@
 -- The shape's step refines the plain lists' step, for every operation.
-use Rattle.plain.specs.Library.{◌≡◌, refl, cond, List, [], ◌∷◌, length, arith, eq-eqb, ne_eqb}
+use Rattle.std.specs.Prelude.{◌≡◌, refl, cond, List, [], ◌∷◌, length}
+use Rattle.plain.specs.Library.{arith, eq-eqb, ne_eqb}
 use Rattle.plain.specs.declared.Operation.{Operation}
 use Rattle.plain.specs.Plain.{list_of, end_of}
 use Rattle.plain.specs.Step.{Capacities, Outcome, step}

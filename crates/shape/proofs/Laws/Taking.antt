@@ -1,5 +1,6 @@
 -- Laws of the live entries, and of what a run takes over and sweeps: neither changes what is walked. Callers cite these and unfold neither.
-use Rattle.plain.specs.Library.{ℕ, ◌≡◌, refl, sym, ◌∙◌, Bool, true, ◌&&◌, Option, none, some, List, [], ◌∷◌, ◌++◌, eqb, eq-eqb}
+use Rattle.std.specs.Prelude.{ℕ, ◌≡◌, refl, Bool, true, ◌&&◌, List, [], ◌∷◌, ◌++◌, eqb}
+use Rattle.plain.specs.Library.{sym, ◌∙◌, Option, none, some, eq-eqb}
 use Rattle.plain.specs.Lists.{member, without, keep}
 use Rattle.plain.proofs.Laws.Booleans.{by_test, and_right}
 use Rattle.plain.proofs.Laws.ListLaws.{member_keep}

@@ -1,7 +1,7 @@
 -- Laws for walks over linked lists and over parts of a column: what is read next, and that a list is the same, read from a column that is handed out
 -- as a slice of its own. A ring read up to its last entry is closed where that entry is on the way; more room then reads no more.
-use Rattle.plain.specs.Library.{ℕ, zero, suc, ◌+◌, ◌-◌, ◌≤◌, ◌<◌, ◌≡◌, sym, ap, ◌∙◌, subst, true, false, cond, ◌&&◌, List, [], ◌∷◌, length, length-map, eqb}
-use Rattle.plain.specs.Library.{leb, ltb, add-one, arith, eq-eqb, ne_eqb, leb-true, ltb-true}
+use Rattle.std.specs.Prelude.{ℕ, zero, suc, ◌+◌, ◌-◌, ◌≤◌, ◌<◌, ◌≡◌, true, false, cond, ◌&&◌, List, [], ◌∷◌, length, eqb, leb, ltb}
+use Rattle.plain.specs.Library.{sym, ap, ◌∙◌, subst, length-map, add-one, arith, eq-eqb, ne_eqb, leb-true, ltb-true}
 use Prim.Native.Nat.{zero-le, suc-le-suc}
 use Rattle.std.proofs.Common.{not-suc-le-zero, le_of_suc-le-suc}
 use Rattle.plain.specs.Lists.{member, from}

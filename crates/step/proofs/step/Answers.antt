@@ -1,6 +1,6 @@
 -- `step::step` meets its contract: each arm is the function that it calls. A slice is as long as it was by that function's word where it is lent by `&mut`, and by
 -- `refl` where it is lent by `&`.
-use Rattle.plain.specs.Library.{refl}
+use Rattle.std.specs.Prelude.{refl}
 use Rattle.refusals.specs.Laws.Stepping.{unknown}
 use Rattle.step.proofs.step.Goals as goal
 

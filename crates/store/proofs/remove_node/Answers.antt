@@ -1,5 +1,6 @@
 -- `store::remove_node` meets its contract: its two ways are `clearing_live` and `clearing_none`.
-use Rattle.plain.specs.Library.{refl, arith}
+use Rattle.std.specs.Prelude.{refl}
+use Rattle.plain.specs.Library.{arith}
 use Rattle.plain.specs.declared.TraversalDirection.TheVariants.{Outgoing, Incoming}
 use Rattle.store.proofs.Clearing.{clearing_none, node_counted, node_clearable, edges_counted, edges_few, clearing_live}
 use Rattle.store.proofs.remove_node.Goals as goal

@@ -1,5 +1,5 @@
 -- `strip::run` meets its contract. The loop's invariant: the first `i` operations are done and answered. The measure is the number of operations left.
-use Rattle.plain.specs.Library.{◌-◌}
+use Rattle.std.specs.Prelude.{◌-◌}
 use Rattle.shape.specs.Shape.{store}
 use Rattle.strip.proofs.Running.{Running}
 use Rattle.strip.proofs.run.Given as goal

@@ -1,6 +1,6 @@
 -- `strip::strip` meets its contract: the check and the answer before the first operation, then the operations. A slice is as long as it was, by `refl` where the strip is
 -- refused and else by the word of `run`.
-use Rattle.plain.specs.Library.{refl}
+use Rattle.std.specs.Prelude.{refl}
 use Rattle.strip.proofs.Ending.{strip_refused, strip_runnable, strip_run}
 use Rattle.strip.proofs.strip.Goals as goal
 

@@ -1,5 +1,6 @@
 -- What follows from a store that was made.
-use Rattle.plain.specs.Library.{ℕ, sym, ap}
+use Rattle.std.specs.Prelude.{ℕ}
+use Rattle.plain.specs.Library.{sym, ap}
 use Rattle.plain.specs.declared.Answer.{Answer}
 use Rattle.plain.specs.Devices.{Device, Takes, Proper}
 use Rattle.memory.specs.Laws.{fresh_roomy}

@@ -1,6 +1,7 @@
 -- What is left of a checked store, read from its words: the payloads of its survivors, and their ends by a node map. For compaction, which moves them down in place, and for
 -- joining, which copies them to another memory.
-use Rattle.plain.specs.Library.{ℕ, ◌+◌, ◌<◌, ◌∙◌, ◌≡◌, ap, ap₂, sym, refl, Bool, false, true, List, map, map-map, get_or, length, arith}
+use Rattle.std.specs.Prelude.{ℕ, ◌+◌, ◌<◌, ◌≡◌, refl, Bool, false, true, List, map, get_or, length}
+use Rattle.plain.specs.Library.{◌∙◌, ap, ap₂, sym, map-map, arith}
 use Rattle.plain.specs.declared.EdgePayload.{EdgePayload}
 use Rattle.plain.specs.declared.TraversalDirection.{TraversalDirection}
 use Rattle.plain.specs.declared.TraversalDirection.TheVariants.{Incoming, Outgoing}

@@ -1,6 +1,7 @@
 -- The lists that compaction takes over, of a whole store: they are the plain lists of its live nodes; and where the store is checked they can be written to a
 -- slice with room for its live edges.
-use Rattle.plain.specs.Library.{ℕ, ◌<◌, ◌≤◌, ◌∙◌, ◌≡◌, ap, refl, sym, Bool, false, true, List, [], ◌++◌, ◌∷◌, map, get_or, length, length-map, eqb, arith}
+use Rattle.std.specs.Prelude.{ℕ, ◌<◌, ◌≤◌, ◌≡◌, refl, Bool, false, true, List, [], ◌++◌, ◌∷◌, map, get_or, length, eqb}
+use Rattle.plain.specs.Library.{◌∙◌, ap, sym, length-map, arith}
 use Rattle.std.proofs.lemmas.List.{map-append}
 use Rattle.plain.specs.declared.TraversalDirection.{TraversalDirection}
 use Rattle.plain.specs.declared.TraversalDirection.TheVariants.{Incoming, Outgoing}

@@ -1,6 +1,6 @@
 -- The slots of a checked store, what a written map holds, and words rewritten at the front of a slice as lists.
-use Rattle.plain.specs.Library.{ℕ, ◌+◌, ◌-◌, ◌≤◌, ◌*◌, ◌∙◌, ◌≡◌, ap, ap₂, sym, Bool, cond, false, true, List, ◌++◌, map, get_or-append, drop, get_or, length}
-use Rattle.plain.specs.Library.{length-append, length-drop, length-map, take, ext_get_or, zero-add, arith}
+use Rattle.std.specs.Prelude.{ℕ, ◌+◌, ◌-◌, ◌≤◌, ◌*◌, ◌≡◌, Bool, cond, false, true, List, ◌++◌, map, drop, get_or, length, take}
+use Rattle.plain.specs.Library.{◌∙◌, ap, ap₂, sym, get_or-append, length-append, length-drop, length-map, ext_get_or, zero-add, arith}
 use Rattle.std.proofs.Common.{take-append-drop, get_or-drop}
 use Rattle.plain.specs.declared.Slots.{Slots}
 use Rattle.plain.specs.Compaction.{rank, renumbering_from}

@@ -1,7 +1,7 @@
 -- One turn of a loop over slots: what a live slot and a dead one do to the count of live slots, to the map and to the words moved down, and that no word moves where
 -- every slot is live. For compaction and for joining.
-use Rattle.plain.specs.Library.{ℕ, ◌+◌, ◌<◌, ◌≤◌, suc, zero, ◌-◌, ◌∙◌, ◌≡◌, ap, refl, sym, ap₂, Bool, cond, false, true, ◌⊎◌, inl, inr, List, [], ◌∷◌, get_or}
-use Rattle.plain.specs.Library.{length, set, replicate, ext_get_or, zero-add, add-one, arith}
+use Rattle.std.specs.Prelude.{ℕ, ◌+◌, ◌<◌, ◌≤◌, suc, zero, ◌-◌, ◌≡◌, refl, Bool, cond, false, true, ◌⊎◌, List, [], ◌∷◌, get_or, length, set, replicate}
+use Rattle.plain.specs.Library.{◌∙◌, ap, sym, ap₂, inl, inr, ext_get_or, zero-add, add-one, arith}
 use Rattle.std.proofs.Common.{add-zero}
 use Rattle.plain.proofs.Laws.Rank.{live_slot_rank, rank_end, live_count_all_live, live_from_all_live}
 use Rattle.plain.proofs.Laws.Booleans.{below_or_not}

@@ -1,5 +1,6 @@
 -- The joined lists of both directions: as many entries as the live edges twice, each a live edge, and by new numbers the adjacency of the survivors.
-use Rattle.plain.specs.Library.{ℕ, ◌*◌, ◌∙◌, ◌≡◌, ap, ap₂, sym, Bool, false, true, List, ◌++◌, map, get_or, length, length-append, arith}
+use Rattle.std.specs.Prelude.{ℕ, ◌*◌, ◌≡◌, Bool, false, true, List, ◌++◌, map, get_or, length}
+use Rattle.plain.specs.Library.{◌∙◌, ap, ap₂, sym, length-append, arith}
 use mathlib.Core.List.{map-append}
 use Rattle.plain.specs.declared.TraversalDirection.{TraversalDirection}
 use Rattle.plain.specs.declared.TraversalDirection.TheVariants.{Incoming, Outgoing}

@@ -1,5 +1,6 @@
 -- `validate::broken_axes` meets its contract: the ends of both directions, the weights, the index and the rings of both directions, and then what is left.
-use Rattle.plain.specs.Library.{◌≡◌, true, sym, ◌∙◌}
+use Rattle.std.specs.Prelude.{◌≡◌, true}
+use Rattle.plain.specs.Library.{sym, ◌∙◌}
 use Rattle.plain.specs.declared.TraversalDirection.{TraversalDirection}
 use Rattle.plain.specs.declared.TraversalDirection.TheVariants.{Outgoing, Incoming}
 use Rattle.plain.specs.Lists.{all, from}

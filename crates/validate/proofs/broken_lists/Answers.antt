@@ -1,5 +1,6 @@
 -- `validate::broken_lists` meets its contract: the runs of both directions, then the walks, each known to be right where the quick test has told so.
-use Rattle.plain.specs.Library.{◌≡◌, sym, ◌∙◌, true}
+use Rattle.std.specs.Prelude.{◌≡◌, true}
+use Rattle.plain.specs.Library.{sym, ◌∙◌}
 use Rattle.plain.specs.declared.TraversalDirection.TheVariants.{Outgoing, Incoming}
 use Rattle.plain.proofs.Laws.Booleans.{both_true}
 use Rattle.shape.specs.Shape.{Words, node_capacity, edge_capacity, node_live, edge_live, store}

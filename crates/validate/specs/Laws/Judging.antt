@@ -1,5 +1,6 @@
 -- The answer of a call behind the check: where a rule is broken it is that rule, else what the call itself answers counts.
-use Rattle.plain.specs.Library.{ℕ, zero, suc, ◌≡◌, refl, ap, ◌∙◌, arith}
+use Rattle.std.specs.Prelude.{ℕ, zero, suc, ◌≡◌, refl}
+use Rattle.plain.specs.Library.{ap, ◌∙◌, arith}
 use Rattle.plain.specs.declared.Answer.{Answer}
 use Rattle.plain.specs.declared.Record.{Record}
 use Rattle.plain.specs.declared.Total.{Total}

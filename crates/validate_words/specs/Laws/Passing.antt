@@ -1,6 +1,6 @@
 -- Tests one after the other, and a loop over slots that stops at the first that fails a test: what is still to be answered from each place on.
-use Rattle.plain.specs.Library.{ℕ, suc, ◌+◌, ◌-◌, ◌≤◌, ◌<◌, ◌≡◌, sym, ap, ◌∙◌, Bool, true, false, cond, ◌&&◌, not, List, ◌∷◌, [], arith, not-true, not-false}
-use Rattle.plain.specs.Library.{ltb-true}
+use Rattle.std.specs.Prelude.{ℕ, suc, ◌+◌, ◌-◌, ◌≤◌, ◌<◌, ◌≡◌, Bool, true, false, cond, ◌&&◌, not, List, ◌∷◌, []}
+use Rattle.plain.specs.Library.{sym, ap, ◌∙◌, arith, not-true, not-false, ltb-true}
 use Rattle.plain.specs.Lists.{member, all, from, count}
 use Rattle.plain.proofs.Laws.Booleans.{by_test, same_truth}
 use Rattle.plain.proofs.Laws.ListLaws.{all_of, all_member, member_below}

@@ -1,5 +1,6 @@
 -- What a total says of the weights that a node's transfers may have.
-use Rattle.plain.specs.Library.{ℕ, ◌<◌, sym, ap, subst, ◌∙◌}
+use Rattle.std.specs.Prelude.{ℕ, ◌<◌}
+use Rattle.plain.specs.Library.{sym, ap, subst, ◌∙◌}
 use Rattle.plain.specs.declared.TraversalDirection.{TraversalDirection}
 use Rattle.plain.specs.declared.Total.{Total}
 use Rattle.plain.specs.Reads.{payloads_of, total}

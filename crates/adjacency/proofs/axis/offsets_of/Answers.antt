@@ -1,5 +1,6 @@
 -- `adjacency::axis::offsets_of` meets its contract: the part is the column.
-use Rattle.plain.specs.Library.{◌+◌, ◌-◌, ◌*◌, ◌≡◌, arith}
+use Rattle.std.specs.Prelude.{◌+◌, ◌-◌, ◌*◌, ◌≡◌}
+use Rattle.plain.specs.Library.{arith}
 use Rattle.adjacency.proofs.axis.offsets_of.Goals as goal
 
 pub returns : goal.returns

@@ -1,5 +1,5 @@
 -- `adjacency::clear::clear_left` meets its contract. The loop's invariant is `Clearing`, the measure how many entries remain.
-use Rattle.plain.specs.Library.{length}
+use Rattle.std.specs.Prelude.{length}
 use Rattle.cursor.specs.Cursor.{remaining}
 use Rattle.adjacency.specs.Walk.{entries_column, next_column}
 use Rattle.adjacency.proofs.Clearing.{Clearing}

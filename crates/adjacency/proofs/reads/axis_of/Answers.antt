@@ -1,5 +1,5 @@
 -- `adjacency::reads::axis_of` meets its contract, direction by direction.
-use Rattle.plain.specs.Library.{refl}
+use Rattle.std.specs.Prelude.{refl}
 use Rattle.adjacency.proofs.reads.axis_of.Goals as goal
 
 pub returns-in-Outgoing : goal.returns-in-Outgoing

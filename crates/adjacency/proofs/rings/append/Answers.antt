@@ -1,5 +1,6 @@
 -- `adjacency::rings::append` meets its contract: the stores of its two ways are those of `append_first` and `append_more`.
-use Rattle.plain.specs.Library.{◌<◌, length-set, arith}
+use Rattle.std.specs.Prelude.{◌<◌}
+use Rattle.plain.specs.Library.{length-set, arith}
 use Rattle.shape.specs.Columns.{last_at}
 use Rattle.adjacency.proofs.Appending.{last_below, append_first, append_more}
 use Rattle.adjacency.proofs.rings.append.Goals.{Else-last}

@@ -1,5 +1,6 @@
 -- `adjacency::walk::count_walk` meets its contract: the listed entries of the started walk are the node's walk.
-use Rattle.plain.specs.Library.{ap, ◌∙◌, length}
+use Rattle.std.specs.Prelude.{length}
+use Rattle.plain.specs.Library.{ap, ◌∙◌}
 use Rattle.adjacency.specs.Laws.Walk.{given_seekable, given_walk}
 use Rattle.adjacency.proofs.walk.count_walk.Goals as goal
 

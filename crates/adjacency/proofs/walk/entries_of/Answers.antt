@@ -1,5 +1,6 @@
 -- `adjacency::walk::entries_of` meets its contract: the parts are the columns.
-use Rattle.plain.specs.Library.{◌-◌, ◌*◌, ◌≡◌, arith}
+use Rattle.std.specs.Prelude.{◌-◌, ◌*◌, ◌≡◌}
+use Rattle.plain.specs.Library.{arith}
 use Rattle.adjacency.proofs.walk.entries_of.Goals as goal
 
 pub returns-then-linked : goal.returns-then-linked

@@ -1,5 +1,6 @@
 -- `adjacency::walk::next_of` meets its contract: the part is the column.
-use Rattle.plain.specs.Library.{◌-◌, ◌*◌, ◌≡◌, arith}
+use Rattle.std.specs.Prelude.{◌-◌, ◌*◌, ◌≡◌}
+use Rattle.plain.specs.Library.{arith}
 use Rattle.adjacency.proofs.walk.next_of.Goals as goal
 
 pub returns : goal.returns

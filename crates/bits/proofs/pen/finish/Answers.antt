@@ -1,5 +1,6 @@
 -- `bits::pen::finish` meets its contract: after each turn a byte more of what waits was written.
-use Rattle.plain.specs.Library.{◌+◌, ◌-◌, ◌*◌, ◌/◌, refl, ◌∙◌, arith}
+use Rattle.std.specs.Prelude.{◌+◌, ◌-◌, ◌*◌, ◌/◌, refl}
+use Rattle.plain.specs.Library.{◌∙◌, arith}
 use Rattle.bits.proofs.Wrote.{parts_none, parts_more, parts_all}
 use Rattle.bits.proofs.Putting.{waiting_fits, finishing}
 use Rattle.bits.proofs.pen.finish.Goals as goal

@@ -1,5 +1,5 @@
 -- `bits::pen::finish` meets its contract: after each turn a byte more of what waits was written.
-use Rattle.plain.specs.Library.{◌+◌, ◌-◌, ◌*◌, ◌/◌, ◌^◌, ◌≤◌, ◌≡◌, length}
+use Rattle.std.specs.Prelude.{◌+◌, ◌-◌, ◌*◌, ◌/◌, ◌^◌, ◌≤◌, ◌≡◌, length}
 use Rattle.plain.specs.Bits.{bits_of}
 use Rattle.bits.specs.Wrote.{Wrote}
 use Rattle.bits.proofs.pen.finish.Given as goal

@@ -1,5 +1,6 @@
 -- `cursor::AdjacencyCursor::count` meets its contract. The loop's invariant is `Walked`, the measure how many entries remain, listed or not.
-use Rattle.plain.specs.Library.{◌+◌, ◌≤◌, sym, ap, ◌∙◌, length, arith}
+use Rattle.std.specs.Prelude.{◌+◌, ◌≤◌, length}
+use Rattle.plain.specs.Library.{sym, ap, ◌∙◌, arith}
 use Rattle.plain.specs.Numbers.{NONE, LIMIT}
 use Rattle.cursor.specs.Laws.Cursor.{turn_less}
 use Rattle.cursor.proofs.Seeking.{seek_start, seek_listed, seek_done}

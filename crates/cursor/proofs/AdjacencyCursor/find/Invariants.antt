@@ -1,5 +1,5 @@
 -- `cursor::AdjacencyCursor::find` meets its contract. The loop's invariant is `Searching`, the measure how many entries remain, listed or not.
-use Rattle.plain.specs.Library.{length}
+use Rattle.std.specs.Prelude.{length}
 use Rattle.liveness.specs.Flags.{live_flags}
 use Rattle.cursor.specs.Cursor.{remaining, listed}
 use Rattle.cursor.specs.Finding.{ends_at}

@@ -1,5 +1,6 @@
 -- `cursor::AdjacencyCursor::seek` meets its contract. The loop's invariant is `Seeking`, the measure how many entries remain.
-use Rattle.plain.specs.Library.{refl, sym, ◌∙◌}
+use Rattle.std.specs.Prelude.{refl}
+use Rattle.plain.specs.Library.{sym, ◌∙◌}
 use Rattle.cursor.specs.Laws.Cursor.{turn_less}
 use Rattle.cursor.proofs.Seeking.{seek_listed, seek_done, seek_on}
 use Rattle.cursor.proofs.AdjacencyCursor.seek.Goals as goal

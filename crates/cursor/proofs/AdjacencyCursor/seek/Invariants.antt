@@ -1,5 +1,5 @@
 -- `cursor::AdjacencyCursor::seek` meets its contract. The loop's invariant is `Seeking`, the measure how many entries remain.
-use Rattle.plain.specs.Library.{length}
+use Rattle.std.specs.Prelude.{length}
 use Rattle.liveness.specs.Flags.{live_flags}
 use Rattle.cursor.specs.Cursor.{remaining, listed}
 use Rattle.cursor.proofs.Seeking.{Seeking}

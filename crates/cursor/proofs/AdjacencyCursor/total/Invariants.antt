@@ -1,5 +1,5 @@
 -- `cursor::AdjacencyCursor::total` meets its contract. The loop's invariant is `Summing`, the measure how many entries remain, listed or not.
-use Rattle.plain.specs.Library.{length}
+use Rattle.std.specs.Prelude.{length}
 use Rattle.liveness.specs.Flags.{live_flags}
 use Rattle.cursor.specs.Cursor.{word, remaining, listed}
 use Rattle.cursor.proofs.Summing.{Summing}

@@ -1,6 +1,7 @@
 -- `cursor::AdjacencyCursor::write` meets its contract. The loop's invariant is `Writing`, with each entry itself; the measure is how many entries
 -- remain, listed or not.
-use Rattle.plain.specs.Library.{◌+◌, ◌≤◌, sym, ap, ◌∙◌, length, arith}
+use Rattle.std.specs.Prelude.{◌+◌, ◌≤◌, length}
+use Rattle.plain.specs.Library.{sym, ap, ◌∙◌, arith}
 use mathlib.Core.List.{map-id}
 use Rattle.plain.specs.Numbers.{NONE, LIMIT}
 use Rattle.cursor.specs.Laws.Cursor.{turn_less}

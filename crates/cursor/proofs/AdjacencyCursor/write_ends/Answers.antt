@@ -1,6 +1,7 @@
 -- `cursor::AdjacencyCursor::write_ends` meets its contract. The loop's invariant is `Writing`, with the end of each entry; the measure is how many
 -- entries remain, listed or not.
-use Rattle.plain.specs.Library.{◌+◌, ◌≤◌, sym, ◌∙◌, lt_of_lt_of_le, arith}
+use Rattle.std.specs.Prelude.{◌+◌, ◌≤◌}
+use Rattle.plain.specs.Library.{sym, ◌∙◌, lt_of_lt_of_le, arith}
 use Rattle.plain.specs.Numbers.{NONE, LIMIT}
 use Rattle.cursor.specs.Laws.Cursor.{turn_less, step_below}
 use Rattle.cursor.proofs.Seeking.{seek_start, seek_listed, seek_done}

@@ -1,6 +1,6 @@
 -- `cursor::AdjacencyCursor::write_ends` meets its contract. The loop's invariant is `Writing`, with the end of each entry; the measure is how many
 -- entries remain, listed or not.
-use Rattle.plain.specs.Library.{length}
+use Rattle.std.specs.Prelude.{length}
 use Rattle.liveness.specs.Flags.{live_flags}
 use Rattle.cursor.specs.Cursor.{word, remaining, listed}
 use Rattle.cursor.proofs.Reading.{Writing}

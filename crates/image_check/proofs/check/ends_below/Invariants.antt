@@ -1,5 +1,5 @@
 -- `image_check::check::ends_below` meets its contract. The loop's invariant: the edges from `edge` on decide. The measure is the number of edges left.
-use Rattle.plain.specs.Library.{◌-◌, ◌≡◌, ltb}
+use Rattle.std.specs.Prelude.{◌-◌, ◌≡◌, ltb}
 use Rattle.validate_words.specs.Laws.Passing.{rest}
 use Rattle.image_check.specs.Checks.{end_in, ends_within}
 use Rattle.image_check.proofs.check.ends_below.Given as goal

@@ -1,6 +1,6 @@
 -- `image_check::check::lists_right` meets its contract. The loop's invariant: the entries from `at` on decide, those before are marked. The measure is the number of
 -- entries left.
-use Rattle.plain.specs.Library.{◌-◌}
+use Rattle.std.specs.Prelude.{◌-◌}
 use Rattle.image_check.proofs.Ordering.{Ordering}
 use Rattle.image_check.proofs.check.lists_right.Given as goal
 

@@ -1,5 +1,6 @@
 -- `image_check::check::weights_right` meets its contract. The loop's invariant: the edges from `edge` on decide. The measure is the number of edges left.
-use Rattle.plain.specs.Library.{sym, ap₂, ◌∙◌, leb, lt-leb, le-leb}
+use Rattle.std.specs.Prelude.{leb}
+use Rattle.plain.specs.Library.{sym, ap₂, ◌∙◌, lt-leb, le-leb}
 use Rattle.validate_words.specs.Laws.Passing.{rest_first, rest_more, rest_fails, rest_none}
 use Rattle.image_check.specs.Checks.{weights_ordered}
 use Rattle.image_check.proofs.Checking.{column_fewer}

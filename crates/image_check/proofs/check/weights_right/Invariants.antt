@@ -1,5 +1,5 @@
 -- `image_check::check::weights_right` meets its contract. The loop's invariant: the edges from `edge` on decide. The measure is the number of edges left.
-use Rattle.plain.specs.Library.{◌+◌, ◌-◌, ◌≡◌, leb}
+use Rattle.std.specs.Prelude.{◌+◌, ◌-◌, ◌≡◌, leb}
 use Rattle.plain.specs.Image.{weight_width}
 use Rattle.validate_words.specs.Laws.Passing.{rest}
 use Rattle.image_check.specs.Checks.{field_in, weights_ordered}

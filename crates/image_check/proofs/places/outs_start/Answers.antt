@@ -1,5 +1,6 @@
 -- `image_check::places::outs_start` meets its contract: the records take few bits.
-use Rattle.plain.specs.Library.{ℕ, ◌+◌, ◌*◌, ◌≤◌, ap₂, arith}
+use Rattle.std.specs.Prelude.{ℕ, ◌+◌, ◌*◌, ◌≤◌}
+use Rattle.plain.specs.Library.{ap₂, arith}
 use Rattle.image_check.specs.Laws.Sizes.{records_small}
 use Rattle.image_check.proofs.places.outs_start.Goals.{After-record_width}
 use Rattle.image_check.proofs.places.outs_start.Goals as goal

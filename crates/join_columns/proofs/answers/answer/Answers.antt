@@ -1,5 +1,6 @@
 -- `join_columns::answers::answer` meets its contract: test by test.
-use Rattle.plain.specs.Library.{ℕ, ◌≡◌, sym, ◌∙◌}
+use Rattle.std.specs.Prelude.{ℕ, ◌≡◌}
+use Rattle.plain.specs.Library.{sym, ◌∙◌}
 use Rattle.plain.specs.Calls.{judged}
 use Rattle.plain.specs.declared.Answer.{Answer}
 use Rattle.join_columns.proofs.Rooms.{judged_refused}

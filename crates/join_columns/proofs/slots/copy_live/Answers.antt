@@ -1,6 +1,7 @@
 -- `join_columns::slots::copy_live` meets its contract. The loop's invariant: the words of the live slots passed stand at the front of `out`, in slot order, all its other words are as they
 -- were. The measure is the number of slots left.
-use Rattle.plain.specs.Library.{ℕ, ◌<◌, sym, ap, ◌∙◌, length, get_or, arith}
+use Rattle.std.specs.Prelude.{ℕ, ◌<◌, length, get_or}
+use Rattle.plain.specs.Library.{sym, ap, ◌∙◌, arith}
 use Rattle.plain.proofs.Laws.Rank.{rank_live}
 use Rattle.liveness.specs.Flags.{live_flags}
 use Rattle.shape.proofs.Laws.Indexing.{rewritten_none, rewritten_all}

@@ -1,6 +1,6 @@
 -- `join_columns::slots::copy_live` meets its contract. The loop's invariant: the words of the live slots passed stand at the front of `out`, in slot order, all its other words are as they
 -- were. The measure is the number of slots left.
-use Rattle.plain.specs.Library.{◌-◌}
+use Rattle.std.specs.Prelude.{◌-◌}
 use Rattle.liveness.specs.Flags.{live_flags}
 use Rattle.shape.specs.Index.{Rewritten}
 use Rattle.survivors.specs.Slots.{kept_word}

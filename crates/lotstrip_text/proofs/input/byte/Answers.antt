@@ -1,5 +1,6 @@
 -- `lotstrip_text::input::byte` meets its contract.
-use Rattle.plain.specs.Library.{refl, arith}
+use Rattle.std.specs.Prelude.{refl}
+use Rattle.plain.specs.Library.{arith}
 use Rattle.lotstrip_text.proofs.input.byte.Goals as goal
 
 pub overflow_cast-result : goal.overflow_cast-result

@@ -1,5 +1,6 @@
 -- `lotstrip_text::input::read_words` meets its contract. The loop's invariant: the words passed are written. The measure is the number of words left.
-use Rattle.plain.specs.Library.{◌<◌, refl, length, arith}
+use Rattle.std.specs.Prelude.{◌<◌, refl, length}
+use Rattle.plain.specs.Library.{arith}
 use Rattle.plain.specs.Lotstrip.{words_of}
 use Rattle.bits.specs.Laws.Put.{put_one, put_length, put_written}
 use Rattle.lotstrip_text.proofs.Pieces.{writing_start, writing_room, writing_more, writing_end}

@@ -1,5 +1,5 @@
 -- `lotstrip_text::input::read_words` meets its contract. The loop's invariant: the words passed are written. The measure is the number of words left.
-use Rattle.plain.specs.Library.{◌-◌, ◌*◌, ◌/◌, ◌≡◌, length, drop}
+use Rattle.std.specs.Prelude.{◌-◌, ◌*◌, ◌/◌, ◌≡◌, length, drop}
 use Rattle.plain.specs.Lotstrip.{words_of, word_bytes}
 use Rattle.lotstrip_text.proofs.Pieces.{Writing}
 use Rattle.lotstrip_text.proofs.input.read_words.Given as goal

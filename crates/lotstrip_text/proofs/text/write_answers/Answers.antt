@@ -1,6 +1,7 @@
 -- `lotstrip_text::text::write_answers` meets its contract. The loop's invariant: the lines of the operations passed are written. The measure is the number of operations
 -- left.
-use Rattle.plain.specs.Library.{refl, arith}
+use Rattle.std.specs.Prelude.{refl}
+use Rattle.plain.specs.Library.{arith}
 use Rattle.bits.specs.Laws.Put.{put_length}
 use Rattle.lotstrip_text.proofs.Pieces.{writing_start, writing_room, writing_more, writing_end}
 use Rattle.lotstrip_text.proofs.Lines.{lines_next, lines_none}

@@ -1,6 +1,6 @@
 -- `lotstrip_text::text::write_answers` meets its contract. The loop's invariant: the lines of the operations passed are written. The measure is the number of operations
 -- left.
-use Rattle.plain.specs.Library.{◌-◌, ◌*◌, ◌/◌, ◌≡◌, length, drop}
+use Rattle.std.specs.Prelude.{◌-◌, ◌*◌, ◌/◌, ◌≡◌, length, drop}
 use Rattle.plain.specs.Lotstrip.{answer_lines}
 use Rattle.lotstrip_text.proofs.Pieces.{Writing}
 use Rattle.lotstrip_text.proofs.text.write_answers.Given as goal

@@ -1,5 +1,6 @@
 -- `lotstrip_text::text::write_byte` meets its contract.
-use Rattle.plain.specs.Library.{refl, length-set, arith}
+use Rattle.std.specs.Prelude.{refl}
+use Rattle.plain.specs.Library.{length-set, arith}
 use Rattle.bits.specs.Laws.Put.{put_two}
 use Rattle.lotstrip_text.proofs.text.write_byte.Goals as goal
 

@@ -1,5 +1,6 @@
 -- `lotstrip_text::text::write_bytes` meets its contract. The loop's invariant: the bytes passed are written. The measure is the number of bytes left.
-use Rattle.plain.specs.Library.{◌<◌, refl, length, arith}
+use Rattle.std.specs.Prelude.{◌<◌, refl, length}
+use Rattle.plain.specs.Library.{arith}
 use lib.ListN.{drop_of_length-le}
 use Rattle.bits.specs.Laws.Put.{put_one, put_length}
 use Rattle.lotstrip_text.proofs.Pieces.{writing_start, writing_room, writing_more, writing_end}

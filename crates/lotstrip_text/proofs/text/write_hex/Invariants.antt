@@ -1,5 +1,5 @@
 -- `lotstrip_text::text::write_hex` meets its contract. The loop's invariant: the digits of the bytes passed are written. The measure is the number of bytes left.
-use Rattle.plain.specs.Library.{◌-◌, length, drop}
+use Rattle.std.specs.Prelude.{◌-◌, length, drop}
 use Rattle.plain.specs.Lotstrip.{hexadecimal}
 use Rattle.lotstrip_text.proofs.Pieces.{Writing}
 use Rattle.lotstrip_text.proofs.text.write_hex.Given as goal

@@ -1,5 +1,5 @@
 -- `nearest::backwards::drain` meets its contract. The loop's invariant is `Draining`; the measure is how many lots can still be taken.
-use Rattle.plain.specs.Library.{◌-◌, length}
+use Rattle.std.specs.Prelude.{◌-◌, length}
 use Rattle.shape.specs.Shape.{store}
 use Rattle.nearest.specs.Backwards.{Draining}
 use Rattle.nearest.proofs.backwards.drain.Given as goal

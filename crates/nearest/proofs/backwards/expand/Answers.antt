@@ -1,5 +1,6 @@
 -- `nearest::backwards::expand` meets its contract. The loop's invariant is `Expanding`, the measure how many entries remain, listed or not.
-use Rattle.plain.specs.Library.{ℕ, refl, sym, ap, ap₂, ◌∙◌, List, length, lt_of_lt_of_le}
+use Rattle.std.specs.Prelude.{ℕ, refl, List, length}
+use Rattle.plain.specs.Library.{sym, ap, ap₂, ◌∙◌, lt_of_lt_of_le}
 use Rattle.cursor.specs.Laws.Cursor.{turn_less, step_below}
 use Rattle.nearest.proofs.Expanding.{expanding_start, expanding_see, expanding_on, expanding_skip, expanding_end, length_turn}
 use Rattle.nearest.specs.Frontier.{Frontier, frontier}

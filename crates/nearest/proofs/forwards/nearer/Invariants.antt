@@ -1,5 +1,5 @@
 -- `nearest::forwards::nearer` meets its contract. The loop's invariant is `Nearing`, the measure how many entries remain, listed or not.
-use Rattle.plain.specs.Library.{length, get_or}
+use Rattle.std.specs.Prelude.{length, get_or}
 use Rattle.liveness.specs.Flags.{live_flags}
 use Rattle.cursor.specs.Cursor.{remaining, listed}
 use Rattle.nearest.specs.Forwards.{leads}

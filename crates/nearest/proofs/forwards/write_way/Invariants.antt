@@ -1,5 +1,5 @@
 -- `nearest::forwards::write_way` meets its contract. The loop's invariant is `Going`; the measure is how many edges are left.
-use Rattle.plain.specs.Library.{◌-◌}
+use Rattle.std.specs.Prelude.{◌-◌}
 use Rattle.shape.specs.Shape.{store}
 use Rattle.nearest.proofs.Nearing.{Going}
 use Rattle.nearest.proofs.forwards.write_way.Given as goal

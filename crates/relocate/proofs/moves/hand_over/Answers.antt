@@ -1,5 +1,6 @@
 -- `relocate::moves::hand_over` meets its contract: the stores of its ways are those of `hand_first` and `hand_more`.
-use Rattle.plain.specs.Library.{◌<◌, ◌≢◌, length-set, arith}
+use Rattle.std.specs.Prelude.{◌<◌, ◌≢◌}
+use Rattle.plain.specs.Library.{length-set, arith}
 use Rattle.shape.specs.Columns.{tail_at, count_at}
 use Rattle.relocate.proofs.Handing.{hand_short, hand_last, hand_none, hand_first, hand_more}
 use Rattle.relocate.proofs.moves.hand_over.Goals.{Else-moved-eq0, Else-present-eq0}

@@ -1,5 +1,6 @@
 -- `relocate::moves::relabel` meets its contract. The invariant is `Relabelling`; the measure is how many entries are left.
-use Rattle.plain.specs.Library.{◌*◌, ◌≤◌, ◌<◌, length, arith}
+use Rattle.std.specs.Prelude.{◌*◌, ◌≤◌, ◌<◌, length}
+use Rattle.plain.specs.Library.{arith}
 use Rattle.relocate.proofs.Moving.{relabel_start, relabel_below, relabel_more, relabel_end}
 use Rattle.relocate.proofs.moves.relabel.Goals.{In-loop-left}
 use Rattle.relocate.proofs.moves.relabel.Goals as goal

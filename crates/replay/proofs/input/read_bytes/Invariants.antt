@@ -1,5 +1,5 @@
 -- `replay::input::read_bytes` is safe and ends. The loop keeps the bytes as many as they were, and `at` within them; the measure is the number of lines left.
-use Rattle.plain.specs.Library.{◌≤◌, ◌≡◌, length}
+use Rattle.std.specs.Prelude.{◌≤◌, ◌≡◌, length}
 use Rattle.replay.proofs.input.read_bytes.Given as goal
 
 abbrev pub invariant-loop-left : goal.invariant-loop-left

@@ -1,5 +1,5 @@
 -- `replay::input::read_operations` is safe and ends. The loop keeps the words as long as they were, and `at` within them; the measure is the number of lines left.
-use Rattle.plain.specs.Library.{◌≤◌, ◌≡◌, length}
+use Rattle.std.specs.Prelude.{◌≤◌, ◌≡◌, length}
 use Rattle.replay.proofs.input.read_operations.Given as goal
 
 abbrev pub invariant-loop-left : goal.invariant-loop-left

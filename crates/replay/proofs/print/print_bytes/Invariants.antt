@@ -1,5 +1,5 @@
 -- `replay::print::print_bytes` is safe and ends. The measure is the number of bytes left; nothing has to hold from turn to turn.
-use Rattle.plain.specs.Library.{◌-◌, length}
+use Rattle.std.specs.Prelude.{◌-◌, length}
 use Rattle.replay.proofs.print.print_bytes.Given as goal
 
 abbrev pub decreases-loop-i : goal.decreases-loop-i

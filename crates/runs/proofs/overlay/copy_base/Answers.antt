@@ -1,5 +1,6 @@
 -- `runs::overlay::copy_base` meets its contract. The invariant is `Copying`; the measure is how many entries are to come.
-use Rattle.plain.specs.Library.{◌<◌, arith}
+use Rattle.std.specs.Prelude.{◌<◌}
+use Rattle.plain.specs.Library.{arith}
 use Rattle.runs.proofs.Starting.{copy_based, copy_start, copy_keep, copy_more, copy_end}
 use Rattle.runs.proofs.overlay.copy_base.Goals.{In-loop-at}
 use Rattle.runs.proofs.overlay.copy_base.Goals as goal

@@ -1,5 +1,5 @@
 -- `runs::overlay::copy_base` meets its contract. The invariant is `Copying`; the measure is how many entries are to come.
-use Rattle.plain.specs.Library.{◌-◌}
+use Rattle.std.specs.Prelude.{◌-◌}
 use Rattle.runs.proofs.Starting.{Copying}
 use Rattle.runs.proofs.overlay.copy_base.Given as goal
 

@@ -1,5 +1,6 @@
 -- `runs::overlay::drain` meets its contract. The invariant is `Draining`; the measure is the length of what is to come of the ring.
-use Rattle.plain.specs.Library.{◌<◌, ◌∙◌, arith}
+use Rattle.std.specs.Prelude.{◌<◌}
+use Rattle.plain.specs.Library.{◌∙◌, arith}
 use Rattle.runs.proofs.Draining.{drain_readable, drain_none, drain_start, drain_below, drain_keep, drain_more, drain_less, drain_last}
 use Rattle.runs.proofs.overlay.drain.Goals.{At-loop-next}
 use Rattle.runs.proofs.overlay.drain.Goals as goal

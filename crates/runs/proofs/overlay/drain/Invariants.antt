@@ -1,5 +1,5 @@
 -- `runs::overlay::drain` meets its contract. The invariant is `Draining`; the measure is the length of what is to come of the ring.
-use Rattle.plain.specs.Library.{length}
+use Rattle.std.specs.Prelude.{length}
 use Rattle.runs.proofs.Draining.{Draining, to_come}
 use Rattle.runs.proofs.overlay.drain.Given as goal
 

@@ -1,6 +1,6 @@
 -- `survivors::slots::keep_live` meets its contract. The loop's invariant: the words of the live slots passed stand at the front, in slot order, all others are as
 -- they were. No live slot's word is overwritten before it is moved, as a slot's rank is at most its number. The measure is the number of slots left.
-use Rattle.plain.specs.Library.{◌-◌}
+use Rattle.std.specs.Prelude.{◌-◌}
 use Rattle.liveness.specs.Flags.{live_flags}
 use Rattle.shape.specs.Index.{Rewritten}
 use Rattle.survivors.proofs.Laws.Turns.{Passed}

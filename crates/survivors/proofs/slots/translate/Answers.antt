@@ -1,6 +1,7 @@
 -- `survivors::slots::translate` meets its contract. The loop's invariant: the words passed are put through the map, all others are as they were. The measure is
 -- the number of words left.
-use Rattle.plain.specs.Library.{ℕ, ◌<◌, ◌≡◌, ap, length, get_or, arith}
+use Rattle.std.specs.Prelude.{ℕ, ◌<◌, ◌≡◌, length, get_or}
+use Rattle.plain.specs.Library.{ap, arith}
 use Rattle.shape.proofs.Laws.Indexing.{rewritten_none, rewritten_all}
 use Rattle.survivors.proofs.Laws.Turns.{rewritten_next}
 use Rattle.survivors.proofs.slots.translate.Goals.{In-loop-i}

@@ -1,6 +1,6 @@
 -- `survivors::slots::translate` meets its contract. The loop's invariant: the words passed are put through the map, all others are as they were. The measure is
 -- the number of words left.
-use Rattle.plain.specs.Library.{◌-◌, ◌≤◌}
+use Rattle.std.specs.Prelude.{◌-◌, ◌≤◌}
 use Rattle.shape.specs.Index.{Rewritten}
 use Rattle.survivors.specs.Slots.{translated_word}
 use Rattle.survivors.proofs.slots.translate.Given as goal

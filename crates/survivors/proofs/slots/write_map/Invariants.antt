@@ -1,6 +1,6 @@
 -- `survivors::slots::write_map` meets its contract. The loop's invariant: the entries of the slots passed are written, all other words are as they were, and
 -- `next` is the number of live slots passed, counted from `first` on. The measure is the number of slots left.
-use Rattle.plain.specs.Library.{◌-◌}
+use Rattle.std.specs.Prelude.{◌-◌}
 use Rattle.plain.specs.Compaction.{renumbering_from}
 use Rattle.plain.specs.Renumbering.{lookup}
 use Rattle.liveness.specs.Flags.{live_flags}

@@ -1,6 +1,7 @@
 -- `validate::flat::base_flat` meets its contract. The loop's invariant: the entries before i whose end has no run are placed, marked, none twice, and counted. The measure
 -- is the number of entries left.
-use Rattle.plain.specs.Library.{refl, sym, ◌∙◌, inl, inr, arith, eq-eqb, eqb-true}
+use Rattle.std.specs.Prelude.{refl}
+use Rattle.plain.specs.Library.{sym, ◌∙◌, inl, inr, arith, eq-eqb, eqb-true}
 use Rattle.plain.proofs.Laws.Booleans.{true_false}
 use Rattle.validate.specs.Flat.{place_shown}
 use Rattle.validate_words.specs.Laws.Passing.{count_start, count_on, count_done}

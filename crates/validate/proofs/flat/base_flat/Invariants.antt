@@ -1,6 +1,6 @@
 -- `validate::flat::base_flat` meets its contract. The loop's invariant: the entries before i whose end has no run are placed, marked, none twice, and counted. The measure
 -- is the number of entries left.
-use Rattle.plain.specs.Library.{◌-◌}
+use Rattle.std.specs.Prelude.{◌-◌}
 use Rattle.plain.specs.Lists.{from, count}
 use Rattle.shape.specs.Columns.{adjacency_at}
 use Rattle.validate.specs.Flat.{place_shown, EntryPlaced}

@@ -1,5 +1,5 @@
 -- `validate::flat::count_places` meets its contract. The loop's invariant: the places of the nodes before x are counted. The measure is the number of nodes left.
-use Rattle.plain.specs.Library.{◌-◌}
+use Rattle.std.specs.Prelude.{◌-◌}
 use Rattle.validate.proofs.Flattening.{Counted}
 use Rattle.validate.proofs.flat.count_places.Given as goal
 

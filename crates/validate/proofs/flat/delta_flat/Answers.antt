@@ -1,6 +1,7 @@
 -- `validate::flat::delta_flat` meets its contract. The loop's invariant: the edges of the delta before e whose end has no run are linked, and their links marked, none
 -- twice. The measure is the number of edges left.
-use Rattle.plain.specs.Library.{◌+◌, ◌*◌, refl, ◌∙◌, arith}
+use Rattle.std.specs.Prelude.{◌+◌, ◌*◌, refl}
+use Rattle.plain.specs.Library.{◌∙◌, arith}
 use Rattle.plain.proofs.Laws.Booleans.{true_false}
 use Rattle.validate.proofs.Flattening.{marking_start, marking_on, looked_some, delta_done}
 use Rattle.validate.proofs.flat.delta_flat.Goals as goal

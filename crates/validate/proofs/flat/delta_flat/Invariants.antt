@@ -1,6 +1,6 @@
 -- `validate::flat::delta_flat` meets its contract. The loop's invariant: the edges of the delta before e whose end has no run are linked, and their links marked, none
 -- twice. The measure is the number of edges left.
-use Rattle.plain.specs.Library.{◌-◌}
+use Rattle.std.specs.Prelude.{◌-◌}
 use Rattle.shape.specs.Columns.{next_at}
 use Rattle.validate_words.specs.Climbs.{Linked}
 use Rattle.validate.specs.Flat.{at_base}

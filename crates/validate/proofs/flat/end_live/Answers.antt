@@ -1,5 +1,6 @@
 -- `validate::flat::end_live` meets its contract: of two bits that do not descend the second is set where the first is.
-use Rattle.plain.specs.Library.{◌/◌, ◌%◌, ◌^◌, get_or, arith}
+use Rattle.std.specs.Prelude.{◌/◌, ◌%◌, ◌^◌, get_or}
+use Rattle.plain.specs.Library.{arith}
 use Rattle.liveness.specs.Flags.{bit, live_bit}
 use Rattle.shape.specs.Columns.{end_at}
 use Rattle.validate.proofs.Flattening.{bit_above}

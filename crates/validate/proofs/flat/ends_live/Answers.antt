@@ -1,6 +1,7 @@
 -- `validate::flat::ends_live` meets its contract: every node is live, or the loop has looked at every edge. Its invariant: where nothing was found the edges before e
 -- have live ends if they are live. The measure is the number of edges left.
-use Rattle.plain.specs.Library.{◌≤◌, ◌≡◌, sym, ◌∙◌, ⊎_elim, arith}
+use Rattle.std.specs.Prelude.{◌≤◌, ◌≡◌}
+use Rattle.plain.specs.Library.{sym, ◌∙◌, ⊎_elim, arith}
 use Rattle.plain.proofs.Laws.Booleans.{true_false, below_or_not}
 use Rattle.liveness.specs.Laws.Flags.{flag_at}
 use Rattle.validate.proofs.Listing.{all_live}

@@ -1,5 +1,6 @@
 -- `validate::flat::entry_placed` meets its contract: where no test fails the entry is placed.
-use Rattle.plain.specs.Library.{refl, ltb-true}
+use Rattle.std.specs.Prelude.{refl}
+use Rattle.plain.specs.Library.{ltb-true}
 use Rattle.plain.proofs.Laws.Booleans.{true_false}
 use Rattle.validate.proofs.Flattening.{place_tested}
 use Rattle.validate.proofs.flat.entry_placed.Goals as goal

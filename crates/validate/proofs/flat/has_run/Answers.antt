@@ -1,5 +1,6 @@
 -- `validate::flat::has_run` meets its contract: no node has one, or the mark tells.
-use Rattle.plain.specs.Library.{sym, ap, not, eq-eqb}
+use Rattle.std.specs.Prelude.{not}
+use Rattle.plain.specs.Library.{sym, ap, eq-eqb}
 use Rattle.validate.proofs.flat.has_run.Goals as goal
 
 pub returns-then-runless : goal.returns-then-runless

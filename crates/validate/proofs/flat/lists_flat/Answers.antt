@@ -1,5 +1,6 @@
 -- `validate::flat::lists_flat` meets its contract: each refusal promises nothing, and what is left are laws.
-use Rattle.plain.specs.Library.{refl, sym, ◌∙◌, arith}
+use Rattle.std.specs.Prelude.{refl}
+use Rattle.plain.specs.Library.{sym, ◌∙◌, arith}
 use Rattle.plain.proofs.Laws.Booleans.{true_false}
 use Rattle.marks.specs.Laws.Fresh.{clear_map}
 use Rattle.validate.proofs.Listing.{flat_readable, map_long, runs_hold, walks_hold}

@@ -1,5 +1,6 @@
 -- `validate::flat::lists_once` meets its contract: the three passes, one after the other, each on the map that the one before has left.
-use Rattle.plain.specs.Library.{refl, ◌∙◌}
+use Rattle.std.specs.Prelude.{refl}
+use Rattle.plain.specs.Library.{◌∙◌}
 use Rattle.plain.proofs.Laws.Booleans.{true_false}
 use Rattle.validate.proofs.Flattening.{flat_same}
 use Rattle.validate.proofs.Listing.{all_once, lists_runs, flat_clear}

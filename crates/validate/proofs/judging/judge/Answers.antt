@@ -1,6 +1,7 @@
 -- `validate::judging::judge` meets its contract: the sizes, the live bits of nodes and of edges, and then what is left. The payload words that are lent are words of
 -- 32 bits.
-use Rattle.plain.specs.Library.{ℕ, ◌<◌, ◌^◌, ◌≡◌, sym, ◌∙◌, true, get_or, arith}
+use Rattle.std.specs.Prelude.{ℕ, ◌<◌, ◌^◌, ◌≡◌, true, get_or}
+use Rattle.plain.specs.Library.{sym, ◌∙◌, arith}
 use Rattle.plain.proofs.Laws.Booleans.{both_true}
 use Rattle.shape.specs.Shape.{Words, store}
 use Rattle.shape.specs.Rules.{broken, rule_1, live_agrees, rule_2}

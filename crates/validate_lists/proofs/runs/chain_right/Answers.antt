@@ -1,6 +1,7 @@
 -- `validate_lists::runs::chain_right` meets its contract. The loop's invariant: the entries from e on are still to be followed, those before are marked. The measure is
 -- the number of entries left.
-use Rattle.plain.specs.Library.{◌<◌, refl, ◌∙◌, arith, sym}
+use Rattle.std.specs.Prelude.{◌<◌, refl}
+use Rattle.plain.specs.Library.{◌∙◌, arith, sym}
 use Rattle.liveness.specs.Flags.{live_flags}
 use Rattle.marks.specs.Laws.Following.{follow_start, follow_fails, follow_marked, follow_more, follow_done}
 use Rattle.validate_lists.proofs.Running.{entry_below, run_fails, run_away, run_entry, chain_more, chain_none, last_more, last_none}

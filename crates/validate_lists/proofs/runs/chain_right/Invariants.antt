@@ -1,6 +1,6 @@
 -- `validate_lists::runs::chain_right` meets its contract. The loop's invariant: the entries from e on are still to be followed, those before are marked. The measure is
 -- the number of entries left.
-use Rattle.plain.specs.Library.{◌*◌, ◌≡◌}
+use Rattle.std.specs.Prelude.{◌*◌, ◌≡◌}
 use Rattle.liveness.specs.Flags.{live_flags}
 use Rattle.shape.specs.Columns.{cell}
 use Rattle.shape.specs.Chains.{chain}

@@ -1,5 +1,6 @@
 -- `validate_lists::runs::entry_right` meets its contract: the tests one after the other.
-use Rattle.plain.specs.Library.{ap, not, lt-ltb, le-ltb}
+use Rattle.std.specs.Prelude.{not}
+use Rattle.plain.specs.Library.{ap, lt-ltb, le-ltb}
 use Rattle.validate_words.specs.Laws.Passing.{passed}
 use Rattle.validate_lists.specs.Runs.{entry_test}
 use Rattle.validate_lists.proofs.runs.entry_right.Goals as goal

@@ -1,5 +1,5 @@
 -- `validate_lists::runs::node_once` meets its contract: no run; a run, where no more is asked; or strictly, a run with no ring behind it, or both, one after the other.
-use Rattle.plain.specs.Library.{refl}
+use Rattle.std.specs.Prelude.{refl}
 use Rattle.plain.proofs.Laws.Booleans.{true_false}
 use Rattle.liveness.specs.Flags.{live_flags}
 use Rattle.shape.proofs.Laws.Frames.{run_list_unmarked}

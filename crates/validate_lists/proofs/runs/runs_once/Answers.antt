@@ -1,7 +1,8 @@
 -- `validate_lists::runs::runs_once` meets its contract: no node has a run, or the loop has looked at every node. Its invariant, where it is strict: the nodes before x are
 -- right, and only their entries are marked; where it is not: the runs of the nodes from x on decide, the entries of those before are marked. The measure is the number
 -- of nodes left.
-use Rattle.plain.specs.Library.{refl, sym, ◌∙◌, arith}
+use Rattle.std.specs.Prelude.{refl}
+use Rattle.plain.specs.Library.{sym, ◌∙◌, arith}
 use Rattle.plain.proofs.Laws.Booleans.{true_false}
 use Rattle.shape.specs.Rules.{runs_right}
 use Rattle.validate_lists.proofs.Once.{listing_start, listing_on, listing_done, listing_none, runless_right}

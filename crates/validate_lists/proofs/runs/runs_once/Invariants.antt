@@ -1,7 +1,7 @@
 -- `validate_lists::runs::runs_once` meets its contract: no node has a run, or the loop has looked at every node. Its invariant, where it is strict: the nodes before x are
 -- right, and only their entries are marked; where it is not: the runs of the nodes from x on decide, the entries of those before are marked. The measure is the number
 -- of nodes left.
-use Rattle.plain.specs.Library.{◌-◌, ◌≡◌, true, false, length}
+use Rattle.std.specs.Prelude.{◌-◌, ◌≡◌, true, false, length}
 use Rattle.plain.specs.Lists.{distinct, from}
 use Rattle.liveness.specs.Flags.{live_flags}
 use Rattle.marks.specs.Marks.{marked}

@@ -1,5 +1,6 @@
 -- `validate_lists::runs::runs_right` meets its contract: known, or told by the loop on a clear map.
-use Rattle.plain.specs.Library.{ℕ, refl, sym, length-replicate, arith}
+use Rattle.std.specs.Prelude.{ℕ, refl}
+use Rattle.plain.specs.Library.{sym, length-replicate, arith}
 use Rattle.plain.proofs.Laws.Booleans.{true_false}
 use Rattle.marks.specs.Laws.Fresh.{clear_map}
 use Rattle.validate_lists.proofs.runs.runs_right.Goals as goal

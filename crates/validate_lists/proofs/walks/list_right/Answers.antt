@@ -1,6 +1,7 @@
 -- `validate_lists::walks::list_right` meets its contract. The loop's invariant: the listed entries that the cursor has left are still to be followed, those before are
 -- marked. The measure is how many entries are left, listed or not.
-use Rattle.plain.specs.Library.{◌<◌, ◌∙◌, true, length, arith}
+use Rattle.std.specs.Prelude.{◌<◌, true, length}
+use Rattle.plain.specs.Library.{◌∙◌, arith}
 use Rattle.liveness.specs.Flags.{live_flags}
 use Rattle.cursor.specs.Cursor.{listed}
 use Rattle.cursor.specs.Laws.Cursor.{turn, turn_less, step_edge, step_none, step_below}

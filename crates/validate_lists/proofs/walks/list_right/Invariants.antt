@@ -1,6 +1,6 @@
 -- `validate_lists::walks::list_right` meets its contract. The loop's invariant: the listed entries that the cursor has left are still to be followed, those before are
 -- marked. The measure is how many entries are left, listed or not.
-use Rattle.plain.specs.Library.{length, eqb}
+use Rattle.std.specs.Prelude.{length, eqb}
 use Rattle.shape.specs.Columns.{end_at}
 use Rattle.cursor.specs.Cursor.{remaining, listed_left, Ready}
 use Rattle.marks.specs.Laws.Following.{Following}

@@ -1,5 +1,6 @@
 -- `validate_lists::walks::live_marked` meets its contract. The loop's invariant: the slots from e on decide. The measure is the number of slots left.
-use Rattle.plain.specs.Library.{ℕ, ◌/◌, ◌%◌, ◌≤◌, ◌<◌, ◌≡◌, sym, ◌∙◌, true, ⊎_elim, List, get_or, arith, ltb-true, eq-eqb, eqb-true}
+use Rattle.std.specs.Prelude.{ℕ, ◌/◌, ◌%◌, ◌≤◌, ◌<◌, ◌≡◌, true, List, get_or}
+use Rattle.plain.specs.Library.{sym, ◌∙◌, ⊎_elim, arith, ltb-true, eq-eqb, eqb-true}
 use Rattle.plain.proofs.Laws.Booleans.{by_test, below_or_not}
 use Rattle.plain.proofs.Laws.ListLaws.{all_of, member_below}
 use Rattle.liveness.specs.Flags.{bit, live_bit, live_flags}

@@ -1,6 +1,7 @@
 -- `validate_lists::walks::words_within` meets its contract. The loop's invariant: the bits of the words before i are bits of those of the other map. The measure is the number
 -- of words left.
-use Rattle.plain.specs.Library.{◌≤◌, ◌≡◌, refl, ⊎_elim, arith}
+use Rattle.std.specs.Prelude.{◌≤◌, ◌≡◌, refl}
+use Rattle.plain.specs.Library.{⊎_elim, arith}
 use Rattle.plain.proofs.Laws.Booleans.{true_false, below_or_not}
 use Rattle.validate_lists.proofs.Within.{within_and}
 use Rattle.validate_lists.proofs.walks.words_within.Goals as goal

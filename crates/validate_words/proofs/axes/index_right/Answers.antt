@@ -1,5 +1,6 @@
 -- `validate_words::axes::index_right` meets its contract: nothing is read, or the tests one after the other.
-use Rattle.plain.specs.Library.{◌≡◌, sym, ◌∙◌, inl, inr, eq-eqb, ne_eqb}
+use Rattle.std.specs.Prelude.{◌≡◌}
+use Rattle.plain.specs.Library.{sym, ◌∙◌, inl, inr, eq-eqb, ne_eqb}
 use Rattle.shape.specs.Rules.{index_right}
 use Rattle.validate_words.specs.Laws.Passing.{passed}
 use Rattle.validate_words.proofs.Indexing.{unread, index_tests, read}

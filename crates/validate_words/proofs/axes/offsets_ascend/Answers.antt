@@ -1,5 +1,6 @@
 -- `validate_words::axes::offsets_ascend` meets its contract. The loop's invariant: what was found and the offsets from x on decide. The measure is the number of offsets left.
-use Rattle.plain.specs.Library.{sym, ap, ◌∙◌, Bool, ◌&&◌, add-one, arith, lt-leb, le-leb}
+use Rattle.std.specs.Prelude.{Bool, ◌&&◌}
+use Rattle.plain.specs.Library.{sym, ap, ◌∙◌, add-one, arith, lt-leb, le-leb}
 use Rattle.plain.proofs.Laws.Booleans.{and_true, and_false}
 use Rattle.validate_words.specs.Laws.Passing.{rest_first, rest_more, rest_fails, rest_none}
 use Rattle.validate_words.proofs.axes.offsets_ascend.Goals.{then-axis-at, else-axis-at}

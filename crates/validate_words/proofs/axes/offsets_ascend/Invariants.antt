@@ -1,5 +1,5 @@
 -- `validate_words::axes::offsets_ascend` meets its contract. The loop's invariant: what was found and the offsets from x on decide. The measure is the number of offsets left.
-use Rattle.plain.specs.Library.{suc, ◌-◌, ◌≡◌, ◌&&◌, leb}
+use Rattle.std.specs.Prelude.{suc, ◌-◌, ◌≡◌, ◌&&◌, leb}
 use Rattle.plain.specs.Lists.{all, from}
 use Rattle.shape.specs.Columns.{cell}
 use Rattle.validate_words.specs.Laws.Passing.{rest}

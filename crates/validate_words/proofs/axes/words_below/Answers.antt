@@ -1,5 +1,6 @@
 -- `validate_words::axes::words_below` meets its contract. The loop's invariant: what was found and the words from i on decide. The measure is the number of words left.
-use Rattle.plain.specs.Library.{sym, ap, ◌∙◌, Bool, ◌&&◌, arith, lt-ltb, le-ltb}
+use Rattle.std.specs.Prelude.{Bool, ◌&&◌}
+use Rattle.plain.specs.Library.{sym, ap, ◌∙◌, arith, lt-ltb, le-ltb}
 use Rattle.plain.proofs.Laws.Booleans.{and_true, and_false}
 use Rattle.validate_words.specs.Laws.Passing.{rest_first, rest_more, rest_fails, rest_none}
 use Rattle.validate_words.proofs.axes.words_below.Goals.{then-axis-at, else-axis-at}

@@ -1,5 +1,5 @@
 -- `validate_words::axes::words_below` meets its contract. The loop's invariant: what was found and the words from i on decide. The measure is the number of words left.
-use Rattle.plain.specs.Library.{◌-◌, ◌≡◌, ◌&&◌, ltb}
+use Rattle.std.specs.Prelude.{◌-◌, ◌≡◌, ◌&&◌, ltb}
 use Rattle.plain.specs.Lists.{all, from}
 use Rattle.shape.specs.Columns.{cell}
 use Rattle.validate_words.specs.Laws.Passing.{rest}

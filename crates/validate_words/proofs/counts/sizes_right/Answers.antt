@@ -1,5 +1,6 @@
 -- `validate_words::counts::sizes_right` meets its contract: the tests one after the other. The lengths fit, since the capacities are within the limit.
-use Rattle.plain.specs.Library.{◌≤◌, ◌≡◌, refl, sym, ◌∙◌, true, arith, le-leb, lt-leb}
+use Rattle.std.specs.Prelude.{◌≤◌, ◌≡◌, refl, true}
+use Rattle.plain.specs.Library.{sym, ◌∙◌, arith, le-leb, lt-leb}
 use Rattle.plain.specs.Numbers.{LIMIT}
 use Rattle.shape.specs.Rules.{slots_right}
 use Rattle.shape.proofs.Laws.Judging.{slots_sound}

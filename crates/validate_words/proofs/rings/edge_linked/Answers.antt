@@ -1,5 +1,6 @@
 -- `validate_words::rings::edge_linked` meets its contract: where no test fails the edge is linked.
-use Rattle.plain.specs.Library.{refl, ltb-true}
+use Rattle.std.specs.Prelude.{refl}
+use Rattle.plain.specs.Library.{ltb-true}
 use Rattle.plain.proofs.Laws.Booleans.{true_false}
 use Rattle.validate_words.proofs.Climbing.{link_tested}
 use Rattle.validate_words.proofs.rings.edge_linked.Goals as goal

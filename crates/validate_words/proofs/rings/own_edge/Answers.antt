@@ -1,5 +1,6 @@
 -- `validate_words::rings::own_edge` meets its contract: the tests one after the other.
-use Rattle.plain.specs.Library.{refl, le-leb, lt-leb, lt-ltb, le-ltb}
+use Rattle.std.specs.Prelude.{refl}
+use Rattle.plain.specs.Library.{le-leb, lt-leb, lt-ltb, le-ltb}
 use Rattle.validate_words.specs.Laws.Passing.{passed}
 use Rattle.validate_words.specs.Rings.{own_test}
 use Rattle.validate_words.proofs.rings.own_edge.Goals as goal

@@ -1,5 +1,5 @@
 -- `validate_words::rings::ring_count` meets its contract. The loop's invariant: the rings of the nodes before x are counted. The measure is the number of nodes left.
-use Rattle.plain.specs.Library.{◌-◌}
+use Rattle.std.specs.Prelude.{◌-◌}
 use Rattle.plain.specs.Lists.{from, count as count_of}
 use Rattle.validate_words.specs.Climbs.{some_at}
 use Rattle.validate_words.specs.Laws.Passing.{Counting}

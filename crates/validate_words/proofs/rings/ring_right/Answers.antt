@@ -1,5 +1,6 @@
 -- `validate_words::rings::ring_right` meets its contract. The loop's invariant: the entries from e on decide. The measure is the number of steps left.
-use Rattle.plain.specs.Library.{◌*◌, ◌<◌, ◌≡◌, refl, sym, ◌∙◌, true, arith}
+use Rattle.std.specs.Prelude.{◌*◌, ◌<◌, ◌≡◌, refl, true}
+use Rattle.plain.specs.Library.{sym, ◌∙◌, arith}
 use Rattle.shape.specs.Columns.{cell, last_at}
 use Rattle.shape.specs.Rules.{ring_right}
 use Rattle.validate_words.specs.Rings.{own_test}

@@ -1,5 +1,5 @@
 -- `validate_words::rings::ring_right` meets its contract. The loop's invariant: the entries from e on decide. The measure is the number of steps left.
-use Rattle.plain.specs.Library.{◌-◌, ◌*◌, ◌≡◌}
+use Rattle.std.specs.Prelude.{◌-◌, ◌*◌, ◌≡◌}
 use Rattle.shape.specs.Columns.{cell}
 use Rattle.validate_words.specs.Rings.{own_test}
 use Rattle.validate_words.proofs.Ringing.{closes}

@@ -1,6 +1,7 @@
 -- `validate_words::rings::rings_climb` meets its contract. The loop's invariant: the edges of the delta before e climb, and the lasts among them are counted. The measure
 -- is the number of edges left.
-use Rattle.plain.specs.Library.{refl, sym, ◌∙◌, arith, eqb-true}
+use Rattle.std.specs.Prelude.{refl}
+use Rattle.plain.specs.Library.{sym, ◌∙◌, arith, eqb-true}
 use Rattle.plain.proofs.Laws.Booleans.{true_false}
 use Rattle.validate_words.proofs.Climbing.{climbing_start, climbing_on, climbing_done, rings_close}
 use Rattle.validate_words.proofs.rings.rings_climb.Goals as goal

@@ -1,6 +1,6 @@
 -- `validate_words::rings::rings_climb` meets its contract. The loop's invariant: the edges of the delta before e climb, and the lasts among them are counted. The measure
 -- is the number of edges left.
-use Rattle.plain.specs.Library.{◌-◌}
+use Rattle.std.specs.Prelude.{◌-◌}
 use Rattle.validate_words.proofs.Climbing.{Climbing}
 use Rattle.validate_words.proofs.rings.rings_climb.Given as goal
 

@@ -1,5 +1,5 @@
 -- `validate_words::rings::rings_right` meets its contract. The loop's invariant: the nodes from x on decide. The measure is the number of nodes left.
-use Rattle.plain.specs.Library.{◌-◌, ◌≡◌}
+use Rattle.std.specs.Prelude.{◌-◌, ◌≡◌}
 use Rattle.plain.specs.Lists.{all, from}
 use Rattle.shape.specs.Rules.{ring_right}
 use Rattle.validate_words.specs.Laws.Passing.{rest}

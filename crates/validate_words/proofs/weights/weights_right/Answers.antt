@@ -1,6 +1,7 @@
 -- `validate_words::weights::weights_right` meets its contract. The loop's invariant: what was found and the weights from slot e on decide. The measure is the number of
 -- slots left.
-use Rattle.plain.specs.Library.{sym, ap, ◌∙◌, Bool, ◌&&◌, arith, lt-leb, le-leb}
+use Rattle.std.specs.Prelude.{Bool, ◌&&◌}
+use Rattle.plain.specs.Library.{sym, ap, ◌∙◌, arith, lt-leb, le-leb}
 use Rattle.plain.proofs.Laws.Booleans.{and_true, and_false}
 use Rattle.shape.specs.Rules.{weights_right}
 use Rattle.validate_words.specs.Laws.Passing.{rest_first, rest_more, rest_fails, rest_none}

@@ -1,6 +1,6 @@
 -- `validate_words::weights::weights_right` meets its contract. The loop's invariant: what was found and the weights from slot e on decide. The measure is the number of
 -- slots left.
-use Rattle.plain.specs.Library.{◌-◌, ◌≡◌, ◌&&◌, get_or, leb}
+use Rattle.std.specs.Prelude.{◌-◌, ◌≡◌, ◌&&◌, get_or, leb}
 use Rattle.shape.specs.Rules.{weights_right}
 use Rattle.validate_words.specs.Laws.Passing.{rest}
 use Rattle.validate_words.proofs.weights.weights_right.Given as goal

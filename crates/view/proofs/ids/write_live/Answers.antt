@@ -1,5 +1,6 @@
 -- `view::ids::write_live` meets its contract. The loop's invariant is `Listing`, the measure the slots that are left.
-use Rattle.plain.specs.Library.{◌≤◌, arith}
+use Rattle.std.specs.Prelude.{◌≤◌}
+use Rattle.plain.specs.Library.{arith}
 use Rattle.plain.specs.Numbers.{LIMIT}
 use Rattle.liveness.specs.Laws.Flags.{length_flags}
 use Rattle.view.proofs.Listing.{listing_start, listing_room, listing_few, listing_on, listing_later, listing_end}

@@ -1,5 +1,5 @@
 -- `view::ids::write_live` meets its contract. The loop's invariant is `Listing`, the measure the slots that are left.
-use Rattle.plain.specs.Library.{◌-◌}
+use Rattle.std.specs.Prelude.{◌-◌}
 use Rattle.liveness.specs.Flags.{live_flags}
 use Rattle.view.proofs.Listing.{Listing}
 use Rattle.view.proofs.ids.write_live.Given as goal
