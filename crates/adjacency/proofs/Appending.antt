@@ -9,7 +9,8 @@ use Rattle.shape.specs.Chains.{In, Ring}
 use Rattle.shape.specs.Shape.{ring_of}
 use Rattle.shape.specs.Writes.{OfRing}
 use Rattle.shape.proofs.Laws.Chains.{in_snoc, ring_first, ring_more, ring_none, ring_last, ring_below}
-use Rattle.shape.proofs.Laws.Frames.{SameRing, ring_new, ring_others, rings_new}
+use Rattle.shape.specs.Laws.Frames.{SameRing}
+use Rattle.shape.proofs.Laws.Frames.{ring_new, ring_others, rings_new}
 use Rattle.adjacency.specs.Rings.{Appendable, Appended}
 
 module _ {ws : List ℕ} {ce cn nb be node e : ℕ} (pre : Appendable ws ce cn nb be node e) where

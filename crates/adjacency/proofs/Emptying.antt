@@ -9,7 +9,8 @@ use Rattle.shape.specs.Chains.{Ring}
 use Rattle.shape.specs.Shape.{ring_of}
 use Rattle.shape.specs.Checked.{Rings, Runs}
 use Rattle.shape.proofs.Laws.Chains.{in_none, ring_below}
-use Rattle.shape.proofs.Laws.Frames.{SameRun, SameRing, ring_of_none, run_of_agree, run_of_unmarked, run_list_below, runs_agree, ring_others, rings_new}
+use Rattle.shape.specs.Laws.Frames.{SameRun, SameRing}
+use Rattle.shape.proofs.Laws.Frames.{ring_of_none, run_of_agree, run_of_unmarked, run_list_below, runs_agree, ring_others, rings_new}
 use Rattle.adjacency.specs.Rings.{Openable, Opened, Detachable, Detached}
 
 -- the node's last edge is NONE, and the words up to the last edges of the nodes below nb' are otherwise as they were

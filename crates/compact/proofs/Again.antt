@@ -17,7 +17,8 @@ use Rattle.plain.specs.declared.TraversalDirection.TheVariants.{Outgoing, Incomi
 use Rattle.plain.specs.Compaction.{survivors, of_survivors, compacted}
 use Rattle.plain.specs.Lists.{joined, from, written}
 use Rattle.plain.specs.Plain.{Plain, list_of}
-use Rattle.plain.proofs.Laws.AllLive.{AllLive, live_slot, own_rank, compacted_same}
+use Rattle.plain.specs.Laws.AllLive.{AllLive}
+use Rattle.plain.proofs.Laws.AllLive.{live_slot, own_rank, compacted_same}
 use Rattle.plain.proofs.Laws.ListLaws.{get_d_map, length_from, get_or_from}
 use Rattle.liveness.specs.Calls.{all_live}
 use Rattle.liveness.specs.Flags.{live_flags}

@@ -17,13 +17,14 @@ use Rattle.shape.specs.Columns.{Sized, end_at}
 use Rattle.shape.specs.Index.{Rewritten, ends_of}
 use Rattle.shape.specs.Kept.{AxisRenewed, Renewed, same_nodes, same_edges, same_highs, same_live_nodes, same_live_edges, same_axis}
 use Rattle.shape.specs.Shape.{Words, node_live, edge_live, axis_words, lists, node_capacity, edge_capacity}
-use Rattle.shape.proofs.Laws.NewBase.{NewBase}
+use Rattle.shape.specs.Laws.NewBase.{NewBase}
 use Rattle.compact.specs.Bases.{based, Compactable, AxisCompacted}
 use Rattle.compact.specs.Dropping.{Droppable, Dropped}
 use Rattle.survivors.specs.Slots.{kept_word, live_words_of}
 use Rattle.compact.specs.Laws.Bases.{rebuilt_base, rebuilt_renewed}
 use Rattle.compact.specs.Laws.Holding.{front, Holding, reset_same, reset_word, sized_as}
-use Rattle.survivors.proofs.Laws.Left.{end_in, left_sound, left_nodes, left_edges, nodes_left, lows_left, highs_left, ends_left}
+use Rattle.survivors.specs.Laws.Left.{end_in}
+use Rattle.survivors.proofs.Laws.Left.{left_sound, left_nodes, left_edges, nodes_left, lows_left, highs_left, ends_left}
 use Rattle.survivors.proofs.Laws.Slots.{live_few}
 use Rattle.compact.proofs.Bases.{rebuildable}
 use Rattle.compact.proofs.Dropping.{axis_compactable, first_half, drop_room}

@@ -10,7 +10,8 @@ use Rattle.shape.specs.Columns.{mark_at}
 use Rattle.shape.specs.Fields.{SameFields}
 use Rattle.shape.specs.Kept.{SameLengths, same_nodes, same_edges}
 use Rattle.shape.specs.Shape.{Words, node_capacity, edge_capacity, axis_words, shape_of}
-use Rattle.shape.proofs.Laws.Agreeing.{Narrow, counts_same, shape_fields, kept_both}
+use Rattle.shape.specs.Laws.Agreeing.{Narrow}
+use Rattle.shape.proofs.Laws.Agreeing.{counts_same, shape_fields, kept_both}
 use Rattle.compact.specs.Calls.{Canonical, CompactOf}
 
 -- the live words of a canonical store have 64 bits

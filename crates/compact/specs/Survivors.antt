@@ -2,7 +2,7 @@
 use Rattle.std.specs.Prelude.{map, length}
 use Rattle.plain.specs.Compaction.{Survivors, kept_edge, kept_node, source_of, target_of}
 use Rattle.shape.specs.Shape.{Shape}
-use Rattle.shape.proofs.Laws.NewBase.{in_base}
+use Rattle.shape.specs.Laws.NewBase.{in_base}
 
 -- the shape of survivors: "the bounds being its two counts", every slot live, no ring, no run
 unfoldable pub shape_of_survivors : Survivors → Shape

@@ -11,11 +11,14 @@ use Rattle.plain.specs.Bits.{field_at, fields_at, bytes_for, least_width}
 use Rattle.plain.specs.Image.{weight_width, nodes_in, edges_in, edges_start, outs_start, image_size, record_width, cut, list_lengths, parsed, lists_right, broken_image}
 use Rattle.plain.proofs.Laws.Booleans.{by_test, true_false}
 use Rattle.plain.proofs.Laws.ListLaws.{all_member, map_same, member_first, member_later, member_below}
-use Rattle.plain.proofs.Laws.Below.{Below, below_of}
+use Rattle.plain.specs.Laws.Below.{Below}
+use Rattle.plain.proofs.Laws.Below.{below_of}
 use Rattle.plain.proofs.Laws.Bits.{length_fields_at}
 use Rattle.plain.proofs.Laws.Width.{width_most}
-use Rattle.plain.proofs.Laws.Ascending.{ascending, right_by_order}
-use Rattle.plain.proofs.Laws.Refusals.{Counted, Sized, Padded, Ended, sources_in, targets_in, lows_in, highs_in, size_in, padding_in, length_edges_in, refused_3, refused_4, refused_5, refused_6, accepted}
+use Rattle.plain.specs.Laws.Ascending.{ascending}
+use Rattle.plain.proofs.Laws.Ascending.{right_by_order}
+use Rattle.plain.specs.Laws.Refusals.{Counted, Sized, Padded, Ended, sources_in, targets_in, lows_in, highs_in, size_in, padding_in}
+use Rattle.plain.proofs.Laws.Refusals.{length_edges_in, refused_3, refused_4, refused_5, refused_6, accepted}
 use Rattle.image_check.specs.Laws.Spread.{spread_at, sources_spread, targets_spread, lows_spread, highs_spread}
 use Rattle.image_check.specs.Checks.{field_in, end_in, ends_within, weights_ordered, ordered, Few, Filled, Column, Ends, Weights, Entries, Whole}
 

@@ -5,7 +5,7 @@ use native.Mathlib.Nat.{sub-zero}
 use Rattle.plain.specs.Lists.{distinct, all}
 use Rattle.plain.specs.Bits.{field_at, fields_at}
 use Rattle.plain.proofs.Laws.Booleans.{and_false}
-use Rattle.plain.proofs.Laws.Ascending.{ascending}
+use Rattle.plain.specs.Laws.Ascending.{ascending}
 use Rattle.marks.specs.Marks.{marked, Marked, passes}
 use Rattle.marks.specs.Laws.Fresh.{clear_map, fresh_clear, passes_none, passes_fails, passes_marked, passes_more}
 use Rattle.image_check.specs.Checks.{end_in, ordered}

@@ -5,8 +5,8 @@ use Rattle.plain.specs.Numbers.{LIMIT}
 use Rattle.plain.specs.Lists.{all, distinct, from}
 use Rattle.plain.specs.Bits.{field_at, bytes_for}
 use Rattle.plain.specs.Image.{nodes_in, edges_in, weight_width, record_width}
-use Rattle.plain.proofs.Laws.Refusals.{Sized}
-use Rattle.plain.proofs.Laws.Ascending.{ascending}
+use Rattle.plain.specs.Laws.Refusals.{Sized}
+use Rattle.plain.specs.Laws.Ascending.{ascending}
 
 -- a field of the record of edge e, of `width` bits, where that of the first edge stands at bit `at`; w is the width of a node's number
 abbrev pub field_in : List ℕ → ℕ → ℕ → ℕ → ℕ → ℕ

@@ -11,7 +11,7 @@ use Rattle.plain.specs.WellFormed.{Fitted}
 use Rattle.plain.proofs.Laws.Bits.{length_fields_at}
 use Rattle.shape.specs.Index.{Rewritten, before, ends_of}
 use Rattle.shape.proofs.Laws.Indexing.{rewritten_as}
-use Rattle.shape.proofs.Laws.NewBase.{NewBase}
+use Rattle.shape.specs.Laws.NewBase.{NewBase}
 use Rattle.compact.specs.Bases.{Rebuildable, Rebuilt}
 use Rattle.compact.specs.Laws.Bases.{rebuilt_base}
 use Rattle.survivors.proofs.Laws.Slots.{rewritten_range}

@@ -15,13 +15,14 @@ use Rattle.plain.proofs.Laws.Bits.{length_fields_at}
 use Rattle.plain.proofs.Laws.Below.{below_of}
 use Rattle.plain.proofs.Laws.Cutting.{joined_cut, sum_list_lengths}
 use Rattle.plain.proofs.Laws.Width.{width_most}
-use Rattle.plain.proofs.Laws.Refusals.{Counted, Readable, readable, length_edges_in}
+use Rattle.plain.specs.Laws.Refusals.{Counted, Readable}
+use Rattle.plain.proofs.Laws.Refusals.{readable, length_edges_in}
 use Rattle.plain.proofs.Laws.ImageLaws.{nodes_length, edges_length, parsed_sound}
 use Rattle.liveness.specs.Calls.{Reset}
 use Rattle.shape.specs.Columns.{Sized}
 use Rattle.shape.specs.Shape.{Words, node_capacity, edge_capacity, lengths_of, axis_words as words_of}
 use Rattle.shape.specs.Kept.{AxisRenewed, Renewed, same_nodes, same_edges, same_highs, same_live_nodes, same_live_edges, same_axis}
-use Rattle.shape.proofs.Laws.NewBase.{NewBase}
+use Rattle.shape.specs.Laws.NewBase.{NewBase}
 use Rattle.survivors.proofs.Laws.Slots.{rewritten_range}
 use Rattle.compact.specs.Laws.Bases.{rebuilt_renewed}
 use Rattle.compact.specs.Bases.{based}

@@ -14,7 +14,7 @@ use Rattle.plain.specs.Compaction.{Survivors, rank, survivors, surviving_edge, s
 use Rattle.plain.specs.Bits.{bits_of, row, padding, bytes_for, least_width}
 use Rattle.plain.specs.Image.{edge_bits, image_bits, image, record_width, nodes_start, edges_start, outs_start, image_size, node_payload_width}
 use Rattle.plain.specs.WellFormed.{Sound}
-use Rattle.plain.proofs.Laws.Below.{Below}
+use Rattle.plain.specs.Laws.Below.{Below}
 use Rattle.plain.proofs.Laws.Bits.{length_bits_of, length_row, row_append}
 use Rattle.plain.proofs.Laws.ListLaws.{map_same, member_at}
 use Rattle.plain.proofs.Laws.Rank.{live_below, length_live_slots, member_live_slots}

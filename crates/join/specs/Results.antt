@@ -14,7 +14,8 @@ use Rattle.plain.specs.Plain.{Plain, node_flags, edge_flags, list_of}
 use Rattle.plain.specs.Reads.{live_nodes, live_edges}
 use Rattle.plain.specs.Step.{State}
 use Rattle.plain.proofs.Laws.Compacting.{length_surviving_nodes, length_surviving_edges}
-use Rattle.plain.proofs.Laws.Joining.{survivors_joined, first_book, second_book, joined_associative, no_survivors, joined_with_none, none_joined_with, first_maps_compacted, second_maps_compacted}
+use Rattle.plain.specs.Laws.Joining.{no_survivors}
+use Rattle.plain.proofs.Laws.Joining.{survivors_joined, first_book, second_book, joined_associative, joined_with_none, none_joined_with, first_maps_compacted, second_maps_compacted}
 use Rattle.shape.specs.Checked.{Checked}
 use Rattle.shape.specs.Rules.{broken}
 use Rattle.shape.specs.Shape.{Words, capacities, shape_of, lists, lengths_of}

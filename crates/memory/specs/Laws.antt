@@ -8,7 +8,8 @@ use Rattle.plain.specs.Memory.{Slice, Lengths, first_short, live_words, axis_len
 use Rattle.plain.specs.Devices.{Device, Takes, Proper}
 use Rattle.plain.specs.Calls.{short_answer, within, fresh, readable, reading_slices, asked, reading, read_image}
 use Rattle.plain.proofs.Laws.Booleans.{by_test, below_or_not}
-use Rattle.plain.proofs.Laws.CallCases.{LongEnough, slice_fits, no_slice, one_short, long_or_short, nodes_above, edges_above, within_limits}
+use Rattle.plain.specs.Laws.CallCases.{LongEnough, slice_fits, no_slice}
+use Rattle.plain.proofs.Laws.CallCases.{one_short, long_or_short, nodes_above, edges_above, within_limits}
 use Rattle.memory.specs.Lengths.{lacking}
 
 -- ---- on the way to the answer

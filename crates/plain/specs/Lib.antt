@@ -16,3 +16,5 @@ pub mod Calls
 pub mod Joining
 pub mod Lotstrip
 pub mod History
+pub mod Examples
+pub mod Laws

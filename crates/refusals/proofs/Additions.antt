@@ -7,13 +7,14 @@ use Rattle.plain.specs.declared.Operation.TheVariants.{AddNode, AddEdge, RemoveE
 use Rattle.plain.specs.Numbers.{NONE}
 use Rattle.plain.specs.Plain.{Plain}
 use Rattle.plain.specs.Step.{payload_fault, changed, unchanged}
-use Rattle.plain.proofs.Laws.Cases.{Absent, Removed, Live, Case, add_node_full, add_node, add_edge_inverted, add_edge_source_absent, add_edge_source_removed, add_edge_target_absent, add_edge_target_removed, add_edge_full, add_edge, remove_edge_absent, remove_edge_removed, remove_edge, remove_node_absent, remove_node_removed, remove_node, set_payload_inverted, set_payload_absent, set_payload}
+use Rattle.plain.specs.Laws.Cases.{Absent, Removed, Live, Case, add_node_full, add_node, add_edge_inverted, add_edge_source_absent, add_edge_source_removed, add_edge_target_absent, add_edge_target_removed, add_edge_full, add_edge, remove_edge_absent, remove_edge_removed, remove_edge, remove_node_absent, remove_node_removed, remove_node, set_payload_inverted, set_payload_absent, set_payload}
 use Rattle.plain.proofs.Laws.Booleans.{by_test, below_or_not}
 use Rattle.liveness.specs.Faults.{fault_of}
 use Rattle.shape.specs.Shape.{Words, capacities, node_capacity, edge_capacity, node_live, lists}
 use Rattle.shape.specs.Checked.{Checked}
 use Rattle.shape.specs.Steps.{acts}
-use Rattle.shape.proofs.Laws.Slots.{Told, nodes_told, edges_told, node_bound_of, edge_bound_of, absent_slot, live_slot, removed_slot}
+use Rattle.shape.specs.Laws.Slots.{Told}
+use Rattle.shape.proofs.Laws.Slots.{nodes_told, edges_told, node_bound_of, edge_bound_of, absent_slot, live_slot, removed_slot}
 use Rattle.store.specs.Operations.{Acted, Removing, RemovedEdge, RemovedNode}
 use Rattle.refusals.specs.Step.{StepOf}
 use Rattle.refusals.proofs.Told.{told_fault, told_inverted}

@@ -6,7 +6,7 @@ use Rattle.plain.specs.declared.Operation.TheVariants.{Redirect, Move}
 use Rattle.plain.specs.Numbers.{NONE}
 use Rattle.plain.specs.Plain.{end_of, list_of}
 use Rattle.plain.proofs.Laws.Booleans.{by_test}
-use Rattle.plain.proofs.Laws.Cases.{redirect_edge_absent, redirect_edge_removed, redirect_node_absent, redirect_node_removed, redirect_same, redirect, move_onto_itself, move_old_absent, move_nothing, move_new_absent, move_new_removed, move}
+use Rattle.plain.specs.Laws.Cases.{redirect_edge_absent, redirect_edge_removed, redirect_node_absent, redirect_node_removed, redirect_same, redirect, move_onto_itself, move_old_absent, move_nothing, move_new_absent, move_new_removed, move}
 use Rattle.plain.proofs.Laws.ListLaws.{no_entries}
 use Rattle.plain.proofs.Laws.Rank.{live_below}
 use Rattle.liveness.specs.Laws.Flags.{length_flags}

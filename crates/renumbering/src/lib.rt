@@ -41,7 +41,7 @@ fn translate_again(second: &[u32], slot: u32) -> u32
     translate(second, slot)
 }
 
-// The first map and then the second, into `result`, which has to be as long as the first.
+// The first map and then the second, into `res`, which has to be as long as the first.
 pub fn compose(first: &[u32], second: &[u32], res: &mut [u32]) -> Answer
     ensures { Compose first.now second.now res.old result res.new }
 {

@@ -74,7 +74,7 @@ fn put_operation(words: &mut [u32], at: usize, operation: Call)
     words[at + 4] = operation.fourth;
 }
 
-// Reads the operations of a strip, a line each, to the start of `words`; what is left of a shorter input is 0.
+// Reads the operations of a strip, a line each, to the start of `words`; what is left of a shorter input is 0 but the code, which is `END`.
 pub fn read_operations(rt: &impl Input, words: &mut [u32], lines: u32) -> io::Result<()> {
     let mut left = lines;
     let mut at: usize = 0;

@@ -1,4 +1,4 @@
-// Recorded calls: how they are read from standard input, and how an answer is printed. For the program replay_main and the two crates with its calls.
+// Recorded calls: how they are read from standard input, and how an answer is printed. For the program replay_main and the three crates with its calls.
 
 #![tactic(auto)]
 

@@ -1,5 +1,5 @@
 // Replays recorded calls: reads them from standard input, a call a line, and prints each answer on a line. The file stdout beside src has the answers of the Rust,
-// so that a changed answer fails the check. oracle/README.md tells how both files are made.
+// so that a changed answer fails the gate. oracle/README.md tells how both files are made.
 //
 // A line is five words of eight hexadecimal digits, separated by a space: the kind of call and its arguments. Kinds: 0 fresh (node and edge capacity), 1 strip (words,
 // words lent for the answers, lines that follow: the five words of an operation each), 2 and 3 walk out and in (node, words lent), 4 and 5 live nodes and edges

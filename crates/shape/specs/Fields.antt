@@ -1,8 +1,8 @@
 -- The fields of a store, and what is no field. "A field is a count of the record or a word of the store's own memory (no map, work or answer word) whose content
 -- can change an answer of the check or of a read of the store." `Field` names the words of a checked store that the shape and the rules read; every other word is
 -- `NoField`, and of those `StripLeaves` and `RenewalLeaves` say which a call leaves as they were and which it leaves to the program. That no other word is read is
--- `fields_shape` of Laws.Fields. That no field is left to the program, so that two outcomes of one call have `SameFields`, is Agreeing of crates strip, compact and
--- image, from Laws.Agreeing.
+-- `fields_shape` of Laws.Fields. That no field is left to the program, so that two outcomes of one call have `SameFields`, is Agreeing of crates strip, compact, join
+-- and image_read, from Laws.Agreeing.
 use Rattle.std.specs.Prelude.{ℕ, ◌+◌, ◌*◌, ◌≤◌, ◌<◌, ◌≡◌, ◌⊎◌, ◌≢◌, List, length, get_or}
 use Rattle.plain.specs.declared.TraversalDirection.{TraversalDirection}
 use Rattle.plain.specs.declared.Counts.{Counts}

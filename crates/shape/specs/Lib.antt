@@ -10,3 +10,4 @@ pub mod Kept
 pub mod Fields
 pub mod Writes
 mod Examples
+pub mod Laws

@@ -1,3 +1,3 @@
-// The store's memory read as lists: no code, definitions and their laws alone. They stand in specs/, where every crate that touches the words cites them.
+// The store's memory read as lists: no code. The definitions stand in specs/, where every crate that touches the words cites them, their laws in proofs/Laws.
 
 #![tactic(auto)]

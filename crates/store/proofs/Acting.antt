@@ -7,7 +7,7 @@ use Rattle.plain.specs.declared.Counts.{Counts}
 use Rattle.plain.specs.Step.{Outcome, step}
 use Rattle.plain.specs.WellFormed.{WellFormed}
 use Rattle.plain.proofs.Laws.Rank.{live_count_removed, live_count_pushed}
-use Rattle.plain.proofs.Laws.Stepping.{Fitting}
+use Rattle.plain.specs.Laws.Stepping.{Fitting}
 use Rattle.liveness.specs.Flags.{live_flags}
 use Rattle.liveness.specs.Laws.Flags.{count_le}
 use Rattle.liveness.specs.Calls.{Pushed, Cleared}

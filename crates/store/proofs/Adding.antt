@@ -7,7 +7,8 @@ use Rattle.plain.specs.declared.EdgePayload.{EdgePayload}
 use Rattle.plain.specs.declared.Operation.TheVariants.{AddNode, AddEdge}
 use Rattle.plain.specs.Plain.{node_added, edge_added}
 use Rattle.plain.specs.Step.{changed, step}
-use Rattle.plain.proofs.Laws.Cases.{comes_to, add_node, add_edge}
+use Rattle.plain.specs.Laws.Cases.{add_node, add_edge}
+use Rattle.plain.proofs.Laws.Cases.{comes_to}
 use Rattle.plain.proofs.Laws.Rank.{live_below}
 use Rattle.liveness.specs.Calls.{Pushed}
 use Rattle.liveness.specs.Laws.Flags.{length_flags}

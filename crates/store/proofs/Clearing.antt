@@ -8,7 +8,8 @@ use Rattle.plain.specs.Numbers.{LIMIT}
 use Rattle.plain.specs.Lists.{from}
 use Rattle.plain.specs.Plain.{NodeSlot, killed_node, no_node, list_of}
 use Rattle.plain.proofs.Laws.Booleans.{by_test, true_false}
-use Rattle.plain.proofs.Laws.Cases.{comes_to, remove_node}
+use Rattle.plain.specs.Laws.Cases.{remove_node}
+use Rattle.plain.proofs.Laws.Cases.{comes_to}
 use Rattle.plain.proofs.Laws.Deleting.{get_d_set}
 use Rattle.plain.proofs.Laws.Rank.{live_below}
 use Rattle.liveness.specs.Calls.{Cleared}

@@ -10,7 +10,8 @@ use Rattle.plain.specs.Lists.{from}
 use Rattle.plain.specs.Plain.{EdgeSlot, killed_edge, no_edge, edge_flags, edge_removed, payload_set}
 use Rattle.plain.specs.Step.{changed, unchanged, step}
 use Rattle.plain.proofs.Laws.Booleans.{by_test, true_false}
-use Rattle.plain.proofs.Laws.Cases.{Slot, absent, removed, live, slot, comes_to, remove_edge_absent, remove_edge_removed, remove_edge, set_payload}
+use Rattle.plain.specs.Laws.Cases.{Slot, absent, removed, live, remove_edge_absent, remove_edge_removed, remove_edge, set_payload}
+use Rattle.plain.proofs.Laws.Cases.{slot, comes_to}
 use Rattle.plain.proofs.Laws.Deleting.{get_d_set}
 use Rattle.plain.proofs.Laws.Rank.{live_below}
 use Rattle.liveness.specs.Calls.{Cleared}

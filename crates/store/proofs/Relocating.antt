@@ -8,10 +8,11 @@ use Rattle.plain.specs.declared.Operation.TheVariants.{Redirect, Move}
 use Rattle.plain.specs.Plain.{list_of, end_of}
 use Rattle.plain.specs.Step.{Outcome, step}
 use Rattle.plain.proofs.Laws.Booleans.{by_test, true_false}
-use Rattle.plain.proofs.Laws.Cases.{comes_to, redirect, move}
+use Rattle.plain.specs.Laws.Cases.{redirect, move}
+use Rattle.plain.proofs.Laws.Cases.{comes_to}
 use Rattle.plain.proofs.Laws.ListLaws.{no_entries}
 use Rattle.plain.proofs.Laws.Rank.{live_below}
-use Rattle.plain.proofs.Laws.Stepping.{Fitting}
+use Rattle.plain.specs.Laws.Stepping.{Fitting}
 use Rattle.liveness.specs.Laws.Flags.{length_flags}
 use Rattle.shape.specs.Columns.{end_at}
 use Rattle.shape.specs.Chains.{In}

@@ -4,7 +4,8 @@ use Rattle.plain.specs.Library.{sym, ◌∙◌, eqb-true, eqb-false}
 use Rattle.plain.proofs.Laws.Booleans.{by_test}
 use Rattle.shape.specs.Shape.{Words}
 use Rattle.shape.specs.Fields.{SameFields}
-use Rattle.shape.proofs.Laws.Agreeing.{Narrow, kept_fields, kept_both}
+use Rattle.shape.specs.Laws.Agreeing.{Narrow}
+use Rattle.shape.proofs.Laws.Agreeing.{kept_fields, kept_both}
 use Rattle.strip.specs.Strip.{StripOf}
 
 -- A refused strip leaves every word; of one that is done the shape is fixed, and each mark, by what it was and whether the node has a run. That live words are

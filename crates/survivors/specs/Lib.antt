@@ -1,3 +1,4 @@
 pub mod Slots
 pub mod Lists
 pub mod Working
+pub mod Laws

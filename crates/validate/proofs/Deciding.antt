@@ -13,7 +13,8 @@ use Rattle.shape.specs.Shape.{Words, node_capacity, edge_capacity, node_live, ed
 use Rattle.plain.proofs.Laws.Booleans.{and_left, and_right}
 use Rattle.shape.specs.Rules.{both_axes, ends_right, weights_right, index_right, ring_right, walks_right, rule_1, rule_2, rule_3, rule_4, rule_5, rule_6, broken}
 use Rattle.shape.proofs.Laws.Checking.{all_below, ring_sound, ring_own, index_sound}
-use Rattle.shape.proofs.Laws.Judging.{Structured, SlotsRight, unbroken_checked, sizes_sound, nodes_live_sound, edges_live_sound, axis_sound}
+use Rattle.shape.specs.Laws.Judging.{Structured, SlotsRight}
+use Rattle.shape.proofs.Laws.Judging.{unbroken_checked, sizes_sound, nodes_live_sound, edges_live_sound, axis_sound}
 use Rattle.shape.proofs.Laws.Reading.{plain_node_bound, plain_edge_bound, plain_node_flags, plain_edge_flags, plain_end}
 use Rattle.adjacency.specs.Walk.{Walkable}
 use Rattle.adjacency.specs.Laws.Walk.{walk_below}

@@ -8,7 +8,8 @@ use Rattle.plain.specs.Reads.{answered, yes_or_no, live_count, node_bound_answer
 use Rattle.liveness.specs.Flags.{live_flags}
 use Rattle.shape.specs.Shape.{Words, lists}
 use Rattle.shape.specs.Checked.{SlotsChecked, Checked}
-use Rattle.shape.proofs.Laws.Slots.{Told, nodes_told, edges_told, node_bound_of, edge_bound_of}
+use Rattle.shape.specs.Laws.Slots.{Told}
+use Rattle.shape.proofs.Laws.Slots.{nodes_told, edges_told, node_bound_of, edge_bound_of}
 use Rattle.validate.specs.Judging.{Judged, refusal}
 use Rattle.view.specs.Calls.{Answered}
 use Rattle.view.specs.Laws.Calls.{answer_refuses, answer_done}

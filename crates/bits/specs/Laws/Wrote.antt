@@ -4,7 +4,8 @@ use Rattle.plain.specs.Library.{sym, ap, ap₂, ◌∙◌, length-append, take_a
 use Rattle.std.proofs.Common.{length-take, take-append-drop, drop_at}
 use Rattle.plain.specs.Lists.{written}
 use Rattle.plain.specs.Bits.{bits_of, bits, bytes_for, padding, pack}
-use Rattle.plain.proofs.Laws.Below.{Below, below_append, below_drop}
+use Rattle.plain.specs.Laws.Below.{Below}
+use Rattle.plain.proofs.Laws.Below.{below_append, below_drop}
 use Rattle.plain.proofs.Laws.Bits.{length_bits_of, length_bits, bits_append, bits_injective}
 use Rattle.plain.proofs.Laws.Packing.{length_pack, below_pack, bits_pack}
 use Rattle.bits.specs.Wrote.{Wrote}

@@ -8,7 +8,8 @@ use Rattle.shape.specs.Columns.{cell}
 use Rattle.shape.specs.Index.{ends_of}
 use Rattle.shape.specs.Kept.{AxisRenewed}
 use Rattle.shape.proofs.Laws.Indexing.{ends_same, length_ends, map_from_same}
-use Rattle.shape.proofs.Laws.NewBase.{NewBase, built_by}
+use Rattle.shape.specs.Laws.NewBase.{NewBase}
+use Rattle.shape.proofs.Laws.NewBase.{built_by}
 use Rattle.compact.specs.Bases.{Rebuildable, Rebuilt}
 
 -- ---- the axis afterwards

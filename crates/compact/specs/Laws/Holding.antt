@@ -27,7 +27,7 @@ use Rattle.plain.specs.WellFormed.{Sound, WellFormed}
 use Rattle.plain.proofs.Laws.Booleans.{by_test}
 use Rattle.plain.proofs.Laws.Compacting.{of_survivors_well_formed}
 use Rattle.plain.proofs.Laws.Fitting.{fitted_many}
-use Rattle.plain.proofs.Laws.ImageBits.{record_high, record_low}
+use Rattle.plain.specs.Laws.ImageBits.{record_high, record_low}
 use Rattle.plain.proofs.Laws.ListLaws.{map_get_or, map_same, member_below}
 use Rattle.plain.proofs.Laws.Rank.{live_all_live, live_count_all_live}
 use Rattle.liveness.specs.Calls.{Reset, all_live}
@@ -40,7 +40,8 @@ use Rattle.shape.specs.Kept.{Renewed, SameLengths}
 use Rattle.shape.specs.Shape.{Words, axis_words, capacities, edge_capacity, edge_live, edge_payload_at, lists, node_capacity, node_live, plain_of, shape_of}
 use Rattle.shape.specs.Steps.{state_of}
 use Rattle.shape.proofs.Laws.Indexing.{before_zero}
-use Rattle.shape.proofs.Laws.NewBase.{NewBase, new_axis, new_checked}
+use Rattle.shape.specs.Laws.NewBase.{NewBase}
+use Rattle.shape.proofs.Laws.NewBase.{new_axis, new_checked}
 use Rattle.shape.proofs.Laws.NoFields.{renewed_leaves}
 use Rattle.shape.proofs.Laws.Shapes.{shape_ext}
 use Rattle.compact.specs.Survivors.{shape_of_survivors}

@@ -12,7 +12,7 @@ use Rattle.plain.proofs.Laws.ListLaws.{map_get_or, map_same, member_below}
 use Rattle.plain.proofs.Laws.Rank.{live_all_live}
 use Rattle.shape.specs.Shape.{has_run, is_compact, live_in, no_adjacency, plain_of, walk_of, walks_of}
 use Rattle.shape.specs.Steps.{state_of}
-use Rattle.shape.proofs.Laws.NewBase.{in_base}
+use Rattle.shape.specs.Laws.NewBase.{in_base}
 use Rattle.shape.proofs.Laws.Taking.{keep_passing}
 use Rattle.compact.specs.Survivors.{shape_of_survivors}
 

@@ -11,9 +11,11 @@ use Rattle.plain.specs.Devices.{Device, box, Takes}
 use Rattle.plain.specs.Calls.{strip, short_answer, within, readable, compaction_slices, compaction, asked, reading, read_image}
 use Rattle.plain.specs.History.{Call, Strip, Compaction, Reading, call}
 use Rattle.plain.proofs.Laws.Booleans.{by_test}
-use Rattle.plain.proofs.Laws.CallCases.{LongEnough, FirstShort, no_slice, slice_fits, short_here, short_later, all_long, long_or_short, compaction_short, compaction_done as compaction_fits}
+use Rattle.plain.specs.Laws.CallCases.{LongEnough, FirstShort, no_slice, slice_fits, short_here, short_later}
+use Rattle.plain.proofs.Laws.CallCases.{all_long, long_or_short, compaction_short, compaction_done as compaction_fits}
 use Rattle.plain.proofs.Laws.Devices.{image_taken}
-use Rattle.plain.proofs.Laws.Histories.{ReadCase, unreadable, many_nodes, many_edges, read_too_short, read_fits, read_case}
+use Rattle.plain.specs.Laws.Histories.{ReadCase, unreadable, many_nodes, many_edges, read_too_short, read_fits}
+use Rattle.plain.proofs.Laws.Histories.{read_case}
 use Rattle.shape.specs.Shape.{Words, lengths_of}
 use Rattle.shape.specs.Checked.{Checked}
 use Rattle.histories.specs.Follows.{CanAnswer, strip_done, strip_ragged, strip_short, compaction_done, compaction_nodes, compaction_edges, compaction_work, reading_done, reading_broken, reading_many_nodes, reading_many_edges, reading_nodes, reading_edges}

@@ -9,7 +9,8 @@ use Rattle.plain.specs.Memory.{exact}
 use Rattle.plain.specs.Devices.{Device, box, Takes, Proper}
 use Rattle.plain.specs.Calls.{Stripped, strip, judged_strip, Compacted, compaction, judged_compaction, read_image, read_state}
 use Rattle.plain.specs.History.{Call, Strip, Compaction, Reading, call, called_from, history_from}
-use Rattle.plain.proofs.Laws.Histories.{Within, call_refused}
+use Rattle.plain.specs.Laws.Histories.{Within}
+use Rattle.plain.proofs.Laws.Histories.{call_refused}
 use Rattle.shape.specs.Shape.{Words, capacities, lengths_of, shape_of}
 use Rattle.shape.specs.Checked.{Checked}
 use Rattle.shape.specs.Kept.{same_capacities}

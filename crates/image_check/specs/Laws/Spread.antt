@@ -7,7 +7,7 @@ use Rattle.plain.specs.Bits.{field_at, fields_at}
 use Rattle.plain.specs.Compaction.{EdgeRecord, source_of, target_of}
 use Rattle.plain.specs.Image.{weight_width, payload_at, record_width, records_at}
 use Rattle.plain.proofs.Laws.ListLaws.{length_from, get_or_from, get_d_map, from_suc}
-use Rattle.plain.proofs.Laws.ImageBits.{record_low, record_high}
+use Rattle.plain.specs.Laws.ImageBits.{record_low, record_high}
 use Rattle.shape.proofs.Laws.Indexing.{map_from_same}
 use Rattle.bits.specs.Fields.{Room}
 use Rattle.image_check.specs.Spread.{spread, SpreadFits}

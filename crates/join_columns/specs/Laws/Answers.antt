@@ -8,7 +8,8 @@ use Rattle.plain.specs.Joining.{MapRooms, Sizes, join_answer, map_slices}
 use Rattle.plain.specs.Memory.{Lengths, first_short}
 use Rattle.plain.specs.Numbers.{NONE}
 use Rattle.plain.proofs.Laws.Booleans.{below_or_not, by_test}
-use Rattle.plain.proofs.Laws.CallCases.{FirstShort, LongEnough, long_or_short, no_slice, one_short, slice_fits}
+use Rattle.plain.specs.Laws.CallCases.{FirstShort, LongEnough, no_slice, slice_fits}
+use Rattle.plain.proofs.Laws.CallCases.{long_or_short, one_short}
 use Rattle.plain.proofs.Laws.Devices.{box_proper}
 use Rattle.memory.specs.Laws.{Roomy, fresh_roomy}
 

@@ -16,7 +16,8 @@ use Rattle.shape.specs.Columns.{end_at}
 use Rattle.shape.proofs.Laws.Reading.{plain_node_flags}
 use Rattle.shape.specs.Shape.{Words, axis_words, edge_capacity, edge_live, lists, node_capacity, node_live}
 use Rattle.adjacency.specs.Laws.StoreWalks.{checked_walkable}
-use Rattle.survivors.proofs.Laws.Left.{end_in, ends_left, slot_low}
+use Rattle.survivors.specs.Laws.Left.{end_in}
+use Rattle.survivors.proofs.Laws.Left.{ends_left, slot_low}
 use Rattle.survivors.proofs.Laws.Lists.{lists_live, lists_renumbered, lists_total}
 use Rattle.survivors.specs.Lists.{live_walks}
 use Rattle.survivors.proofs.Laws.Slots.{slots_there}

@@ -17,7 +17,7 @@ use Rattle.plain.specs.Joining.{joined_survivors, raised, raised_edge}
 use Rattle.plain.specs.Lists.{from, joined, written}
 use Rattle.plain.specs.Numbers.{LIMIT}
 use Rattle.plain.specs.WellFormed.{Fitted, Sound}
-use Rattle.plain.proofs.Laws.ImageBits.{record_high, record_low}
+use Rattle.plain.specs.Laws.ImageBits.{record_high, record_low}
 use Rattle.plain.proofs.Laws.Joining.{columns_of_both, ends_of_both, joined_raised, joined_sound, raised_none}
 use Rattle.plain.proofs.Laws.ListLaws.{map_get_or}
 use Rattle.liveness.specs.Calls.{Reset}
@@ -27,12 +27,13 @@ use Rattle.shape.specs.Index.{ends_of}
 use Rattle.shape.specs.Kept.{AxisRenewed, Renewed, same_axis, same_edges, same_highs, same_live_edges, same_live_nodes, same_nodes}
 use Rattle.shape.specs.Shape.{Words, axis_words, edge_capacity, edge_live, lists, node_capacity, node_live}
 use Rattle.shape.proofs.Laws.Indexing.{joined_append, map_from_same}
-use Rattle.shape.proofs.Laws.NewBase.{NewBase}
+use Rattle.shape.specs.Laws.NewBase.{NewBase}
 use Rattle.compact.specs.Bases.{Rebuildable, based}
 use Rattle.survivors.specs.Slots.{live_words_of}
 use Rattle.compact.specs.Laws.Bases.{rebuilt_base, rebuilt_renewed}
 use Rattle.compact.specs.Laws.Holding.{Holding, front, reset_same, reset_word, sized_as}
-use Rattle.survivors.proofs.Laws.Left.{end_in, highs_left, left_edges, left_nodes, left_sound, lows_left, nodes_left}
+use Rattle.survivors.specs.Laws.Left.{end_in}
+use Rattle.survivors.proofs.Laws.Left.{highs_left, left_edges, left_nodes, left_sound, lows_left, nodes_left}
 use Rattle.survivors.proofs.Laws.Slots.{mapped_long, written_from, live_few, slots_there}
 use Rattle.join_memory.specs.Settling.{LentMaps, Settleable, Settled}
 use Rattle.join_columns.specs.Sides.{AxisJoinable, AxisJoined, Side, side_ends, side_entries, side_of}

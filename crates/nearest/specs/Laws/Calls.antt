@@ -8,7 +8,8 @@ use Rattle.plain.specs.Plain.{Plain, NodeSlot, node_flags, edge_flags, list_of, 
 use Rattle.plain.specs.Step.{Capacities, node_fault}
 use Rattle.plain.specs.WellFormed.{WellFormed}
 use Rattle.plain.proofs.Laws.Booleans.{and_left, below_or_not}
-use Rattle.plain.proofs.Laws.Cases.{Slot, absent, removed, live, slot, fault_absent, fault_removed}
+use Rattle.plain.specs.Laws.Cases.{Slot, absent, removed, live}
+use Rattle.plain.proofs.Laws.Cases.{slot, fault_absent, fault_removed}
 use Rattle.plain.proofs.Laws.Operating.{node_below}
 use Rattle.nearest.specs.Chains.{Chain, nearest}
 use Rattle.nearest.specs.Laws.Chains.{by_option, Within, First, nearest_is_first, nearest_none, first_unique, first_nearest}

@@ -16,10 +16,7 @@ use Rattle.plain.proofs.Laws.Rank.{rank_all_live, live_all_live, live_count_all_
 use Rattle.plain.proofs.Laws.Operating.{incident, edge_below, length_edge_flags}
 use Rattle.plain.proofs.Laws.Compacting.{survivors_sound, compacted_well_formed, compacted_nodes_live, compacted_edges_live, compacted_node_bound, compacted_edge_bound, compacted_list, compacted_end, compacted_node_payload, compacted_edge_payload}
 use Rattle.plain.proofs.Laws.ImageLaws.{read_back}
-
-pub record AllLive (p : Plain) : Type 0 where
-  pub nodes : node_flags p ≡ replicate (node_bound p) true
-  pub edges : edge_flags p ≡ replicate (edge_bound p) true
+use Rattle.plain.specs.Laws.AllLive.{AllLive}
 
 -- flags that are all live: each slot below the length is, and its rank is itself
 pub live_slot : (flags : List Bool) (n x : ℕ) → flags ≡ replicate n true → x < n → get_or flags x false ≡ true

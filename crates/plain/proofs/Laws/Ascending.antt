@@ -7,13 +7,9 @@ use Rattle.plain.specs.Lists.{member, distinct, from, keep, all, count, joined}
 use Rattle.plain.specs.Image.{cut, list_lengths, at_their_nodes, lists_right}
 use Rattle.plain.proofs.Laws.Booleans.{by_test, same_truth, and_left, and_right, both_true}
 use Rattle.plain.proofs.Laws.ListLaws.{member_keep, distinct_keep, length_keep, count_map, member_below, distinct_from, distinct_length, distinct_full, length_from, count_indices, all_member}
-use Rattle.plain.proofs.Laws.Below.{Below}
+use Rattle.plain.specs.Laws.Below.{Below}
 use Rattle.plain.proofs.Laws.Cutting.{joined_cut, sum_list_lengths}
-
--- whether numbers do not descend, and start no lower than x
-unfoldable pub ascending : ℕ → List ℕ → Bool
-ascending x [] = true
-ascending x (y ∷ ys) = leb x y && ascending y ys
+use Rattle.plain.specs.Laws.Ascending.{ascending}
 
 ascending_lower : (x y : ℕ) (l : List ℕ) → x ≤ y → ascending y l ≡ true → ascending x l ≡ true
 unfolding ascending

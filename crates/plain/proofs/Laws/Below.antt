@@ -3,10 +3,7 @@ use Rattle.std.specs.Prelude.{ℕ, zero, suc, ◌≤◌, ◌<◌, ◌≡◌, ref
 use Rattle.plain.specs.Library.{lt_of_lt_of_le, arith, ltb-true, lt-ltb}
 use Rattle.std.proofs.Math.Bool.{and-eq-true_iff}
 use Rattle.plain.specs.Lists.{all}
-
-pub data Below (b : ℕ) : List ℕ → Type 0 where
-  none : Below b []
-  more : {x : ℕ} {xs : List ℕ} → x < b → Below b xs → Below b (x ∷ xs)
+use Rattle.plain.specs.Laws.Below.{Below, more, none}
 
 -- of two lists, one after the other
 pub below_append : {b : ℕ} {k l : List ℕ} → Below b k → Below b l → Below b (k ++ l)

@@ -6,7 +6,8 @@ use Rattle.std.proofs.lemmas.Nat.{mod-pow-add}
 use Rattle.std.proofs.Math.Pow.{mod-mod-pow, field, high, low}
 use Rattle.std.proofs.Math.Arith.{digits_lt}
 use Rattle.plain.specs.Bits.{bits_of, value_of, bits, field_at, fields_at, row}
-use Rattle.plain.proofs.Laws.Below.{Below, none, more, below_append, below_take, below_drop}
+use Rattle.plain.specs.Laws.Below.{Below, none, more}
+use Rattle.plain.proofs.Laws.Below.{below_append, below_take, below_drop}
 
 -- ---- a number and its bits
 

@@ -1,5 +1,6 @@
 -- Each call's answer, by facts on bounds, live flags and lengths: the table of document 01 and its orders of refusal. The cases of a call exclude each other and
 -- leave nothing out, so each number is given exactly in its case; a refused call leaves the store.
+-- ---- lent slices
 use Rattle.std.specs.Prelude.{ℕ, zero, suc, ◌*◌, ◌%◌, ◌≤◌, ◌<◌, ◌≡◌, refl, Bool, false, ◌⊎◌, List, [], ◌∷◌, map, length, get_or}
 use Rattle.plain.specs.Library.{sym, ap, ◌∙◌, inl, inr, ⊎_elim, Option, none, some, length-map, get_or-map, arith, eq-eqb, ne_eqb, le-leb, lt-leb, lt-ltb, le-ltb}
 use Rattle.std.proofs.Math.ListN.{get_elem?}
@@ -20,19 +21,9 @@ use Rattle.plain.specs.Devices.{Device, Takes}
 use Rattle.plain.specs.Calls.{strip, short_answer, within, fresh, compaction_slices, compacting, compaction, write_image, reading_slices, asked, reading, read_image}
 use Rattle.plain.proofs.Laws.Booleans.{below_or_not}
 use Rattle.plain.proofs.Laws.Operating.{edge_below}
-use Rattle.plain.proofs.Laws.Cases.{Absent, Removed, Live, fault_absent, fault_below}
-
--- ---- lent slices
-
--- every slice is long enough
-pub data LongEnough : List Slice → Type 0 where
-  no_slice : LongEnough []
-  slice_fits : {s : Slice} {slices : List Slice} → s.needs ≤ s.has → LongEnough slices → LongEnough (s ∷ slices)
-
--- the first slice that is too short needs n
-pub data FirstShort : List Slice → ℕ → Type 0 where
-  short_here : {s : Slice} {slices : List Slice} → s.has < s.needs → FirstShort (s ∷ slices) s.needs
-  short_later : {s : Slice} {slices : List Slice} {n : ℕ} → s.needs ≤ s.has → FirstShort slices n → FirstShort (s ∷ slices) n
+use Rattle.plain.specs.Laws.Cases.{Absent, Removed, Live}
+use Rattle.plain.proofs.Laws.Cases.{fault_absent, fault_below}
+use Rattle.plain.specs.Laws.CallCases.{FirstShort, LongEnough, no_slice, short_here, short_later, slice_fits}
 
 pub all_long : {slices : List Slice} → LongEnough slices → first_short slices ≡ none
 unfolding first_short

@@ -1,4 +1,5 @@
 -- Compaction: what it leaves is well formed with every slot live, and has the survivors that it had.
+-- ---- one direction
 use Rattle.std.specs.Prelude.{ℕ, ◌≤◌, ◌<◌, ◌^◌, ◌≡◌, refl, Bool, true, false, List, [], map, length, get_or, replicate, eqb}
 use Rattle.plain.specs.Library.{sym, ap, ap₂, ◌∙◌, subst, subst₂, map-map, length-map, length-replicate, get_or-map, arith, eqb-true, eq-eqb, ltb-true, lt-ltb}
 use Rattle.std.proofs.Math.Path.{fun_ext}
@@ -17,16 +18,9 @@ use Rattle.plain.proofs.Laws.Booleans.{same_truth, and_left, and_right, both_tru
 use Rattle.plain.proofs.Laws.ListLaws.{get_or_map_each, member_mapped, member_source, member_get_or_map, distinct_map, map_same, map_unchanged, map_get_or, map_replicate, count_length, member_below}
 use Rattle.plain.proofs.Laws.Operating.{incident, no_payload_weighed}
 use Rattle.plain.proofs.Laws.Rank.{rank_live, rank_injective, rank_all_live, length_live_slots, live_slot_live, rank_live_slot, get_or_at_rank, live_all_live, live_from_all_live}
-use Rattle.plain.proofs.Laws.Fitting.{has_end, has_end_below, has_end_at, live_has_end, incident_fitted, fitted_incident}
-
--- ---- one direction
-
--- one direction by new numbers: the ends of the live edges and the lists of the live nodes
-abbrev pub renumbered : List Bool → List Bool → Incidence → Incidence
-renumbered nodes edges i = record {
-  ends = map (λ e. rank nodes (get_or i.ends e 0)) (live_slots edges);
-  lists = map (λ x. map (rank edges) (get_or i.lists x [])) (live_slots nodes);
-}
+use Rattle.plain.specs.Laws.Fitting.{has_end}
+use Rattle.plain.proofs.Laws.Fitting.{has_end_below, has_end_at, live_has_end, incident_fitted, fitted_incident}
+use Rattle.plain.specs.Laws.Compacting.{no_ends, renumbered}
 
 -- as many ends as live edges
 length_renumbered : (nodes edges : List Bool) (i : Incidence) → length (renumbered nodes edges i).ends ≡ live_count edges
@@ -217,10 +211,6 @@ live_nodes_of s = ap live_slots (node_flags_of s) ∙ live_from_all_live 0 (leng
 
 live_edges_of : (s : Survivors) → live_slots (edge_flags (of_survivors s)) ≡ from 0 (length s.edges)
 live_edges_of s = ap live_slots (edge_flags_of s) ∙ live_from_all_live 0 (length s.edges)
-
--- what stands past the end of a list of records, and is never read
-abbrev pub no_ends : EdgeRecord
-no_ends = record { source = 0; target = 0; payload = no_payload }
 
 -- each direction has one end an edge
 length_ends_of : (s : Survivors) (d : TraversalDirection) → length (incidence d (of_survivors s)).ends ≡ length s.edges

@@ -15,15 +15,15 @@ use Rattle.plain.specs.Calls.{strip, fresh_state, compacting, compaction, compac
 use Rattle.plain.specs.Devices.{Device, Takes, Proper}
 use Rattle.plain.specs.History.{Call, Strip, Compaction, Reading, call, history_from, history}
 use Rattle.plain.proofs.Laws.Booleans.{by_test, and_left, and_right}
-use Rattle.plain.proofs.Laws.Cases.{Case, case_of, add_node_full, add_node, add_edge_inverted, add_edge_source_absent, add_edge_source_removed, add_edge_target_absent, add_edge_target_removed, add_edge_full, add_edge, remove_edge_absent, remove_edge_removed, remove_edge, remove_node_absent, remove_node_removed, remove_node, redirect_edge_absent, redirect_edge_removed, redirect_node_absent, redirect_node_removed, redirect_same, redirect, move_onto_itself, move_old_absent, move_nothing, move_new_absent, move_new_removed, move, set_payload_inverted, set_payload_absent, set_payload, unknown}
+use Rattle.plain.specs.Laws.Cases.{Case, add_node_full, add_node, add_edge_inverted, add_edge_source_absent, add_edge_source_removed, add_edge_target_absent, add_edge_target_removed, add_edge_full, add_edge, remove_edge_absent, remove_edge_removed, remove_edge, remove_node_absent, remove_node_removed, remove_node, redirect_edge_absent, redirect_edge_removed, redirect_node_absent, redirect_node_removed, redirect_same, redirect, move_onto_itself, move_old_absent, move_nothing, move_new_absent, move_new_removed, move, set_payload_inverted, set_payload_absent, set_payload, unknown}
+use Rattle.plain.proofs.Laws.Cases.{case_of}
 use Rattle.plain.proofs.Laws.Compacting.{node_flags_of, edge_flags_of, node_bound_of, edge_bound_of, compacted_nodes_live, compacted_edges_live, compacted_node_bound, compacted_edge_bound}
-use Rattle.plain.proofs.Laws.AllLive.{AllLive, lists_read_back}
-use Rattle.plain.proofs.Laws.Histories.{AllLegal, history_well_formed}
+use Rattle.plain.specs.Laws.AllLive.{AllLive}
+use Rattle.plain.proofs.Laws.AllLive.{lists_read_back}
+use Rattle.plain.specs.Laws.Histories.{AllLegal}
+use Rattle.plain.proofs.Laws.Histories.{history_well_formed}
 use Rattle.plain.proofs.Laws.Devices.{box_takes}
-
--- the flag of a state is honest
-pub record Honest (s : State) : Type 0 where
-  pub all_live : s.compact ≡ true → AllLive s.lists
+use Rattle.plain.specs.Laws.Compactness.{Honest}
 
 payload_set_live : (e : ℕ) (v : EdgePayload) (p : Plain) → AllLive p → AllLive (payload_set e v p)
 unfolding payload_set

@@ -5,11 +5,8 @@ use Rattle.std.proofs.Common.{eq-or-lt_of_le, take-append-drop, length-take-le}
 use Rattle.std.proofs.Math.Seq.{take-append_seam, drop-append_seam}
 use Rattle.plain.specs.Lists.{sum, joined, count, from}
 use Rattle.plain.specs.Image.{cut, list_lengths}
-use Rattle.plain.proofs.Laws.Below.{Below, none, more}
-
--- the length of each list
-abbrev pub lengths : List (List ℕ) → List ℕ
-lengths lists = map (λ (l : List ℕ). length l) lists
+use Rattle.plain.specs.Laws.Below.{Below, none, more}
+use Rattle.plain.specs.Laws.Cutting.{lengths}
 
 -- joined lists are as long as they are together
 pub length_joined : (lists : List (List ℕ)) → length (joined lists) ≡ sum (lengths lists)

@@ -1,4 +1,5 @@
 -- Laws of a list after an entry is set, appended or deleted, each as one equation by cases on the index.
+-- ---- one entry set, one appended
 use Rattle.std.specs.Prelude.{ℕ, zero, suc, ◌<◌, ◌≡◌, refl, true, false, cond, ◌||◌, not, List, [], ◌∷◌, ◌++◌, map, length, get_or, set, eqb}
 use Rattle.plain.specs.Library.{sym, ap, ◌∙◌, length-set, get_or-set_same, get_or-set_other, eq-eqb, eqb-true, eqb-false, not-true}
 use Rattle.std.proofs.lemmas.Bool.{false≢true}
@@ -6,8 +7,7 @@ use Rattle.std.proofs.Math.Dec.{eqb-zero-suc, eqb-suc-zero, eqb-suc-suc}
 use Rattle.plain.specs.Lists.{member, without, distinct, keep, append_at, delete_at, set_all}
 use Rattle.plain.proofs.Laws.Booleans.{by_test, true_false, and_left, and_right, and_true, and_false, or_true, eqb_comm}
 use Rattle.plain.proofs.Laws.ListLaws.{member_without, without_absent, distinct_append, all_of}
-
--- ---- one entry set, one appended
+use Rattle.plain.specs.Laws.Deleting.{without_all}
 
 module _ {A : Type 0} where
   pub get_d_set : (l : List A) (i j : ℕ) (a d : A) → i < length l → get_or (set l i a) j d ≡ cond (eqb j i) a (get_or l j d)
@@ -46,11 +46,6 @@ member_gone y l = rw (member_without y y l, eq-eqb y y refl, and_false (member y
 -- deleting leaves the other members
 pub member_kept : (e y : ℕ) (l : List ℕ) → eqb e y ≡ false → member e (without y l) ≡ member e l
 member_kept e y l h = rw (member_without e y l, eqb_comm y e, h, and_true (member e l))
-
--- a list without several entries, one deleted after the other, is what is left of it
-unfoldable pub without_all : List ℕ → List ℕ → List ℕ
-without_all [] l = l
-without_all (y ∷ ys) l = without_all ys (without y l)
 
 pub without_all_keeps : (ys l : List ℕ) → without_all ys l ≡ keep (λ e. not (member e ys)) l
 unfolding without_all member

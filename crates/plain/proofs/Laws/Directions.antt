@@ -9,6 +9,7 @@ use Rattle.plain.proofs.Laws.Booleans.{by_test, true_false, and_left, and_right,
 use Rattle.plain.proofs.Laws.ListLaws.{member_append, distinct_without}
 use Rattle.plain.proofs.Laws.Rank.{live_below}
 use Rattle.plain.proofs.Laws.Deleting.{get_d_set, get_or_snoc, member_gone, member_kept, distinct_appended, distinct_snoc, get_or_append_at, get_or_delete_at, length_append_at, length_delete_at, length_set_all, get_or_set_all}
+use Rattle.plain.specs.Laws.Directions.{end_at, list_at}
 
 -- a list of empty default with an empty list appended reads as before
 get_d_default : {A : Type 0} (l : List A) (d : A) (x : ℕ) → get_or (l ++ (d ∷ [])) x d ≡ get_or l x d
@@ -25,13 +26,6 @@ widened_incident {flags} {n} {i} h = record {
   listed = λ x e. rw (get_d_default i.lists [] x) (h.listed x e);
   once = λ x. rw (get_d_default i.lists [] x) (h.once x);
 }
-
--- the list of a node and the end of an edge
-abbrev pub list_at : Incidence → ℕ → List ℕ
-list_at i x = get_or i.lists x []
-
-abbrev pub end_at : Incidence → ℕ → ℕ
-end_at i e = get_or i.ends e 0
 
 -- past the end no flag is set
 pub flag_past : (flags : List Bool) (e : ℕ) → length flags ≤ e → get_or flags e false ≡ false

@@ -12,15 +12,7 @@ use Rattle.plain.specs.WellFormed.{WellFormed}
 use Rattle.plain.proofs.Laws.Booleans.{true_false}
 use Rattle.plain.proofs.Laws.ListLaws.{member_first, member_keep}
 use Rattle.plain.proofs.Laws.Rank.{member_live_slots}
-
--- the live edges from node a to node b, in slot order
-unfoldable pub edges_between : Plain → ℕ → ℕ → List ℕ
-edges_between p a b = keep (λ e. eqb (end_of Outgoing p e) a && eqb (end_of Incoming p e) b) (live_slots (edge_flags p))
-
--- one of the candidates, or NONE where there is none and only then
-abbrev pub one_of : List ℕ → ℕ → Bool
-one_of [] value = eqb value NONE
-one_of (e ∷ es) value = member value (e ∷ es)
+use Rattle.plain.specs.Laws.Finding.{edges_between, one_of}
 
 one_of_member : (l : List ℕ) (e : ℕ) → member e l ≡ true → one_of l e ≡ true
 unfolding member

@@ -1,4 +1,5 @@
 -- One direction whose edges are all live: to be well formed (`Incident`) and to have an image (`Fitted`) are the same.
+-- ---- rule 6 of an image, by index
 use Rattle.std.specs.Prelude.{ℕ, zero, suc, ◌+◌, ◌<◌, ◌≡◌, refl, Bool, true, false, ◌&&◌, List, [], ◌∷◌, map, length, get_or, replicate, eqb, ltb}
 use Rattle.plain.specs.Library.{sym, ap, ap₂, ◌∙◌, subst, map-map, length-map, length-replicate, get_or-map, zero-add, arith, eqb-true, eq-eqb, ltb-true, lt-ltb}
 use Rattle.plain.specs.Lists.{member, distinct, from, keep, all, count, joined}
@@ -8,8 +9,7 @@ use Rattle.plain.specs.WellFormed.{Incident, Fitted}
 use Rattle.plain.proofs.Laws.Booleans.{true_false, same_truth, and_left, and_right, both_true, eqb_comm}
 use Rattle.plain.proofs.Laws.ListLaws.{get_d_map, map_same, map_get_or, all_of, all_member, member_keep, distinct_keep, length_keep, count_indices, length_from, get_or_from, member_below, distinct_from, distinct_length, distinct_full, member_joined, joined_member, distinct_at, distinct_joined}
 use Rattle.plain.proofs.Laws.Rank.{live_all_live}
-
--- ---- rule 6 of an image, by index
+use Rattle.plain.specs.Laws.Fitting.{Right, has_end}
 
 -- the test passes where the entries of each list have its node for their end
 pub at_their_nodes_of : (ends : List ℕ) (a : ℕ) (lists : List (List ℕ))
@@ -34,10 +34,6 @@ at_their_nodes_at ends a (list ∷ lists) right (suc x) e h =
     let here = at_their_nodes_at ends (suc a) lists rest x e h in
     omega arith
 
--- whether edge e has node x for its end
-abbrev pub has_end : List ℕ → ℕ → ℕ → Bool
-has_end ends x e = ltb e (length ends) && eqb (get_or ends e 0) x
-
 -- such an edge is below the number of edges
 pub has_end_below : (ends : List ℕ) (x e : ℕ) → has_end ends x e ≡ true → e < length ends
 has_end_below ends x e h = ltb-true e (length ends) (and_left (ltb e (length ends)) (eqb (get_or ends e 0) x) h)
@@ -45,11 +41,6 @@ has_end_below ends x e h = ltb-true e (length ends) (and_left (ltb e (length end
 -- and its end is x
 pub has_end_at : (ends : List ℕ) (x e : ℕ) → has_end ends x e ≡ true → get_or ends e 0 ≡ x
 has_end_at ends x e h = eqb-true (get_or ends e 0) x (and_right (ltb e (length ends)) (eqb (get_or ends e 0) x) h)
-
--- What rule 6 says of each list: no repeats, and every entry is an edge with that end.
-pub record Right (ends : List ℕ) (lists : List (List ℕ)) : Type 0 where
-  pub once : (x : ℕ) → distinct (get_or lists x []) ≡ true
-  pub at_end : (x e : ℕ) → member e (get_or lists x []) ≡ true → has_end ends x e ≡ true
 
 -- rule 6 holds where each list is right
 pub right_of : (ends : List ℕ) (lists : List (List ℕ)) → Right ends lists → lists_right ends lists ≡ true

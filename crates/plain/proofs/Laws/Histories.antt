@@ -1,51 +1,31 @@
 -- Whole histories on the definitions: they keep the lists well formed, what is refused leaves the store, and what the closing calls answer. Demand 3 itself is
 -- the theorem of crate histories.
-use Rattle.std.specs.Prelude.{ℕ, zero, suc, ◌*◌, ◌%◌, ◌≤◌, ◌<◌, ◌≡◌, refl, true, cond, ◌⊎◌, List, [], ◌∷◌, length, eqb, ltb}
+use Rattle.std.specs.Prelude.{ℕ, zero, suc, ◌*◌, ◌%◌, ◌≤◌, ◌≡◌, refl, true, cond, ◌⊎◌, List, length, eqb, ltb}
 use Rattle.plain.specs.Library.{sym, ap, ◌∙◌, inl, inr, ⊎_elim, Option, none, some, arith, ne_eqb}
 use Rattle.plain.specs.declared.Answer.{Answer}
-use Rattle.plain.specs.Numbers.{NONE}
 use Rattle.plain.specs.Operations.{operation_words, operations}
 use Rattle.plain.specs.Step.{Capacities, State}
 use Rattle.plain.specs.Plain.{Plain}
-use Rattle.plain.specs.Reads.{Reply, lent, listing, live_edges}
+use Rattle.plain.specs.Reads.{Reply, lent, live_edges}
 use Rattle.plain.specs.Compaction.{Survivors, survivors, compacted}
 use Rattle.plain.specs.Image.{image, broken_image, nodes_in, edges_in, parsed}
 use Rattle.plain.specs.Memory.{first_short, exact}
-use Rattle.plain.specs.Devices.{Device, box, Takes, Proper}
+use Rattle.plain.specs.Devices.{Device, Takes, Proper}
 use Rattle.plain.specs.Calls.{strip, fresh_state, compacting, compaction, compaction_slices, reading_slices, asked, read_image, read_state, write_image}
 use Rattle.plain.specs.History.{Call, Strip, Compaction, Reading, call, history_from, history, closing_image}
 use Rattle.plain.specs.WellFormed.{WellFormed}
 use Rattle.plain.proofs.Laws.Booleans.{by_test, below_or_not}
 use Rattle.plain.proofs.Laws.Operating.{empty_well_formed}
-use Rattle.plain.proofs.Laws.Stepping.{run_well_formed, Words, operations_fitting}
-use Rattle.plain.proofs.Laws.CallCases.{LongEnough, FirstShort, slice_fits, long_or_short, read_broken, image_nodes_above, image_edges_above, read_short, read_done, write_short, write_lent, lent_short, lent_done}
+use Rattle.plain.specs.Laws.Stepping.{Words}
+use Rattle.plain.proofs.Laws.Stepping.{run_well_formed, operations_fitting}
+use Rattle.plain.specs.Laws.CallCases.{LongEnough, slice_fits}
+use Rattle.plain.proofs.Laws.CallCases.{long_or_short, read_broken, image_nodes_above, image_edges_above, read_short, read_done, write_short, write_lent, lent_short, lent_done}
 use Rattle.plain.proofs.Laws.Compacting.{survivors_sound, of_survivors_well_formed, survivors_of, compacted_well_formed, length_surviving_edges}
 use Rattle.plain.proofs.Laws.ImageLaws.{parsed_sound, nodes_length, edges_length}
 use Rattle.plain.proofs.Laws.Devices.{box_takes}
-
--- capacities that a box takes
-abbrev pub Within : Capacities → Type 0
-Within caps = Takes box caps
-
--- a call whose words are words
-abbrev pub Legal : Call → Type 0
-Legal (Strip words room) = Words words
-Legal (Compaction node_map edge_map work) = Unit
-Legal (Reading bytes) = Unit
-
-pub data AllLegal : List Call → Type 0 where
-  no_call : AllLegal []
-  one_call : {c : Call} {calls : List Call} → Legal c → AllLegal calls → AllLegal (c ∷ calls)
+use Rattle.plain.specs.Laws.Histories.{AllLegal, Legal, ReadCase, Within, many_edges, many_nodes, no_call, one_call, read_fits, read_too_short, unreadable, write_compact_image}
 
 -- ---- one call
-
--- reading into a store's own memory: unreadable, more than the device takes, too short or done
-pub data ReadCase (device : Device) (caps : Capacities) (bytes : List ℕ) : ℕ → ℕ → Type 0 where
-  unreadable : {rule : ℕ} → broken_image bytes ≡ suc rule → ReadCase device caps bytes 12 (suc rule)
-  many_nodes : broken_image bytes ≡ 0 → device.limits.nodes < nodes_in bytes → ReadCase device caps bytes device.number (nodes_in bytes)
-  many_edges : broken_image bytes ≡ 0 → device.limits.edges < edges_in bytes → ReadCase device caps bytes device.number (edges_in bytes)
-  read_too_short : {n : ℕ} → broken_image bytes ≡ 0 → FirstShort (reading_slices (nodes_in bytes) (edges_in bytes) (exact caps)) n → ReadCase device caps bytes 2 n
-  read_fits : broken_image bytes ≡ 0 → LongEnough (reading_slices (nodes_in bytes) (edges_in bytes) (exact caps)) → ReadCase device caps bytes 0 0
 
 module _ (device : Device) (caps : Capacities) (takes : Takes device caps) (bytes : List ℕ) where
   -- the case of an answer
@@ -190,10 +170,6 @@ unfolding write_image
 write_survivors p q same work room =
     let many : live_edges p ≡ live_edges q = sym (length_surviving_edges p) ∙ ap (λ (s : Survivors). length s.edges) same ∙ length_surviving_edges q in
     rw (same, many)
-
--- What writing answered before request 2, where the store was compact: "Only compact stores have one. Writing: 1, 11, 2."
-unfoldable pub write_compact_image : State → ℕ → Reply
-write_compact_image s room = cond s.compact (listing room (image (survivors s.lists))) (record { number = 11; value = NONE; words = [] })
 
 -- "Compact stores give their old bytes": number, value and bytes, wherever the work slice is long enough
 pub compact_as_before : (s : State) (work room : ℕ) → s.compact ≡ true → 2 * live_edges s.lists ≤ work

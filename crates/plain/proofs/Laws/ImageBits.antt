@@ -5,17 +5,13 @@ use Rattle.plain.specs.declared.EdgePayload.{EdgePayload}
 use Rattle.plain.specs.Lists.{joined}
 use Rattle.plain.specs.Compaction.{EdgeRecord, Survivors, source_of, target_of}
 use Rattle.plain.specs.Bits.{bits_of, field_at, row}
-use Rattle.plain.specs.Image.{count_width, node_payload_width, weight_width, edge_payload_width, payload_bits, payload_at, edge_bits, image_bits, records_at, record_width, nodes_start, edges_start}
-use Rattle.plain.proofs.Laws.Below.{Below, none, more, below_append}
+use Rattle.plain.specs.Image.{count_width, node_payload_width, weight_width, edge_payload_width, payload_bits, payload_at, edge_bits, image_bits, records_at, record_width, nodes_start}
+use Rattle.plain.specs.Laws.Below.{Below, none, more}
+use Rattle.plain.proofs.Laws.Below.{below_append}
 use Rattle.plain.proofs.Laws.Bits.{length_bits_of, below_bits_of, field_at_lt, length_row, below_row}
-use Rattle.plain.proofs.Laws.Packing.{Stands, stands_front, stands_rest, stands_append, stands_at, stands_field, field_stands}
-
--- the weights of an edge
-abbrev pub record_low : EdgeRecord → ℕ
-record_low r = r.payload.low
-
-abbrev pub record_high : EdgeRecord → ℕ
-record_high r = r.payload.high
+use Rattle.plain.specs.Laws.Packing.{Stands}
+use Rattle.plain.proofs.Laws.Packing.{stands_front, stands_rest, stands_append, stands_at, stands_field, field_stands}
+use Rattle.plain.specs.Laws.ImageBits.{Parts, ins_from, record_high, record_low}
 
 -- ---- an edge's payload
 
@@ -99,22 +95,6 @@ records_stand bytes p w (suc m) h =
     stands_append (bits_of w source) (bits_of w target ++ (z ++ rest)) (length_bits_of w source) (field_stands bytes p w (omega arith)) s₁
 
 -- ---- the whole
-
--- where the lists of n nodes and m edges start, at widths w and v
-abbrev pub outs_from : ℕ → ℕ → ℕ → ℕ
-outs_from w n m = edges_start n + record_width w * m
-
-abbrev pub ins_from : ℕ → ℕ → ℕ → ℕ → ℕ
-ins_from w v n m = outs_from w n m + v * m
-
--- Each part of the image's bits stands at its place.
-pub record Parts (bytes : List ℕ) (w v : ℕ) (s : Survivors) : Type 0 where
-  pub node_count : Stands bytes 0 (bits_of count_width (length s.nodes))
-  pub edge_count : Stands bytes count_width (bits_of count_width (length s.edges))
-  pub nodes : Stands bytes nodes_start (row node_payload_width s.nodes)
-  pub edges : Stands bytes (edges_start (length s.nodes)) (edge_bits w s.edges)
-  pub outs : Stands bytes (outs_from w (length s.nodes) (length s.edges)) (row v (joined s.outs))
-  pub ins : Stands bytes (ins_from w v (length s.nodes) (length s.edges)) (row v (joined s.ins))
 
 -- each bit of an image is 0 or 1
 pub below_image_bits : (w v : ℕ) (s : Survivors) → Below 2 (image_bits w v s)

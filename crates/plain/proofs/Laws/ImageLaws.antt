@@ -11,14 +11,18 @@ use Rattle.plain.specs.Image.{count_width, node_payload_width, weight_width, ima
 use Rattle.plain.specs.WellFormed.{Weighed, Fitted, Sound}
 use Rattle.plain.proofs.Laws.Booleans.{below_or_not}
 use Rattle.plain.proofs.Laws.Operating.{no_payload_weighed}
-use Rattle.plain.proofs.Laws.Compacting.{no_ends}
-use Rattle.plain.proofs.Laws.Below.{Below, below_mono, below_at, below_within, below_of, below_all}
+use Rattle.plain.specs.Laws.Compacting.{no_ends}
+use Rattle.plain.specs.Laws.Below.{Below}
+use Rattle.plain.proofs.Laws.Below.{below_mono, below_at, below_within, below_of, below_all}
 use Rattle.plain.proofs.Laws.Bits.{length_bits_of, length_fields_at, below_fields_at}
-use Rattle.plain.proofs.Laws.Packing.{Stands, stands_front, stands_rest, stands_append, stands_field, field_stands, stands_row, fields_stand, stands_whole, length_pack, below_pack, pack_stands, packed}
+use Rattle.plain.specs.Laws.Packing.{Stands}
+use Rattle.plain.proofs.Laws.Packing.{stands_front, stands_rest, stands_append, stands_field, field_stands, stands_row, fields_stand, stands_whole, length_pack, below_pack, pack_stands, packed}
 use Rattle.plain.proofs.Laws.Width.{width_holds}
 use Rattle.plain.proofs.Laws.Cutting.{length_joined, cut_joined, joined_cut, lengths_cut, sum_list_lengths}
-use Rattle.plain.proofs.Laws.ImageBits.{record_low, record_high, Parts, parts, whole, length_image_bits, below_image_bits, length_records_at, below_highs_at, stands_records, records_stand}
-use Rattle.plain.proofs.Laws.Refusals.{Counted, Sized, Padded, Ended, Readable, accepted, readable, sources_in, targets_in, size_in, length_edges_in, below_edges}
+use Rattle.plain.specs.Laws.ImageBits.{record_low, record_high, Parts}
+use Rattle.plain.proofs.Laws.ImageBits.{parts, whole, length_image_bits, below_image_bits, length_records_at, below_highs_at, stands_records, records_stand}
+use Rattle.plain.specs.Laws.Refusals.{Counted, Sized, Padded, Ended, Readable, sources_in, targets_in, size_in}
+use Rattle.plain.proofs.Laws.Refusals.{accepted, readable, length_edges_in, below_edges}
 
 -- ---- one direction
 

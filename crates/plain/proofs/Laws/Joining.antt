@@ -1,5 +1,6 @@
 -- Laws of joining: the result is well formed, its lists are the renumbered lists of both, what the maps give, that joining is associative on survivors, and that an empty
 -- book adds nothing to what compaction leaves.
+-- ---- raised numbers
 use Rattle.std.specs.Prelude.{ℕ, zero, suc, ◌+◌, ◌-◌, ◌≤◌, ◌<◌, ◌^◌, ◌≡◌, refl, Bool, true, false, cond, ◌&&◌, List, [], ◌∷◌, ◌++◌, map, length, get_or, replicate, eqb}
 use Rattle.plain.specs.Library.{sym, ap, ap₂, ◌∙◌, subst, ⊎_elim, map-map, append_assoc, append-nil, length-append, length-map, length-replicate, get_or-append, get_or-map, zero-add, arith, ne_eqb, lt-ltb, le-ltb}
 use Rattle.std.proofs.lemmas.List.{map-append}
@@ -22,8 +23,7 @@ use Rattle.plain.proofs.Laws.Fitting.{incident_fitted, fitted_incident, fitted_m
 use Rattle.plain.specs.WellFormed.{Weighed, Incident, Fitted, WellFormed, Sound}
 use Rattle.plain.proofs.Laws.Compacting.{of_survivors_well_formed, compacted_list, length_surviving_nodes, length_surviving_edges, survivors_sound, survivors_of}
 use Rattle.plain.specs.Joining.{raised, raised_edge, joined_survivors, joined_plain, join_maps}
-
--- ---- raised numbers
+use Rattle.plain.specs.Laws.Joining.{no_survivors}
 
 -- a raised number is a member where the number is
 member_raised : (m e : ℕ) (xs : List ℕ) → member (m + e) (raised m xs) ≡ member e xs
@@ -382,10 +382,6 @@ joined_associative s t u =
     λ i. record { nodes = nodes i; edges = edges i; outs = outs i; ins = ins i }
 
 -- ---- an empty book
-
--- no survivor
-abbrev pub no_survivors : Survivors
-no_survivors = record { nodes = []; edges = []; outs = []; ins = [] }
 
 pub survivors_empty : survivors empty ≡ no_survivors
 unfolding survivors live_from

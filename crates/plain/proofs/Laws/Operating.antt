@@ -12,10 +12,12 @@ use Rattle.plain.specs.Plain.{Plain, NodeSlot, EdgeSlot, Incidence, incidence, w
 use Rattle.plain.specs.Step.{Capacities}
 use Rattle.plain.specs.WellFormed.{Weighed, Incident, WellFormed}
 use Rattle.plain.proofs.Laws.Booleans.{by_test, true_false, and_left, and_right, and_false, and_true, or_true, or_other, refuted}
-use Rattle.plain.proofs.Laws.Deleting.{get_d_set, get_or_snoc, map_set, without_all}
+use Rattle.plain.specs.Laws.Deleting.{without_all}
+use Rattle.plain.proofs.Laws.Deleting.{get_d_set, get_or_snoc, map_set}
 use Rattle.plain.proofs.Laws.ListLaws.{map_snoc, member_append, without_absent}
 use Rattle.plain.proofs.Laws.Rank.{live_below}
-use Rattle.plain.proofs.Laws.Directions.{widened_incident, attached_incident, attached_end, detached_incident, detached_list, elsewhere, list_at, end_at, redirected_incident, redirected_end, moved_incident, moved_end}
+use Rattle.plain.specs.Laws.Directions.{list_at, end_at}
+use Rattle.plain.proofs.Laws.Directions.{widened_incident, attached_incident, attached_end, detached_incident, detached_list, elsewhere, redirected_incident, redirected_end, moved_incident, moved_end}
 
 -- ---- both directions at once
 

@@ -1,18 +1,15 @@
 -- Laws of packing: where bits stand in bytes, what is packed is read back, and bytes are packed from their bits.
+-- ---- bits that stand at a place
 use Rattle.std.specs.Prelude.{ℕ, zero, suc, ◌+◌, ◌-◌, ◌*◌, ◌/◌, ◌^◌, ◌≤◌, ◌<◌, ◌≡◌, refl, List, [], ◌∷◌, ◌++◌, length, take, drop, replicate}
 use Rattle.plain.specs.Library.{sym, ap, ap₂, ◌∙◌, length-append, length-drop, length-replicate, take_at, zero-add, arith}
 use Rattle.std.proofs.Common.{suc-add, mod-eq_of_lt, length-take, take-add, take-take, take_all, drop-drop}
 use Rattle.std.proofs.Math.Nat.{zero-div}
 use Rattle.std.proofs.Math.Seq.{take-length, take-nil, take-append_seam, take-append-add, drop-append_seam}
 use Rattle.plain.specs.Bits.{bits_of, value_of, bits, field_at, fields_at, row, bytes_for, padding, bytes_of, pack}
-use Rattle.plain.proofs.Laws.Below.{Below, none, more, below_append, below_take, below_drop}
+use Rattle.plain.specs.Laws.Below.{Below, none, more}
+use Rattle.plain.proofs.Laws.Below.{below_append, below_take, below_drop}
 use Rattle.plain.proofs.Laws.Bits.{length_bits_of, bits_of_split, below_bits_of, value_of_bits_of, value_of_lt, bits_of_value_of, length_bits, below_bits, bits_injective}
-
--- ---- bits that stand at a place
-
--- bits f stand at bit p of bytes
-pub record Stands (bytes : List ℕ) (p : ℕ) (f : List ℕ) : Type 0 where
-  pub there : take (length f) (drop p (bits bytes)) ≡ f
+use Rattle.plain.specs.Laws.Packing.{Stands}
 
 drop_take : (n m : ℕ) (l : List ℕ) → drop n (take (n + m) l) ≡ take m (drop n l)
 drop_take zero m l = rw zero-add

@@ -9,6 +9,7 @@ use Rattle.plain.specs.Renumbering.{lookup, composed}
 use Rattle.plain.specs.Compaction.{rank, renumbering_from, renumbering}
 use Rattle.plain.proofs.Laws.Booleans.{by_test}
 use Rattle.plain.proofs.Laws.Rank.{rank_none, rank_live}
+use Rattle.plain.specs.Laws.Renumberings.{both}
 
 -- the map has one entry a slot
 pub length_renumbering : (next : ℕ) (flags : List Bool) → length (renumbering_from next flags) ≡ length flags
@@ -39,13 +40,6 @@ renumbering_all_live next zero = refl
 renumbering_all_live next (suc n) = ap (λ (l : List ℕ). next ∷ l) (renumbering_all_live (suc next) n)
 
 -- ---- two compactions, one after the other
-
--- The slots that survive both: those live in the first flags whose new number is live in the second.
-unfoldable pub both : List Bool → List Bool → List Bool
-both [] second = []
-both (false ∷ first) second = false ∷ both first second
-both (true ∷ first) [] = false ∷ both first []
-both (true ∷ first) (flag ∷ second) = flag ∷ both first second
 
 -- both are flags of the slots before the first
 pub length_both : (first second : List Bool) → length (both first second) ≡ length first

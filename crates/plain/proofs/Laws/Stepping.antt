@@ -1,5 +1,6 @@
 -- A step and a strip: they keep the lists well formed, and what is refused changes nothing.
-use Rattle.std.specs.Prelude.{ℕ, zero, suc, ◌<◌, ◌^◌, ◌≡◌, refl, Bool, true, false, cond, ◌&&◌, List, [], ◌∷◌, get_or, eqb}
+-- ---- refused means unchanged
+use Rattle.std.specs.Prelude.{ℕ, zero, suc, ◌<◌, ◌^◌, ◌≡◌, refl, Bool, true, false, cond, ◌&&◌, List, [], ◌∷◌, eqb}
 use Rattle.plain.specs.Library.{Option, none, some}
 use Rattle.plain.specs.declared.TraversalDirection.{TraversalDirection}
 use Rattle.plain.specs.declared.EdgePayload.{EdgePayload}
@@ -9,10 +10,10 @@ use Rattle.plain.specs.Plain.{Plain, list_of, node_slot, edge_slot, end_of, node
 use Rattle.plain.specs.Operations.{unused, decoded, operations}
 use Rattle.plain.specs.Step.{Capacities, Outcome, State, refused, unless, removing, moving, live_node, live_edge, node_fault, node_missing, edge_fault, edge_missing, room_fault, self_fault, payload_fault, step, stepped, run}
 use Rattle.plain.specs.WellFormed.{WellFormed}
-use Rattle.plain.proofs.Laws.Cases.{Case, case_of, add_node_full, add_node, add_edge_inverted, add_edge_source_absent, add_edge_source_removed, add_edge_target_absent, add_edge_target_removed, add_edge_full, add_edge, remove_edge_absent, remove_edge_removed, remove_edge, remove_node_absent, remove_node_removed, remove_node, redirect_edge_absent, redirect_edge_removed, redirect_node_absent, redirect_node_removed, redirect_same, redirect, move_onto_itself, move_old_absent, move_nothing, move_new_absent, move_new_removed, move, set_payload_inverted, set_payload_absent, set_payload, unknown}
+use Rattle.plain.specs.Laws.Cases.{Case, add_node_full, add_node, add_edge_inverted, add_edge_source_absent, add_edge_source_removed, add_edge_target_absent, add_edge_target_removed, add_edge_full, add_edge, remove_edge_absent, remove_edge_removed, remove_edge, remove_node_absent, remove_node_removed, remove_node, redirect_edge_absent, redirect_edge_removed, redirect_node_absent, redirect_node_removed, redirect_same, redirect, move_onto_itself, move_old_absent, move_nothing, move_new_absent, move_new_removed, move, set_payload_inverted, set_payload_absent, set_payload, unknown}
+use Rattle.plain.proofs.Laws.Cases.{case_of}
 use Rattle.plain.proofs.Laws.Operating.{node_added_well_formed, edge_added_well_formed, edge_removed_well_formed, node_removed_well_formed, redirected_well_formed, moved_well_formed, payload_set_well_formed, edge_below}
-
--- ---- refused means unchanged
+use Rattle.plain.specs.Laws.Stepping.{AllFitting, Fitting, Words, no_more, one_more}
 
 -- an outcome that is no answer 0 leaves the lists and the compact flag
 abbrev Leaves : Plain → Outcome → Type 0
@@ -56,17 +57,6 @@ refused_unchanged caps p (SetPayload e v) = leaves_unless (payload_fault v) p _ 
 refused_unchanged caps p Unknown = λ h. refl
 
 -- ---- well formed again
-
--- the payload of an operation fits its words; of an edge's the high does, since a low above it is refused
-abbrev pub Fitting : Operation → Type 0
-Fitting (AddNode v) = v < 2 ^ 32
-Fitting (AddEdge s t v) = v.high < 2 ^ 32
-Fitting (RemoveEdge e) = Unit
-Fitting (RemoveNode x) = Unit
-Fitting (Redirect d e x) = Unit
-Fitting (Move d old new) = Unit
-Fitting (SetPayload e v) = v.high < 2 ^ 32
-Fitting Unknown = Unit
 
 fitting_cond : (b : Bool) (x y : Operation) → Fitting x → Fitting y → Fitting (cond b x y)
 fitting_cond true x y h k = h
@@ -129,20 +119,12 @@ case_well_formed unknown fits h = h
 pub step_well_formed : {caps : Capacities} {p : Plain} (operation : Operation) → Fitting operation → WellFormed caps p → WellFormed caps (step caps p operation).lists
 step_well_formed {caps} {p} operation fits h = case_well_formed (case_of caps p operation) fits h
 
-pub data AllFitting : List Operation → Type 0 where
-  no_more : AllFitting []
-  one_more : {x : Operation} {xs : List Operation} → Fitting x → AllFitting xs → AllFitting (x ∷ xs)
-
 -- a strip keeps the lists well formed
 pub run_well_formed : {caps : Capacities} (s : State) {ops : List Operation} → AllFitting ops → WellFormed caps s.lists
     → WellFormed caps (run caps s ops).lists
 unfolding run
 run_well_formed s no_more h = h
 run_well_formed {caps} s (one_more {x} f fs) h = run_well_formed (stepped caps s x) fs (step_well_formed x f h)
-
--- the words of a strip fit
-abbrev pub Words : List ℕ → Type 0
-Words words = (i : ℕ) → get_or words i 0 < 2 ^ 32
 
 pub operations_fitting : (words : List ℕ) → Words words → AllFitting (operations words)
 unfolding operations

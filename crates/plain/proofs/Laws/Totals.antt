@@ -1,9 +1,8 @@
 -- Totals: "as a low and a high sum, each exact in 64 bits: every choice of weights within the ranges sums to between them, and both ends are reached".
-use Rattle.std.specs.Prelude.{ℕ, ◌*◌, ◌^◌, ◌≤◌, ◌<◌, ◌≡◌, refl, false, List, [], ◌∷◌, map, length, get_or, eqb}
+use Rattle.std.specs.Prelude.{ℕ, ◌*◌, ◌^◌, ◌≤◌, ◌<◌, refl, false, List, [], ◌∷◌, map, length, get_or, eqb}
 use Rattle.plain.specs.Library.{sym, ◌∙◌, arith, lt-ltb}
 use Rattle.plain.specs.declared.TraversalDirection.{TraversalDirection}
 use Rattle.plain.specs.declared.EdgePayload.{EdgePayload}
-use Rattle.plain.specs.declared.Total.{Total}
 use Rattle.plain.specs.Numbers.{LIMIT}
 use Rattle.plain.specs.Lists.{sum, from}
 use Rattle.plain.specs.Plain.{low_of, high_of, Plain, no_edge, node_bound, edge_bound, edge_flags, list_of, end_of}
@@ -14,29 +13,7 @@ use Rattle.plain.proofs.Laws.Booleans.{and_left}
 use Rattle.plain.proofs.Laws.ListLaws.{distinct_within, member_below, length_from}
 use Rattle.plain.proofs.Laws.Operating.{incident, edge_below}
 use Rattle.plain.proofs.Laws.CallCases.{total_there}
-
--- a choice of weights, one within the range of each payload
-pub data Chosen : List EdgePayload → List ℕ → Type 0 where
-  no_weight : Chosen [] []
-  one_weight : {r : EdgePayload} {rs : List EdgePayload} {w : ℕ} {ws : List ℕ} → r.low ≤ w → w ≤ r.high → Chosen rs ws → Chosen (r ∷ rs) (w ∷ ws)
-
--- A sum that some choice has.
-pub record Reached (payloads : List EdgePayload) (n : ℕ) : Type 0 where
-  pub choice : List ℕ
-  pub chosen : Chosen payloads choice
-  pub sums : sum choice ≡ n
-
--- What a total says of the payloads of a list.
-pub record Totals (t : Total) (payloads : List EdgePayload) : Type 0 where
-  -- "every choice of weights within the ranges sums to between them"
-  pub at_least : (ws : List ℕ) → Chosen payloads ws → t.low ≤ sum ws
-  pub at_most : (ws : List ℕ) → Chosen payloads ws → sum ws ≤ t.high
-  -- "and both ends are reached"
-  pub low_reached : Reached payloads t.low
-  pub high_reached : Reached payloads t.high
-  -- "each exact in 64 bits"
-  pub low_fits : t.low < 2 ^ 64
-  pub high_fits : t.high < 2 ^ 64
+use Rattle.plain.specs.Laws.Totals.{Chosen, Totals, no_weight, one_weight}
 
 -- ---- the sums of any payloads
 

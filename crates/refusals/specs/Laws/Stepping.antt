@@ -6,7 +6,8 @@ use Rattle.plain.specs.declared.Operation.TheVariants.{Unknown}
 use Rattle.plain.specs.Numbers.{NONE}
 use Rattle.plain.specs.Step.{Outcome}
 use Rattle.plain.proofs.Laws.Booleans.{true_false}
-use Rattle.plain.proofs.Laws.Cases.{Case, comes_to, unknown as unknown_code}
+use Rattle.plain.specs.Laws.Cases.{Case, unknown as unknown_code}
+use Rattle.plain.proofs.Laws.Cases.{comes_to}
 use Rattle.shape.specs.Shape.{Words, capacities, shape_of, lists}
 use Rattle.shape.specs.Checked.{Checked}
 use Rattle.shape.specs.Kept.{kept_none}

@@ -10,7 +10,8 @@ use Rattle.shape.specs.Checked.{Runs, Rings}
 use Rattle.shape.specs.Writes.{OfLinks, OfNode}
 use Rattle.shape.specs.Kept.{Mark, AxisKept, mark_through}
 use Rattle.shape.proofs.Laws.Chains.{run_is, run_agree}
-use Rattle.shape.proofs.Laws.Frames.{SameRun, run_list_agree, run_of_agree, run_of_unmarked, ring_kept, rings_kept}
+use Rattle.shape.specs.Laws.Frames.{SameRun}
+use Rattle.shape.proofs.Laws.Frames.{run_list_agree, run_of_agree, run_of_unmarked, ring_kept, rings_kept}
 use Rattle.runs.specs.Runs.{Editable, Edited}
 use Rattle.runs.specs.Laws.Runs.{entries_of, run_of_marked, entries_are}
 

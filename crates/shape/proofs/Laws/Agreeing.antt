@@ -1,5 +1,6 @@
 -- What the shape fixes of the words: two checked stores with equal lengths, one shape and equal marks have equal counts and an equal word at each field. So of the
 -- outcomes of a call whose contract gives the shape and the marks, only what is no field is left to the program.
+-- ---- lists that are linked
 use Rattle.std.specs.Prelude.{ℕ, zero, suc, ◌+◌, ◌-◌, ◌*◌, ◌^◌, ◌≤◌, ◌<◌, ◌≡◌, refl, Bool, ◌⊎◌, ◌≢◌, List, [], ◌∷◌, ◌++◌, length, get_or, eqb}
 use Rattle.plain.specs.Library.{sym, ap, ap₂, ◌∙◌, subst, subst₂, inl, inr, ⊎_elim, Option, none, some, length-map, length-append, zero-add, arith, ne_eqb, eqb-true, eqb-false, lt-ltb}
 use Rattle.plain.specs.declared.TraversalDirection.{TraversalDirection}
@@ -21,8 +22,7 @@ use Rattle.shape.specs.Fields.{Column, ends, adjacency, next, links, last, first
 use Rattle.shape.proofs.Laws.Chains.{in_none, in_snoc, line_last, run_line, run_empty}
 use Rattle.shape.proofs.Laws.Frames.{run_list_unmarked, run_of_unmarked}
 use Rattle.shape.proofs.Laws.Reading.{node_bound_is, edge_bound_is, node_at, edge_at, node_flags_are, edge_flags_are, axis_is, axis_end, axis_adjacency}
-
--- ---- lists that are linked
+use Rattle.shape.specs.Laws.Agreeing.{Narrow}
 
 -- an entry of a list is the first or a later one
 in_cons : (x y : ℕ) (ys : List ℕ) → In x (y ∷ ys) → (x ≡ y) ⊎ In x ys
@@ -244,11 +244,6 @@ module _
       fields_agree offsets x f = offset_same f.1 x f.0
 
 -- ---- the store
-
--- The live words that hold a bit of a slot are words of 64 bits, as all of a slice of `u64` are.
-pub record Narrow (w : Words) : Type 0 where
-  pub nodes : (i : ℕ) → 64 * i < w.counts.nodes.bound → get_or w.live_nodes i 0 < 2 ^ 64
-  pub edges : (i : ℕ) → 64 * i < w.counts.edges.bound → get_or w.live_edges i 0 < 2 ^ 64
 
 -- one kind of slot: counts with one bound and one base and equal flags are equal
 slots_same : {c c' : ℕ} {words words' : List ℕ} {s s' : Slots} → SlotsChecked c words s → SlotsChecked c' words' s' → s'.bound ≡ s.bound → s'.base ≡ s.base

@@ -12,10 +12,11 @@ use Rattle.shape.specs.Shape.{node_capacity, edge_capacity, axis_in, adjacency_i
 use Rattle.shape.specs.Checked.{Runs, Rings, Index, Checked}
 use Rattle.shape.proofs.Laws.Chains.{in_none, ring_below}
 use Rattle.shape.proofs.Laws.Frames.{run_list_below}
-use Rattle.shape.proofs.Laws.NewBase.{base_start, base_end, base_between, base_range}
+use Rattle.shape.specs.Laws.NewBase.{base_start, base_end}
+use Rattle.shape.proofs.Laws.NewBase.{base_between, base_range}
 use Rattle.shape.proofs.Laws.Keeping.{in_either}
-use Rattle.shape.proofs.Laws.Refining.{Proper}
-use Rattle.shape.proofs.Laws.Compactness.{Based}
+use Rattle.shape.specs.Laws.Refining.{Proper}
+use Rattle.shape.specs.Laws.Compactness.{Based}
 use Rattle.shape.proofs.Laws.Reading.{shape_adjacency, node_bound_is, edge_bound_is, axis_is, axis_nodes}
 
 -- entries of the compressed index are base edges

@@ -1,4 +1,5 @@
 -- The tests of the check and what they mean: `broken` is 0 exactly where the words are a checked store.
+-- ---- tests of all slots
 use Rattle.std.specs.Prelude.{ℕ, zero, suc, ◌*◌, ◌-◌, ◌≤◌, ◌<◌, ◌≡◌, refl, Bool, true, false, ◌&&◌, ◌||◌, not, List, [], ◌∷◌, ◌++◌, map, length, get_or, eqb, leb, ltb}
 use Rattle.plain.specs.Library.{sym, ap, subst, ◌∙◌, inl, inr, ⊎_elim, length-append, length-map, get_or-eq_default, zero-add, arith, eq-eqb, ne_eqb, eqb-true, eqb-false, leb-true, le-leb, ltb-true, lt-ltb, not-true}
 use Rattle.std.proofs.Math.Nat.{suc_inj}
@@ -20,8 +21,7 @@ use Rattle.shape.specs.Checked.{Index, Runs}
 use Rattle.shape.specs.Rules.{index_right, ring_right, last_of, run_right, runs_right, walks_right}
 use Rattle.shape.proofs.Laws.Chains.{in_snoc, in_none, until_is, line_last, ring_line, chain_length, run_below, run_once}
 use Rattle.shape.proofs.Laws.Frames.{run_list_unmarked}
-
--- ---- tests of all slots
+use Rattle.shape.specs.Laws.Checking.{Framed}
 
 pub all_below : (test : ℕ → Bool) (n : ℕ) → all test (from 0 n) ≡ true → (x : ℕ) → x < n → test x ≡ true
 all_below test n h x l = all_member test (from 0 n) h x (member_below x n ∙ lt-ltb x n l)
@@ -347,13 +347,6 @@ module _ (ws : List ℕ) (ce cn : ℕ) (counts : Counts) (nodes edges : List Boo
           (λ l. in_none e (ap (member e) (sym (past_runs x l)) ∙ m)) (below_or_not x counts.nodes.bound)
 
 -- ---- rule 7
-
--- what the plain lists of a shape have by themselves
-pub record Framed (p : Plain) (d : TraversalDirection) : Type 0 where
-  pub ends_length : length (incidence d p).ends ≡ length (edge_flags p)
-  pub lists_length : length (incidence d p).lists ≡ node_bound p
-  pub ends_below : (e : ℕ) → e < length (edge_flags p) → end_of d p e < node_bound p
-  pub entries_live : (x e : ℕ) → In e (list_of d p x) → get_or (edge_flags p) e false ≡ true
 
 module _ (p : Plain) (d : TraversalDirection) where
   node_test : ℕ → Bool

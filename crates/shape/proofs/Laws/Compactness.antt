@@ -1,5 +1,5 @@
 -- Whether the shape is compact after an operation: as the compact flag beside the plain lists says.
-use Rattle.std.specs.Prelude.{ℕ, zero, suc, ◌≤◌, ◌<◌, ◌≡◌, refl, Bool, true, false, cond, ◌&&◌, not, List, [], ◌∷◌, ◌++◌, length, get_or, set, eqb}
+use Rattle.std.specs.Prelude.{ℕ, zero, suc, ◌<◌, ◌≡◌, refl, Bool, true, false, cond, ◌&&◌, not, List, [], ◌∷◌, ◌++◌, length, get_or, set, eqb}
 use Rattle.plain.specs.Library.{sym, ap, ◌∙◌, length-set, length-map, length-append, get_or-set_same, arith, eq-eqb, ne_eqb}
 use Rattle.std.proofs.Math.Seq.{map-set_same}
 use Rattle.plain.specs.declared.TraversalDirection.{TraversalDirection}
@@ -13,12 +13,15 @@ use Rattle.plain.specs.Step.{Capacities, Outcome, step}
 use Rattle.plain.proofs.Laws.Booleans.{by_test, and_false, and_true}
 use Rattle.plain.proofs.Laws.Deleting.{map_set}
 use Rattle.plain.proofs.Laws.Rank.{live_below}
-use Rattle.plain.proofs.Laws.Cases.{Case, case_of, add_node_full, add_node, add_edge_inverted, add_edge_source_absent, add_edge_source_removed, add_edge_target_absent, add_edge_target_removed, add_edge_full, add_edge, remove_edge_absent, remove_edge_removed, remove_edge, remove_node_absent, remove_node_removed, remove_node, redirect_edge_absent, redirect_edge_removed, redirect_node_absent, redirect_node_removed, redirect_same, redirect, move_onto_itself, move_old_absent, move_nothing, move_new_absent, move_new_removed, move, set_payload_inverted, set_payload_absent, set_payload, unknown}
+use Rattle.plain.specs.Laws.Cases.{Case, add_node_full, add_node, add_edge_inverted, add_edge_source_absent, add_edge_source_removed, add_edge_target_absent, add_edge_target_removed, add_edge_full, add_edge, remove_edge_absent, remove_edge_removed, remove_edge, remove_node_absent, remove_node_removed, remove_node, redirect_edge_absent, redirect_edge_removed, redirect_node_absent, redirect_node_removed, redirect_same, redirect, move_onto_itself, move_old_absent, move_nothing, move_new_absent, move_new_removed, move, set_payload_inverted, set_payload_absent, set_payload, unknown}
+use Rattle.plain.proofs.Laws.Cases.{case_of}
 use Rattle.shape.specs.Shape.{Axis, Shape, no_adjacency, axis_in, adjacency_of, node_flags_of, edge_flags_of, has_run, is_compact, plain_of}
 use Rattle.shape.specs.Steps.{live_entries, taken, swept, with_run, redirected_axis, moved_axis, with_axis, retired, walk_in, acted, acts, shape_step}
-use Rattle.shape.proofs.Laws.Refining.{Proper, live_node_below}
+use Rattle.shape.specs.Laws.Refining.{Proper}
+use Rattle.shape.proofs.Laws.Refining.{live_node_below}
 use Rattle.shape.proofs.Laws.Stepping.{length_some}
 use Rattle.shape.proofs.Laws.Keeping.{retired_length}
+use Rattle.shape.specs.Laws.Compactness.{Based}
 
 -- a test that one element fails, all do not pass
 not_all : {A : Type 0} (test : A → Bool) (l : List A) (x : ℕ) (d : A) → x < length l → test (get_or l x d) ≡ false → all test l ≡ false
@@ -26,11 +29,6 @@ unfolding all
 not_all test [] x d h k = absurd (omega arith)
 not_all test (a ∷ l) zero d h k = rw k
 not_all test (a ∷ l) (suc x) d h k = rw (not_all test l x d (omega arith) k, and_false (test a))
-
--- the base is within the bounds
-pub record Based (s : Shape) : Type 0 where
-  pub nodes_within : s.base_nodes ≤ length s.nodes
-  pub edges_within : s.base_edges ≤ length s.edges
 
 -- ---- what makes a shape not compact
 

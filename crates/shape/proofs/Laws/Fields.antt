@@ -23,7 +23,8 @@ use Rattle.shape.specs.Checked.{SlotsChecked, Index, AxisChecked, Checked}
 use Rattle.shape.specs.Kept.{same_capacities, same_nodes, same_edges, same_highs, same_live_nodes, same_live_edges, same_axis}
 use Rattle.shape.specs.Fields.{Column, ends, adjacency, next, links, last, first, tail, count, marks, offsets, begins, AxisField, node_payload, edge_low, edge_high, node_bits, edge_bits, axis_word, SameFields}
 use Rattle.shape.proofs.Laws.Chains.{in_front, seg_agree, run_is, run_empty, run_line, ring_below}
-use Rattle.shape.proofs.Laws.Frames.{SameRing, base_of_agree, offset_within, run_list_unmarked, run_of_unmarked, ring_agrees, rings_agree}
+use Rattle.shape.specs.Laws.Frames.{SameRing}
+use Rattle.shape.proofs.Laws.Frames.{base_of_agree, offset_within, run_list_unmarked, run_of_unmarked, ring_agrees, rings_agree}
 use Rattle.shape.proofs.Laws.Reading.{made_same}
 
 -- a line asks only the links of its own entries but the last

@@ -1,6 +1,7 @@
 -- Which words the definitions of the shape read. Of two lists of words ws and vs, each law asks that they agree at the cells that a definition reads of ws, and
 -- gives that its values are equal; and where a rule of the check holds of ws, it holds of vs. A caller shows the cells equal from what it knows of the words
 -- by ranges of indices: the column, and `omega` for the place.
+-- ---- the base part
 use Rattle.std.specs.Prelude.{ℕ, zero, suc, ◌+◌, ◌-◌, ◌*◌, ◌≤◌, ◌<◌, ◌≡◌, refl, true, cond, ◌&&◌, ◌⊎◌, ◌≢◌, List, [], get_or, eqb, ltb, leb}
 use Rattle.plain.specs.Library.{sym, ◌∙◌, inl, inr, ⊎_elim, none, arith, ltb-true, leb-true, eq-eqb, ne_eqb, eqb-true, eqb-false}
 use Rattle.std.proofs.Common.{le_trans, le_refl}
@@ -8,13 +9,12 @@ use Rattle.plain.specs.Numbers.{NONE, LIMIT}
 use Rattle.plain.specs.Lists.{from}
 use Rattle.plain.proofs.Laws.Booleans.{by_test, and_left, and_right, below_or_not}
 use Rattle.plain.proofs.Laws.ListLaws.{member_from, map_same}
-use Rattle.shape.specs.Columns.{cell, end_at, adjacency_at, next_at, link_at, last_at, first_at, tail_at, count_at, mark_at, offset_at}
+use Rattle.shape.specs.Columns.{cell, end_at, adjacency_at, next_at, last_at, first_at, tail_at, count_at, mark_at, offset_at}
 use Rattle.shape.specs.Chains.{ring, In, Run, Ring}
 use Rattle.shape.specs.Shape.{between, base_of, run_list, run_of, ring_of}
 use Rattle.shape.specs.Checked.{Indexed, Index, Rings, Runs}
 use Rattle.shape.proofs.Laws.Chains.{in_none, chain_agree, run_below, run_agree, run_wider, until_agree, ring_is, ring_agree, ring_below, ring_wider}
-
--- ---- the base part
+use Rattle.shape.specs.Laws.Frames.{SameRing, SameRun}
 
 -- the entries of a column from a up to b, where two columns agree there
 pub between_agree : (f g : ℕ → ℕ) (a b : ℕ) → ((i : ℕ) → a ≤ i → i < b → f i ≡ g i) → between f a b ≡ between g a b
@@ -86,13 +86,6 @@ module _
             }
 
 -- ---- runs
-
--- What a run is read from is in vs as it is in ws: the node's cells and the links of the run's own entries.
-pub record SameRun (ws vs : List ℕ) (ce cn x : ℕ) : Type 0 where
-  pub mark : mark_at vs ce cn x ≡ mark_at ws ce cn x
-  pub count : count_at vs ce cn x ≡ count_at ws ce cn x
-  pub first : first_at vs ce cn x ≡ first_at ws ce cn x
-  pub links : (e : ℕ) → In e (run_list ws ce cn x) → link_at vs ce e ≡ link_at ws ce e
 
 module _ (ws vs : List ℕ) (ce cn x : ℕ) (same : SameRun ws vs ce cn x) where
   -- the entries of a run
@@ -226,12 +219,6 @@ module _
     -- rule 5 of them
     pub rings_are : Rings ws ce nb be eb
     rings_are = record { ring = λ x h. rw (ring_of_is x h) (ring x h); own = λ x e h m. own x e h (rw (ring_of_is x h) at m) }
-
--- What a ring is read from, and the ends of its entries, are in vs as they are in ws.
-pub record SameRing (ws vs : List ℕ) (ce be eb x : ℕ) : Type 0 where
-  pub last : last_at vs ce x ≡ last_at ws ce x
-  pub next : (e : ℕ) → In e (ring_of ws ce be eb x) → next_at vs ce e ≡ next_at ws ce e
-  pub ends : (e : ℕ) → In e (ring_of ws ce be eb x) → end_at vs e ≡ end_at ws e
 
 -- one node's ring is now xs, and every other node's is as before; the bounds may have risen
 module _

@@ -16,33 +16,16 @@ use Rattle.plain.proofs.Laws.Booleans.{below_or_not, and_left, and_right, both_t
 use Rattle.plain.proofs.Laws.Operating.{no_payload_weighed}
 use Rattle.plain.proofs.Laws.ListLaws.{member_keep, get_or_map_each}
 use Rattle.liveness.specs.Flags.{live_flags, packed}
-use Rattle.shape.specs.Columns.{Sized, end_at}
+use Rattle.shape.specs.Columns.{end_at}
 use Rattle.shape.specs.Chains.{In}
 use Rattle.shape.specs.Shape.{Words, Axis, node_capacity, edge_capacity, node_live, edge_live, node_slot_at, edge_payload_at, axis_words, raw, live_in, adjacency_of, node_flags_of, edge_flags_of, shape_of, plain_of}
-use Rattle.shape.specs.Checked.{Bounded, LiveRight, SlotsChecked, AxisChecked, Checked}
+use Rattle.shape.specs.Checked.{LiveRight, SlotsChecked, AxisChecked, Checked}
 use Rattle.shape.specs.Rules.{both_axes, slots_right, rule_1, live_agrees, rule_2, ends_right, weights_right, rule_3, index_right, rule_4, ring_right, rule_5, runs_right, rule_6, walks_right, rule_7, broken}
 use Rattle.shape.proofs.Laws.Refining.{lists_length, list_is_walk}
-use Rattle.shape.proofs.Laws.Checking.{all_below, below_all, ring_sound, ring_own, ring_complete, index_sound, index_complete, runs_sound, dead_runs_sound, runs_complete, Framed, walks_live, walks_sound, walks_complete}
+use Rattle.shape.specs.Laws.Checking.{Framed}
+use Rattle.shape.proofs.Laws.Checking.{all_below, below_all, ring_sound, ring_own, ring_complete, index_sound, index_complete, runs_sound, dead_runs_sound, runs_complete, walks_live, walks_sound, walks_complete}
 use Rattle.shape.proofs.Laws.Reading.{edge_at, plain_ends, plain_end, node_bound_is, edge_bound_is, axis_is, axis_ends, axis_nodes}
-
--- the payload words are words of 32 bits, as a lent slice's are
-pub record Payloads (w : Words) : Type 0 where
-  pub nodes : (x : ℕ) → get_or w.nodes x 0 < 2 ^ 32
-  pub highs : (e : ℕ) → get_or w.highs e 0 < 2 ^ 32
-
--- every rule before the last holds: reads stay inside the words, and walks end
-pub record Structured (w : Words) : Type 0 where
-  pub r1 : rule_1 w ≡ true
-  pub r2 : rule_2 w ≡ true
-  pub r3 : rule_3 w ≡ true
-  pub r4 : rule_4 w ≡ true
-  pub r5 : rule_5 w ≡ true
-  pub r6 : rule_6 w ≡ true
-
--- every rule holds
-pub record Passes (w : Words) : Type 0 where
-  pub structured : Structured w
-  pub r7 : rule_7 w ≡ true
+use Rattle.shape.specs.Laws.Judging.{Passes, Payloads, SizesRight, SlotsRight, Structured}
 
 -- one of both directions
 axis_passes : (test : List ℕ → Bool) (w : Words) → both_axes test w ≡ true → (d : TraversalDirection) → test (axis_words d w) ≡ true
@@ -53,12 +36,6 @@ axes_pass : (test : List ℕ → Bool) (w : Words) → ((d : TraversalDirection)
 axes_pass test w h = both_true (h Outgoing) (h Incoming)
 
 -- ---- one kind of slot
-
--- what rule 1 says of it
-pub record SlotsRight (capacity live-length : ℕ) (s : Slots) : Type 0 where
-  pub within : capacity ≤ LIMIT
-  pub bounded : Bounded capacity s
-  pub long : live_words capacity ≤ live-length
 
 pub slots_sound : (capacity live-length : ℕ) (s : Slots) → slots_right capacity live-length s ≡ true → SlotsRight capacity live-length s
 slots_sound capacity live-length s h =
@@ -104,13 +81,6 @@ module _ (w : Words) where
       ∙ axis_nodes w.incoming (edge_capacity w) (node_capacity w) w.counts ∙ sym (node_bound_is w)
 
 -- ---- from the tests to the store
-
--- what rule 1 says of a store
-pub record SizesRight (w : Words) : Type 0 where
-  pub nodes : SlotsRight (node_capacity w) (length w.live_nodes) w.counts.nodes
-  pub edges : SlotsRight (edge_capacity w) (length w.live_edges) w.counts.edges
-  pub highs_long : edge_capacity w ≤ length w.highs
-  pub sized : (d : TraversalDirection) → Sized (axis_words d w) (edge_capacity w) (node_capacity w)
 
 module _ (w : Words) where
   pub sizes_sound : rule_1 w ≡ true → SizesRight w

@@ -10,14 +10,17 @@ use Rattle.plain.specs.Plain.{EdgeSlot, killed_edge, no_edge}
 use Rattle.plain.specs.Step.{Capacities, Outcome, step}
 use Rattle.plain.proofs.Laws.Booleans.{by_test, and_left, or_other, or_false}
 use Rattle.plain.proofs.Laws.ListLaws.{member_append, member_keep, member_without}
-use Rattle.plain.proofs.Laws.Cases.{Case, case_of, redirect_edge_absent, redirect_edge_removed, redirect_node_absent, redirect_node_removed, redirect_same, redirect}
+use Rattle.plain.specs.Laws.Cases.{Case, redirect_edge_absent, redirect_edge_removed, redirect_node_absent, redirect_node_removed, redirect_same, redirect}
+use Rattle.plain.proofs.Laws.Cases.{case_of}
 use Rattle.plain.proofs.Laws.Operating.{edge_below}
-use Rattle.plain.proofs.Laws.Stepping.{Fitting, step_well_formed}
+use Rattle.plain.specs.Laws.Stepping.{Fitting}
+use Rattle.plain.proofs.Laws.Stepping.{step_well_formed}
 use Rattle.shape.specs.Chains.{In}
 use Rattle.shape.specs.Shape.{Adjacency, Shape, hiding, part, raw, live_in, no_adjacency, axis_in, adjacency_of, edge_flags_of, plain_of}
 use Rattle.shape.specs.Steps.{live_entries, run_or_base, taken, swept, with_run, opened, appended, redirected_axis, moved_axis, retired, walk_in, acted, acts, shape_step}
 use Rattle.shape.proofs.Laws.Chains.{in_front, in_none}
-use Rattle.shape.proofs.Laws.Refining.{Proper, get_or_added}
+use Rattle.shape.specs.Laws.Refining.{Proper}
+use Rattle.shape.proofs.Laws.Refining.{get_or_added}
 use Rattle.shape.proofs.Laws.Stepping.{step_refines}
 
 -- ---- entries of edited lists come from the lists

@@ -1,17 +1,18 @@
 -- A new base: words whose offsets were counted from the ends and whose adjacency column holds joined lists. Each node's base part is its list, and the index
 -- passes rule 4; with every ring empty and no run, that is the whole direction. What compaction and image reading leave.
-use Rattle.std.specs.Prelude.{ℕ, suc, ◌+◌, ◌-◌, ◌*◌, ◌≤◌, ◌<◌, ◌≡◌, Bool, cond, ◌&&◌, List, [], map, length, get_or, take, eqb, ltb}
+-- ---- bounds of a base part
+use Rattle.std.specs.Prelude.{ℕ, suc, ◌+◌, ◌-◌, ◌*◌, ◌≤◌, ◌<◌, ◌≡◌, Bool, ◌&&◌, List, [], map, length, get_or, take, eqb, ltb}
 use Rattle.plain.specs.Library.{sym, ap, ap₂, ◌∙◌, subst, inl, inr, none, map-map, zero-add, arith, lt-ltb, le-ltb, ltb-true}
 use Rattle.plain.specs.declared.Counts.{Counts}
-use Rattle.plain.specs.Numbers.{NONE}
 use Rattle.plain.specs.Lists.{from, all, count, sum, joined, member, distinct}
 use Rattle.plain.specs.Image.{lists_right, at_their_nodes}
 use Rattle.plain.specs.WellFormed.{Fitted}
 use Rattle.plain.proofs.Laws.Booleans.{by_test, true_false, and_left}
 use Rattle.plain.proofs.Laws.ListLaws.{get_d_map, map_same, map_get_or, length_from, get_or_from, member_below}
-use Rattle.plain.proofs.Laws.Below.{Below, below_of, below_all, below_within}
+use Rattle.plain.specs.Laws.Below.{Below}
+use Rattle.plain.proofs.Laws.Below.{below_of, below_all, below_within}
 use Rattle.plain.proofs.Laws.Cutting.{length_joined, sum_list_lengths}
-use Rattle.shape.specs.Columns.{Sized, cell, offset_at, last_at, mark_at}
+use Rattle.shape.specs.Columns.{Sized, cell, offset_at}
 use Rattle.shape.specs.Shape.{between, base_of, run_of, run_list, ring_of, Adjacency, Axis, axis_of}
 use Rattle.shape.specs.Chains.{ring}
 use Rattle.shape.specs.Checked.{Index, AxisChecked}
@@ -19,16 +20,7 @@ use Rattle.plain.proofs.Laws.Fitting.{fitted_many, fitted_long}
 use Rattle.shape.specs.Index.{Rewritten, total, before, ends_of}
 use Rattle.shape.proofs.Laws.Frames.{offset_within}
 use Rattle.shape.proofs.Laws.Indexing.{before_suc, before_zero, before_total, before_all, before_few, length_ends, end_of_edge, ends_same, part_of_joined, map_from_same, front_range}
-
--- ---- bounds of a base part
-
--- where the base part of a node begins in the adjacency column, 0 for a node that came later
-abbrev pub base_start : List ℕ → ℕ → ℕ → ℕ → ℕ → ℕ
-base_start ws ce cn bn x = cond (ltb x bn) (offset_at ws ce cn x) 0
-
--- and where it ends
-abbrev pub base_end : List ℕ → ℕ → ℕ → ℕ → ℕ → ℕ
-base_end ws ce cn bn x = cond (ltb x bn) (offset_at ws ce cn (suc x)) 0
+use Rattle.shape.specs.Laws.NewBase.{Built, NewBase, Offsets, base_end, base_start, in_base}
 
 module _ (ws : List ℕ) (ce cn bn : ℕ) where
   -- the base part is what stands between its bounds
@@ -61,12 +53,6 @@ module _ {n : ℕ} {ends : List ℕ} {lists : List (List ℕ)} (f : Fitted n end
 
 -- ---- offsets counted from ends
 
--- Offsets that start at 0, step over the edges of each node, and stop at the number of edges.
-pub record Offsets (ws : List ℕ) (ce cn n : ℕ) (ends : List ℕ) : Type 0 where
-  pub starts : offset_at ws ce cn 0 ≡ 0
-  pub steps : (x : ℕ) → x < n → offset_at ws ce cn (suc x) ≡ offset_at ws ce cn x + count (eqb x) ends
-  pub stops : offset_at ws ce cn n ≡ length ends
-
 -- so are those that count the ends below each node
 pub offsets_counted : (ws : List ℕ) (ce cn n : ℕ) (ends : List ℕ) → Below n ends → ((x : ℕ) → x < n + 1 → offset_at ws ce cn x ≡ before ends x)
     → Offsets ws ce cn n ends
@@ -77,12 +63,6 @@ offsets_counted ws ce cn n ends below counted = record {
 }
 
 -- ---- an index built from ends and lists
-
--- The index of n nodes, built from the ends of the edges and the list of each node.
-pub record Built (ws : List ℕ) (ce cn n : ℕ) (ends : List ℕ) (lists : List (List ℕ)) : Type 0 where
-  pub ends_there : ends_of ws (length ends) ≡ ends
-  pub offsets : (x : ℕ) → x < n + 1 → offset_at ws ce cn x ≡ before ends x
-  pub entries : map (cell ws ce) (from 0 (length ends)) ≡ joined lists
 
 module _ (ws : List ℕ) (ce cn n : ℕ) (ends : List ℕ) (lists : List (List ℕ)) (f : Fitted n ends lists) (b : Built ws ce cn n ends lists) where
   -- the base part of each node is its list
@@ -132,20 +112,6 @@ built_by {a = a} {c = c} {ce = ce} {cn = cn} {m = m} entries lists fits there r 
 }
 
 -- ---- a new base
-
--- A node's adjacency where all is in the base.
-abbrev pub in_base : List ℕ → Adjacency
-in_base list = record { base = list; run = none; ring = [] }
-
--- One direction, all in the base: the index built from ends and lists, every ring empty, no run, the bounds the base counts.
-pub record NewBase (ws : List ℕ) (ce cn : ℕ) (counts : Counts) (ends : List ℕ) (lists : List (List ℕ)) : Type 0 where
-  pub fitted : Fitted counts.nodes.bound ends lists
-  pub built : Built ws ce cn counts.nodes.bound ends lists
-  pub nodes_based : counts.nodes.base ≡ counts.nodes.bound
-  pub edges_based : counts.edges.base ≡ length ends
-  pub edges_bound : counts.edges.bound ≡ length ends
-  pub rings : (x : ℕ) → x < counts.nodes.bound → last_at ws ce x ≡ NONE
-  pub marks : (x : ℕ) → x < counts.nodes.bound → mark_at ws ce cn x ≡ 0
 
 module _ {ws : List ℕ} {ce cn : ℕ} {counts : Counts} {ends : List ℕ} {lists : List (List ℕ)} (b : NewBase ws ce cn counts ends lists) where
   -- the base part of each node is its list

@@ -9,10 +9,11 @@ use Rattle.plain.specs.declared.Operation.TheVariants.{AddNode, AddEdge, RemoveE
 use Rattle.plain.specs.Lists.{member, without, keep, from, append_at, delete_at, set_all}
 use Rattle.plain.specs.Plain.{Plain, NodeSlot, EdgeSlot, Incidence, incidence, with_incidence, no_node, no_edge, killed_node, list_of, end_of, widened, attached, node_added, edge_added, edge_removed, edges_removed, node_removed, redirected, moved, payload_set}
 use Rattle.plain.specs.Step.{Capacities}
-use Rattle.plain.specs.WellFormed.{Incident, WellFormed}
+use Rattle.plain.specs.WellFormed.{Incident}
 use Rattle.plain.proofs.Laws.Booleans.{by_test, below_or_not, and_left, or_false, or_true, or_other, eqb_comm}
 use Rattle.plain.proofs.Laws.ListLaws.{map_snoc, get_d_map, get_or_from, length_from, member_append}
-use Rattle.plain.proofs.Laws.Deleting.{get_d_set, get_or_snoc, map_set, get_or_append_at, length_append_at, length_delete_at, without_all, without_all_keeps}
+use Rattle.plain.specs.Laws.Deleting.{without_all}
+use Rattle.plain.proofs.Laws.Deleting.{get_d_set, get_or_snoc, map_set, get_or_append_at, length_append_at, length_delete_at, without_all_keeps}
 use Rattle.plain.proofs.Laws.Rank.{live_below}
 use Rattle.plain.proofs.Laws.Directions.{redirected_list, moved_list}
 use Rattle.plain.proofs.Laws.Operating.{incident, edge_below, edges_removed_well_formed, edges_removed_list, edges_removed_nodes, edges_removed_ends, edges_removed_live}
@@ -20,11 +21,7 @@ use Rattle.shape.specs.Chains.{In}
 use Rattle.shape.specs.Shape.{Adjacency, Axis, Shape, part, raw, live_in, walk_of, no_adjacency, axis_in, adjacency_of, node_flags_of, edge_flags_of, walks_of, plain_of}
 use Rattle.shape.specs.Steps.{live_entries, taken, swept, with_run, opened, appended, redirected_axis, moved_axis, with_axis, retired, walk_in, acted}
 use Rattle.shape.proofs.Laws.Taking.{keep_append, keep_again, keep_without, keep_one, keep_agree, keep_both, live_taken, live_edited}
-
--- A shape whose plain lists are well formed and whose entries are edges of the store.
-pub record Proper (caps : Capacities) (s : Shape) : Type 0 where
-  pub walks : WellFormed caps (plain_of s)
-  pub entries_below : (d : TraversalDirection) (x e : ℕ) → In e (raw (adjacency_of d s x)) → e < length s.edges
+use Rattle.shape.specs.Laws.Refining.{Proper}
 
 -- ---- equal plain lists
 

@@ -4,13 +4,14 @@ use Rattle.plain.specs.Library.{ap, ap₂, ◌∙◌}
 use Rattle.plain.specs.declared.Operation.{Operation}
 use Rattle.plain.specs.Plain.{Plain}
 use Rattle.plain.specs.Step.{Capacities, State, stepped, run}
-use Rattle.plain.proofs.Laws.Stepping.{AllFitting, no_more, one_more}
+use Rattle.plain.specs.Laws.Stepping.{AllFitting, no_more, one_more}
 use Rattle.shape.specs.Shape.{Shape}
 use Rattle.shape.specs.Steps.{shape_step, shape_run, state_of}
-use Rattle.shape.proofs.Laws.Refining.{Proper}
+use Rattle.shape.specs.Laws.Refining.{Proper}
 use Rattle.shape.proofs.Laws.Stepping.{step_refines}
 use Rattle.shape.proofs.Laws.Keeping.{step_proper}
-use Rattle.shape.proofs.Laws.Compactness.{Based, step_based, step_compact}
+use Rattle.shape.specs.Laws.Compactness.{Based}
+use Rattle.shape.proofs.Laws.Compactness.{step_based, step_compact}
 
 -- one operation on lists and flag
 pub step_state : {caps : Capacities} {s : Shape} → Proper caps s → Based s → (operation : Operation)

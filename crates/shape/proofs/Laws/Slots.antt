@@ -1,15 +1,11 @@
 -- What the words of a store tell of the flags and bounds of its plain lists, by kind of slot.
-use Rattle.std.specs.Prelude.{ℕ, ◌≤◌, ◌<◌, ◌≡◌, Bool, true, false, List, length, get_or}
+use Rattle.std.specs.Prelude.{ℕ, ◌≤◌, ◌<◌, ◌≡◌, Bool, true, false, List, get_or}
 use Rattle.plain.specs.Plain.{node_flags, edge_flags, node_bound, edge_bound}
-use Rattle.plain.proofs.Laws.Cases.{Absent, Removed, Live}
+use Rattle.plain.specs.Laws.Cases.{Absent, Removed, Live}
 use Rattle.liveness.specs.Laws.Flags.{length_flags}
 use Rattle.shape.specs.Shape.{Words, node_live, edge_live, plain_of, lists}
 use Rattle.shape.proofs.Laws.Reading.{node_flags_are, edge_flags_are, node_bound_is, edge_bound_is}
-
--- The flags of the plain lists are those of the words, as many as the bound says.
-pub record Told (flags live : List Bool) (bound : ℕ) : Type 0 where
-  pub same : flags ≡ live
-  pub long : length live ≡ bound
+use Rattle.shape.specs.Laws.Slots.{Told}
 
 module _ (w : Words) where
   pub nodes_told : Told (node_flags (lists w)) (node_live w) w.counts.nodes.bound

@@ -4,10 +4,12 @@ use Rattle.plain.specs.Library.{arith, eq-eqb, ne_eqb}
 use Rattle.plain.specs.declared.Operation.{Operation}
 use Rattle.plain.specs.Plain.{list_of, end_of}
 use Rattle.plain.specs.Step.{Capacities, Outcome, step}
-use Rattle.plain.proofs.Laws.Cases.{Case, case_of, add_node_full, add_node, add_edge_inverted, add_edge_source_absent, add_edge_source_removed, add_edge_target_absent, add_edge_target_removed, add_edge_full, add_edge, remove_edge_absent, remove_edge_removed, remove_edge, remove_node_absent, remove_node_removed, remove_node, redirect_edge_absent, redirect_edge_removed, redirect_node_absent, redirect_node_removed, redirect_same, redirect, move_onto_itself, move_old_absent, move_nothing, move_new_absent, move_new_removed, move, set_payload_inverted, set_payload_absent, set_payload, unknown}
+use Rattle.plain.specs.Laws.Cases.{Case, add_node_full, add_node, add_edge_inverted, add_edge_source_absent, add_edge_source_removed, add_edge_target_absent, add_edge_target_removed, add_edge_full, add_edge, remove_edge_absent, remove_edge_removed, remove_edge, remove_node_absent, remove_node_removed, remove_node, redirect_edge_absent, redirect_edge_removed, redirect_node_absent, redirect_node_removed, redirect_same, redirect, move_onto_itself, move_old_absent, move_nothing, move_new_absent, move_new_removed, move, set_payload_inverted, set_payload_absent, set_payload, unknown}
+use Rattle.plain.proofs.Laws.Cases.{case_of}
 use Rattle.shape.specs.Shape.{Shape, plain_of}
 use Rattle.shape.specs.Steps.{acted, acts, shape_step}
-use Rattle.shape.proofs.Laws.Refining.{Proper, add_node_refines, add_edge_refines, remove_edge_refines, remove_node_refines, redirect_refines, move_refines, set_payload_refines}
+use Rattle.shape.specs.Laws.Refining.{Proper}
+use Rattle.shape.proofs.Laws.Refining.{add_node_refines, add_edge_refines, remove_edge_refines, remove_node_refines, redirect_refines, move_refines, set_payload_refines}
 
 -- a list that is not empty has a length that is not 0
 pub length_some : {A : Type 0} (l : List A) → (l ≡ [] → ⊥) → length l ≡ 0 → ⊥

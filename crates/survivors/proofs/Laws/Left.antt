@@ -11,7 +11,7 @@ use Rattle.plain.specs.Plain.{edge_flags, end_of, high_of, low_of, no_edge, no_n
 use Rattle.plain.specs.Reads.{live_count, live_slots}
 use Rattle.plain.specs.WellFormed.{Sound}
 use Rattle.plain.proofs.Laws.Compacting.{length_surviving_edges, length_surviving_nodes, survivors_sound}
-use Rattle.plain.proofs.Laws.ImageBits.{record_high, record_low}
+use Rattle.plain.specs.Laws.ImageBits.{record_high, record_low}
 use Rattle.plain.proofs.Laws.ListLaws.{map_same}
 use Rattle.plain.proofs.Laws.Rank.{live_below, member_live_slots}
 use Rattle.liveness.specs.Laws.Flags.{length_flags}
@@ -22,11 +22,7 @@ use Rattle.shape.specs.Shape.{Words, axis_words, capacities, edge_live, lists, n
 use Rattle.relocate.specs.Laws.Stores.{checked_end}
 use Rattle.survivors.specs.Slots.{live_words_of}
 use Rattle.shape.proofs.Laws.Reading.{edge_at, node_at, plain_edge_flags, plain_end, plain_node_flags}
-
--- the end of a record in a direction
-abbrev pub end_in : TraversalDirection → EdgeRecord → ℕ
-end_in Outgoing = source_of
-end_in Incoming = target_of
+use Rattle.survivors.specs.Laws.Left.{end_in}
 
 -- a live slot is below its bound
 pub slot_low : (live : List ℕ) (bound x : ℕ) → get_or (live_flags live bound) x false ≡ true → x < bound

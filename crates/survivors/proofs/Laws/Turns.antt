@@ -19,6 +19,7 @@ use Rattle.shape.proofs.Laws.Indexing.{rewritten_set, rewritten_again, rewritten
 use Rattle.shape.specs.Columns.{cell}
 use Rattle.survivors.specs.Slots.{kept_word, translated_word}
 use Rattle.survivors.proofs.Laws.Slots.{rewritten_written}
+use Rattle.survivors.specs.Laws.Turns.{Passed}
 
 -- one word more at the front
 pub rewritten_next : {entry now : List ℕ} {i : ℕ} {f : ℕ → ℕ} (v : ℕ) → Rewritten entry now 0 i f → i < length entry → v ≡ f i
@@ -33,12 +34,6 @@ rank_suc [] zero = refl
 rank_suc [] (suc x) = refl
 rank_suc (flag ∷ flags) zero = omega arith
 rank_suc (flag ∷ flags) (suc x) = let rest = rank_suc flags x in omega arith
-
--- The slots before `slot` are passed; their live ones are counted from `first` on, and `number` is the next.
-pub record Passed (live : List ℕ) (bound first slot number : ℕ) : Type 0 where
-  pub within : slot ≤ bound
-  pub ranked : number ≡ first + rank (live_flags live bound) slot
-  pub few : number ≤ first + slot
 
 -- no slot is passed
 pub passed_none : (live : List ℕ) (bound first : ℕ) → Passed live bound first 0 first

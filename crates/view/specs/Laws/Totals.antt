@@ -5,7 +5,8 @@ use Rattle.plain.specs.declared.TraversalDirection.{TraversalDirection}
 use Rattle.plain.specs.declared.Total.{Total}
 use Rattle.plain.specs.Reads.{payloads_of, total}
 use Rattle.plain.specs.Calls.{judged_total}
-use Rattle.plain.proofs.Laws.Totals.{Totals, totals}
+use Rattle.plain.specs.Laws.Totals.{Totals}
+use Rattle.plain.proofs.Laws.Totals.{totals}
 use Rattle.shape.specs.Shape.{Words, lists}
 use Rattle.shape.specs.Checked.{Checked}
 use Rattle.shape.proofs.Laws.Judging.{checked_sound}

@@ -4,7 +4,7 @@ use Rattle.std.specs.Prelude.{◌-◌}
 use Rattle.liveness.specs.Flags.{live_flags}
 use Rattle.shape.specs.Index.{Rewritten}
 use Rattle.survivors.specs.Slots.{kept_word}
-use Rattle.survivors.proofs.Laws.Turns.{Passed}
+use Rattle.survivors.specs.Laws.Turns.{Passed}
 use Rattle.join_columns.proofs.slots.copy_live.Given as goal
 
 abbrev pub invariant-loop-slot : goal.invariant-loop-slot

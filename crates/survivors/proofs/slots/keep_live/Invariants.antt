@@ -3,7 +3,7 @@
 use Rattle.std.specs.Prelude.{◌-◌}
 use Rattle.liveness.specs.Flags.{live_flags}
 use Rattle.shape.specs.Index.{Rewritten}
-use Rattle.survivors.proofs.Laws.Turns.{Passed}
+use Rattle.survivors.specs.Laws.Turns.{Passed}
 use Rattle.survivors.specs.Slots.{kept_word}
 use Rattle.survivors.proofs.slots.keep_live.Given as goal
 

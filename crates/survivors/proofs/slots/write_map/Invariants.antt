@@ -5,7 +5,7 @@ use Rattle.plain.specs.Compaction.{renumbering_from}
 use Rattle.plain.specs.Renumbering.{lookup}
 use Rattle.liveness.specs.Flags.{live_flags}
 use Rattle.shape.specs.Index.{Rewritten}
-use Rattle.survivors.proofs.Laws.Turns.{Passed}
+use Rattle.survivors.specs.Laws.Turns.{Passed}
 use Rattle.survivors.proofs.slots.write_map.Given as goal
 
 abbrev pub invariant-loop-slot : goal.invariant-loop-slot

@@ -1,0 +1,21 @@
+-- The definitions that the laws of proofs/Laws speak of, beside those that contracts cite.
+pub mod Deleting
+pub mod Directions
+pub mod Cases
+pub mod Stepping
+pub mod CallCases
+pub mod Finding
+pub mod Totals
+pub mod Renumberings
+pub mod Fitting
+pub mod Compacting
+pub mod AllLive
+pub mod Joining
+pub mod Below
+pub mod Packing
+pub mod Cutting
+pub mod ImageBits
+pub mod Refusals
+pub mod Ascending
+pub mod Histories
+pub mod Compactness
