@@ -1,13 +1,13 @@
 //! Lays the Rust files under test, unchanged, beside the stand-ins for the
 //! modules that were not handed over.
 //!
-//! The tree is made of symbolic links below `OUT_DIR`, because a file loaded by
-//! a `path` attribute looks for its own modules beside itself, while `store.rs`
-//! keeps them in `store/`. Nothing of the Rust is copied.
+//! The tree is made of copies below `OUT_DIR`, in the build directory, because a
+//! file loaded by a `path` attribute looks for its own modules beside itself,
+//! while `store.rs` keeps them in `store/`. (Not of links: the toolchain refuses
+//! a link anywhere below the repository.) The repository keeps no copy.
 
 use std::env;
 use std::fs;
-use std::os::unix::fs::symlink;
 use std::path::{Path, PathBuf};
 
 /// The files under test, below `graph/` of the crate's source. `validate.rs` and
@@ -30,7 +30,7 @@ const UNDER_TEST: [&str; 14] = [
     "traverse.rs",
 ];
 
-/// The harness's own files in that tree: what is linked where.
+/// The harness's own files in that tree: what is laid where.
 const BESIDE: [(&str, &str); 4] = [
     ("stand_in/graph.rs", "mod.rs"),
     ("stand_in/view.rs", "view.rs"),
@@ -63,10 +63,10 @@ fn main() {
         fs::remove_dir_all(&tree).expect("the tree of an earlier build can be removed");
     }
     for file in UNDER_TEST {
-        link(&under_test.join(file), &tree.join(file));
+        lay(&under_test.join(file), &tree.join(file));
     }
     for (file, place) in BESIDE {
-        link(&oracle.join("src").join(file), &tree.join(place));
+        lay(&oracle.join("src").join(file), &tree.join(place));
     }
     let declaration = format!(
         "#[path = {:?}]\n#[allow(dead_code, unused_imports)]\nmod graph;\n",
@@ -90,10 +90,10 @@ fn link_port() {
     println!("cargo::rustc-cfg=ported");
 }
 
-fn link(file: &Path, place: &Path) {
+fn lay(file: &Path, place: &Path) {
     let file = fs::canonicalize(file)
         .unwrap_or_else(|error| panic!("cannot find {}: {error}", file.display()));
     println!("cargo::rerun-if-changed={}", file.display());
     fs::create_dir_all(place.parent().expect("a file has a directory")).expect("OUT_DIR is ours");
-    symlink(&file, place).expect("the tree was removed before");
+    fs::copy(&file, place).expect("OUT_DIR is ours");
 }

@@ -5,37 +5,23 @@ ghost use Rattle.plain.specs.Plain.{list_of};
 ghost use Rattle.shape.specs.Checked.{Checked};
 ghost use Rattle.shape.specs.Shape.{lists};
 ghost use Rattle.shape.specs.Lent.{lent, at_entry};
-ghost use Rattle.adjacency.specs.Reads.{sums_in, axis_of};
+ghost use Rattle.adjacency.specs.Reads.{sums_in};
 
 use crate::walk;
 use cursor::Sums;
 use liveness;
 use plain::{Counts, TraversalDirection};
 
-// The axis of a direction. Both have one lifetime, here and in whatever passes them on to it.
-pub fn axis_of<'a>(
-    direction: TraversalDirection,
-    outgoing: &'a [u32],
-    incoming: &'a [u32],
-) -> &'a [u32]
-    ensures { result.now ≡ axis_of direction outgoing.now incoming.now }
-{
-    match direction {
-        TraversalDirection::Outgoing => outgoing,
-        TraversalDirection::Incoming => incoming,
-    }
-}
-
 // How many edges a node's list has, of a node slot below the bound.
-pub fn degree<'a>(
+pub fn degree(
     counts: Counts,
     nodes: &[u32],
     lows: &[u32],
     highs: &[u32],
     live_nodes: &[u64],
     live_edges: &[u64],
-    outgoing: &'a [u32],
-    incoming: &'a [u32],
+    outgoing: &[u32],
+    incoming: &[u32],
     direction: TraversalDirection,
     node: u32,
 ) -> usize
@@ -48,20 +34,42 @@ pub fn degree<'a>(
     let bound = slots.bound as usize;
     let at = node as usize;
     let live = liveness::is_live(live_nodes, bound, at);
-    let axis = axis_of(direction, outgoing, incoming);
-    walk::degree(axis, lows.len(), nodes.len(), counts, live_edges, at, live)
+    match direction {
+        TraversalDirection::Outgoing => {
+            walk::degree(
+                outgoing,
+                lows.len(),
+                nodes.len(),
+                counts,
+                live_edges,
+                at,
+                live,
+            )
+        }
+        TraversalDirection::Incoming => {
+            walk::degree(
+                incoming,
+                lows.len(),
+                nodes.len(),
+                counts,
+                live_edges,
+                at,
+                live,
+            )
+        }
+    }
 }
 
 // The sum of the lows and the sum of the highs of a node's list, of a node slot below the bound.
-pub fn total<'a>(
+pub fn total(
     counts: Counts,
     nodes: &[u32],
     lows: &[u32],
     highs: &[u32],
     live_nodes: &[u64],
     live_edges: &[u64],
-    outgoing: &'a [u32],
-    incoming: &'a [u32],
+    outgoing: &[u32],
+    incoming: &[u32],
     direction: TraversalDirection,
     node: u32,
 ) -> Sums
@@ -74,16 +82,32 @@ pub fn total<'a>(
     let bound = slots.bound as usize;
     let at = node as usize;
     let live = liveness::is_live(live_nodes, bound, at);
-    let axis = axis_of(direction, outgoing, incoming);
-    walk::total(
-        axis,
-        lows.len(),
-        nodes.len(),
-        counts,
-        live_edges,
-        at,
-        live,
-        lows,
-        highs,
-    )
+    match direction {
+        TraversalDirection::Outgoing => {
+            walk::total(
+                outgoing,
+                lows.len(),
+                nodes.len(),
+                counts,
+                live_edges,
+                at,
+                live,
+                lows,
+                highs,
+            )
+        }
+        TraversalDirection::Incoming => {
+            walk::total(
+                incoming,
+                lows.len(),
+                nodes.len(),
+                counts,
+                live_edges,
+                at,
+                live,
+                lows,
+                highs,
+            )
+        }
+    }
 }

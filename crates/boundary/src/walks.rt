@@ -9,15 +9,15 @@ ghost use Rattle.view.specs.Calls.{Answered, Totalled, Replied};
 use plain::{Answer, Counts, Total, TraversalDirection};
 
 #[unsafe(no_mangle)]
-pub extern "C" fn lot_out_degree<'a>(
+pub extern "C" fn lot_out_degree(
     counts: Counts,
     nodes: &[u32],
     lows: &[u32],
     highs: &[u32],
     live_nodes: &[u64],
     live_edges: &[u64],
-    outgoing: &'a [u32],
-    incoming: &'a [u32],
+    outgoing: &[u32],
+    incoming: &[u32],
     node: u32,
 ) -> Answer
     ensures { Answered
@@ -39,15 +39,15 @@ pub extern "C" fn lot_out_degree<'a>(
 }
 
 #[unsafe(no_mangle)]
-pub extern "C" fn lot_in_degree<'a>(
+pub extern "C" fn lot_in_degree(
     counts: Counts,
     nodes: &[u32],
     lows: &[u32],
     highs: &[u32],
     live_nodes: &[u64],
     live_edges: &[u64],
-    outgoing: &'a [u32],
-    incoming: &'a [u32],
+    outgoing: &[u32],
+    incoming: &[u32],
     node: u32,
 ) -> Answer
     ensures { Answered
@@ -69,15 +69,15 @@ pub extern "C" fn lot_in_degree<'a>(
 }
 
 #[unsafe(no_mangle)]
-pub extern "C" fn lot_out_total<'a>(
+pub extern "C" fn lot_out_total(
     counts: Counts,
     nodes: &[u32],
     lows: &[u32],
     highs: &[u32],
     live_nodes: &[u64],
     live_edges: &[u64],
-    outgoing: &'a [u32],
-    incoming: &'a [u32],
+    outgoing: &[u32],
+    incoming: &[u32],
     node: u32,
 ) -> Total
     ensures { Totalled
@@ -99,15 +99,15 @@ pub extern "C" fn lot_out_total<'a>(
 }
 
 #[unsafe(no_mangle)]
-pub extern "C" fn lot_in_total<'a>(
+pub extern "C" fn lot_in_total(
     counts: Counts,
     nodes: &[u32],
     lows: &[u32],
     highs: &[u32],
     live_nodes: &[u64],
     live_edges: &[u64],
-    outgoing: &'a [u32],
-    incoming: &'a [u32],
+    outgoing: &[u32],
+    incoming: &[u32],
     node: u32,
 ) -> Total
     ensures { Totalled
@@ -129,15 +129,15 @@ pub extern "C" fn lot_in_total<'a>(
 }
 
 #[unsafe(no_mangle)]
-pub extern "C" fn lot_outgoing<'a>(
+pub extern "C" fn lot_outgoing(
     counts: Counts,
     nodes: &[u32],
     lows: &[u32],
     highs: &[u32],
     live_nodes: &[u64],
     live_edges: &[u64],
-    outgoing: &'a [u32],
-    incoming: &'a [u32],
+    outgoing: &[u32],
+    incoming: &[u32],
     node: u32,
     slots: &mut [u32],
 ) -> Answer
@@ -161,15 +161,15 @@ pub extern "C" fn lot_outgoing<'a>(
 }
 
 #[unsafe(no_mangle)]
-pub extern "C" fn lot_incoming<'a>(
+pub extern "C" fn lot_incoming(
     counts: Counts,
     nodes: &[u32],
     lows: &[u32],
     highs: &[u32],
     live_nodes: &[u64],
     live_edges: &[u64],
-    outgoing: &'a [u32],
-    incoming: &'a [u32],
+    outgoing: &[u32],
+    incoming: &[u32],
     node: u32,
     slots: &mut [u32],
 ) -> Answer
@@ -193,15 +193,15 @@ pub extern "C" fn lot_incoming<'a>(
 }
 
 #[unsafe(no_mangle)]
-pub extern "C" fn lot_successors<'a>(
+pub extern "C" fn lot_successors(
     counts: Counts,
     nodes: &[u32],
     lows: &[u32],
     highs: &[u32],
     live_nodes: &[u64],
     live_edges: &[u64],
-    outgoing: &'a [u32],
-    incoming: &'a [u32],
+    outgoing: &[u32],
+    incoming: &[u32],
     node: u32,
     slots: &mut [u32],
 ) -> Answer
@@ -225,15 +225,15 @@ pub extern "C" fn lot_successors<'a>(
 }
 
 #[unsafe(no_mangle)]
-pub extern "C" fn lot_predecessors<'a>(
+pub extern "C" fn lot_predecessors(
     counts: Counts,
     nodes: &[u32],
     lows: &[u32],
     highs: &[u32],
     live_nodes: &[u64],
     live_edges: &[u64],
-    outgoing: &'a [u32],
-    incoming: &'a [u32],
+    outgoing: &[u32],
+    incoming: &[u32],
     node: u32,
     slots: &mut [u32],
 ) -> Answer

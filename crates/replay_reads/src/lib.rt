@@ -65,7 +65,7 @@ fn write_image(
 }
 
 // A list into a slice of the recorded length.
-fn read_list<'a>(
+fn read_list(
     rt: &impl Print,
     counts: Counts,
     nodes: &[u32],
@@ -73,8 +73,8 @@ fn read_list<'a>(
     highs: &[u32],
     live_nodes: &[u64],
     live_edges: &[u64],
-    outgoing: &'a [u32],
-    incoming: &'a [u32],
+    outgoing: &[u32],
+    incoming: &[u32],
     call: Call,
 ) -> io::Result<()> {
     let mut slots: [u32; 2048] = [0; 2048];
@@ -94,15 +94,15 @@ fn read_list<'a>(
     print::print_written(rt, answered.number, answered.value, &slots, answered.value)
 }
 
-fn list_answer<'a>(
+fn list_answer(
     counts: Counts,
     nodes: &[u32],
     lows: &[u32],
     highs: &[u32],
     live_nodes: &[u64],
     live_edges: &[u64],
-    outgoing: &'a [u32],
-    incoming: &'a [u32],
+    outgoing: &[u32],
+    incoming: &[u32],
     call: Call,
     slots: &mut [u32],
 ) -> Answer {
@@ -202,7 +202,7 @@ fn read_whole(
     )
 }
 
-fn read_node<'a>(
+fn read_node(
     rt: &impl Print,
     counts: Counts,
     nodes: &[u32],
@@ -210,8 +210,8 @@ fn read_node<'a>(
     highs: &[u32],
     live_nodes: &[u64],
     live_edges: &[u64],
-    outgoing: &'a [u32],
-    incoming: &'a [u32],
+    outgoing: &[u32],
+    incoming: &[u32],
     call: Call,
 ) -> io::Result<()> {
     if call.kind == 6 {
@@ -301,7 +301,7 @@ fn read_record(
     )
 }
 
-fn read_total<'a>(
+fn read_total(
     rt: &impl Print,
     counts: Counts,
     nodes: &[u32],
@@ -309,8 +309,8 @@ fn read_total<'a>(
     highs: &[u32],
     live_nodes: &[u64],
     live_edges: &[u64],
-    outgoing: &'a [u32],
-    incoming: &'a [u32],
+    outgoing: &[u32],
+    incoming: &[u32],
     call: Call,
 ) -> io::Result<()> {
     if call.kind == 16 {
@@ -402,7 +402,7 @@ fn read_nearest(
     println!(rt)
 }
 
-pub fn read<'a>(
+pub fn read(
     rt: &impl Print,
     counts: Counts,
     nodes: &[u32],
@@ -410,8 +410,8 @@ pub fn read<'a>(
     highs: &[u32],
     live_nodes: &[u64],
     live_edges: &[u64],
-    outgoing: &'a [u32],
-    incoming: &'a [u32],
+    outgoing: &[u32],
+    incoming: &[u32],
     call: Call,
 ) -> io::Result<()> {
     let kind = call.kind;

@@ -1,6 +1,7 @@
 -- The reads of a node's list, way out by way out: what counting comes to, what is answered before anything is written, and what is written.
+-- ---- a node at or above the bound, and one below it
 use Rattle.std.specs.Prelude.{ℕ, ◌≤◌, ◌<◌, ◌≡◌, refl, Bool, false, List, [], map, length, get_or}
-use Rattle.plain.specs.Library.{sym, ap, ◌∙◌, length-map, arith}
+use Rattle.plain.specs.Library.{sym, ap, subst, ◌∙◌, arith, length-map}
 use Rattle.plain.specs.declared.TraversalDirection.{TraversalDirection}
 use Rattle.plain.specs.declared.Answer.{Answer}
 use Rattle.plain.specs.Numbers.{NONE}
@@ -9,18 +10,16 @@ use Rattle.plain.specs.Plain.{end_of, opposite}
 use Rattle.plain.specs.Reads.{Reply, answered, no_total, listing, walk, neighbors, degree, total}
 use Rattle.plain.proofs.Laws.CallCases.{walk_absent, walk_there, neighbors_absent, neighbors_there, degree_absent, degree_there, total_absent, total_there}
 use Rattle.shape.specs.Columns.{end_at}
-use Rattle.shape.specs.Shape.{Words, node_capacity, edge_capacity, node_live, lists}
+use Rattle.shape.specs.Shape.{Words, node_capacity, edge_capacity, node_live, axis_words, lists}
 use Rattle.shape.proofs.Laws.Slots.{nodes_told, node_bound_of, absent_slot}
 use Rattle.cursor.specs.declared.Sums.{Sums}
 use Rattle.adjacency.specs.Walk.{walk_in, WalkFits}
-use Rattle.adjacency.specs.Reads.{sums_in, axis_of}
-use Rattle.adjacency.specs.Laws.StoreWalks.{told_axis, told_far, checked_walkable, list_is_walk, far_ends}
+use Rattle.adjacency.specs.Reads.{sums_in}
+use Rattle.adjacency.specs.Laws.StoreWalks.{checked_walkable, list_is_walk, far_ends}
 use Rattle.validate.specs.Judging.{refusal}
 use Rattle.view.specs.Calls.{Answered, Replied}
 use Rattle.view.specs.Laws.Calls.{answer_refuses, answer_done, reply_refuses, reply_absent, list_short, list_done}
 use Rattle.view_walks.specs.Walks.{list_in, far_ends_in, ListFits, CountAnswer, no_store, past, counted, ListAnswer, refused, short, fits}
-
--- ---- a node at or above the bound, and one below it
 
 module _ (w : Words) (d : TraversalDirection) (x : ℕ) where
   degree_past : w.counts.nodes.bound ≤ x → record { number = 5; value = NONE } ≡ degree d (lists w) x
@@ -121,28 +120,32 @@ module _ {w : Words} {d : TraversalDirection} {x : ℕ} {entry : List ℕ} {r : 
 
 -- ---- the writing, by the words of one direction
 
-module _ {w : Words} {d : TraversalDirection} {x : ℕ} {slots : List ℕ} (f : ListFits w d x slots) {live : Bool} (is : live ≡ get_or (node_live w) x false)
-    {ws : List ℕ} (told : ws ≡ axis_of d w.outgoing w.incoming) where
+module _ {w : Words} {d : TraversalDirection} {x : ℕ} {slots : List ℕ} (f : ListFits w d x slots) {live : Bool} (is : live ≡ get_or (node_live w) x false) where
   -- the walk of the words, as the node's flag is read
-  walked : list_in d w x ≡ walk_in ws (edge_capacity w) (node_capacity w) w.counts w.live_edges x live
-  walked = rw (told_axis d w told, is) (list_is_walk w d x f.below)
+  walked : list_in d w x ≡ walk_in (axis_words d w) (edge_capacity w) (node_capacity w) w.counts w.live_edges x live
+  walked = rw is (list_is_walk w d x f.below)
 
-  pub walk_fits : WalkFits ws (edge_capacity w) (node_capacity w) w.counts w.live_edges x live slots
-  walk_fits = record { walkable = rw (told_axis d w told) (checked_walkable f.checked d x f.below); fits = rw (← walked) f.fits }
+  pub walk_fits : WalkFits (axis_words d w) (edge_capacity w) (node_capacity w) w.counts w.live_edges x live slots
+  walk_fits = record { walkable = checked_walkable f.checked d x f.below; fits = rw (← walked) f.fits }
 
-  pub list_written : {exit : List ℕ} → exit ≡ written (walk_in ws (edge_capacity w) (node_capacity w) w.counts w.live_edges x live) slots
+  -- an axis has a word of each edge
+  pub far_room : edge_capacity w ≤ length (axis_words (opposite d) w)
+  far_room = omega (arith, (f.checked.axis (opposite d)).sized.room)
+
+  pub list_written : {exit : List ℕ}
+      → exit ≡ written (walk_in (axis_words d w) (edge_capacity w) (node_capacity w) w.counts w.live_edges x live) slots
       → exit ≡ written (list_in d w x) slots
   list_written wrote = wrote ∙ ap (λ (l : List ℕ). written l slots) (sym walked)
 
-  module _ {far : List ℕ} (other : far ≡ axis_of d w.incoming w.outgoing) where
-    -- an axis has a word of each edge
-    pub far_room : edge_capacity w ≤ length far
-    far_room = rw (told_far d w other) (omega (arith, (f.checked.axis (opposite d)).sized.room))
+  pub far_ends_written : {exit : List ℕ}
+      → exit ≡ written (map (end_at (axis_words (opposite d) w)) (walk_in (axis_words d w) (edge_capacity w) (node_capacity w) w.counts w.live_edges x live)) slots
+      → exit ≡ written (far_ends_in d w x) slots
+  far_ends_written wrote =
+      let ends : far_ends_in d w x
+      ≡ map (end_at (axis_words (opposite d) w)) (walk_in (axis_words d w) (edge_capacity w) (node_capacity w) w.counts w.live_edges x live)
+      = rw is (far_ends f.checked d x f.below) in
+      wrote ∙ ap (λ (l : List ℕ). written l slots) (sym ends)
 
-    pub far_ends_written : {exit : List ℕ}
-        → exit ≡ written (map (end_at far) (walk_in ws (edge_capacity w) (node_capacity w) w.counts w.live_edges x live)) slots
-        → exit ≡ written (far_ends_in d w x) slots
-    far_ends_written wrote =
-        let ends : far_ends_in d w x ≡ map (end_at far) (walk_in ws (edge_capacity w) (node_capacity w) w.counts w.live_edges x live)
-        = rw (told_axis d w told, told_far d w other, is) (far_ends f.checked d x f.below) in
-        wrote ∙ ap (λ (l : List ℕ). written l slots) (sym ends)
+-- the same in a direction that is told
+pub told_fits : {w : Words} {d e : TraversalDirection} {x : ℕ} {slots : List ℕ} → d ≡ e → ListFits w d x slots → ListFits w e x slots
+told_fits {w} {x = x} {slots = slots} told = subst (λ (d : TraversalDirection). ListFits w d x slots) told

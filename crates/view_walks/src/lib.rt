@@ -22,15 +22,15 @@ use validate::judging::{judge, no_store, no_store_total};
 use view::answers::{no_total, refused};
 
 // Writes a node's list to the start of `slots`. Internal: the list has been counted.
-fn write_list<'a>(
+fn write_list(
     counts: Counts,
     nodes: &[u32],
     lows: &[u32],
     highs: &[u32],
     live_nodes: &[u64],
     live_edges: &[u64],
-    outgoing: &'a [u32],
-    incoming: &'a [u32],
+    outgoing: &[u32],
+    incoming: &[u32],
     direction: TraversalDirection,
     node: u32,
     slots: &mut [u32],
@@ -43,29 +43,44 @@ fn write_list<'a>(
     let bound = node_slots.bound as usize;
     let at = node as usize;
     let live = liveness::is_live(live_nodes, bound, at);
-    let axis = reads::axis_of(direction, outgoing, incoming);
-    adjacency::walk::write_walk(
-        axis,
-        lows.len(),
-        nodes.len(),
-        counts,
-        live_edges,
-        at,
-        live,
-        slots,
-    );
+    match direction {
+        TraversalDirection::Outgoing => {
+            adjacency::walk::write_walk(
+                outgoing,
+                lows.len(),
+                nodes.len(),
+                counts,
+                live_edges,
+                at,
+                live,
+                slots,
+            );
+        }
+        TraversalDirection::Incoming => {
+            adjacency::walk::write_walk(
+                incoming,
+                lows.len(),
+                nodes.len(),
+                counts,
+                live_edges,
+                at,
+                live,
+                slots,
+            );
+        }
+    }
 }
 
 // Writes the far ends of a node's list to the start of `slots`. Internal: the list has been counted.
-fn write_far_ends<'a>(
+fn write_far_ends(
     counts: Counts,
     nodes: &[u32],
     lows: &[u32],
     highs: &[u32],
     live_nodes: &[u64],
     live_edges: &[u64],
-    outgoing: &'a [u32],
-    incoming: &'a [u32],
+    outgoing: &[u32],
+    incoming: &[u32],
     direction: TraversalDirection,
     node: u32,
     slots: &mut [u32],
@@ -78,31 +93,46 @@ fn write_far_ends<'a>(
     let bound = node_slots.bound as usize;
     let at = node as usize;
     let live = liveness::is_live(live_nodes, bound, at);
-    let axis = reads::axis_of(direction, outgoing, incoming);
-    let far = reads::axis_of(direction, incoming, outgoing);
-    adjacency::walk::write_neighbors(
-        axis,
-        far,
-        lows.len(),
-        nodes.len(),
-        counts,
-        live_edges,
-        at,
-        live,
-        slots,
-    );
+    match direction {
+        TraversalDirection::Outgoing => {
+            adjacency::walk::write_neighbors(
+                outgoing,
+                incoming,
+                lows.len(),
+                nodes.len(),
+                counts,
+                live_edges,
+                at,
+                live,
+                slots,
+            );
+        }
+        TraversalDirection::Incoming => {
+            adjacency::walk::write_neighbors(
+                incoming,
+                outgoing,
+                lows.len(),
+                nodes.len(),
+                counts,
+                live_edges,
+                at,
+                live,
+                slots,
+            );
+        }
+    }
 }
 
 // How many entries a node's list has, behind the check and the bound: 1, 5. Internal.
-fn count_answer<'a>(
+fn count_answer(
     counts: Counts,
     nodes: &[u32],
     lows: &[u32],
     highs: &[u32],
     live_nodes: &[u64],
     live_edges: &[u64],
-    outgoing: &'a [u32],
-    incoming: &'a [u32],
+    outgoing: &[u32],
+    incoming: &[u32],
     direction: TraversalDirection,
     node: u32,
 ) -> Answer
@@ -129,15 +159,15 @@ fn count_answer<'a>(
 }
 
 // What a read of a node's list answers where `room` words are lent: 1, 5, 2, or how many entries there are. Internal: it writes nothing.
-fn list_answer<'a>(
+fn list_answer(
     counts: Counts,
     nodes: &[u32],
     lows: &[u32],
     highs: &[u32],
     live_nodes: &[u64],
     live_edges: &[u64],
-    outgoing: &'a [u32],
-    incoming: &'a [u32],
+    outgoing: &[u32],
+    incoming: &[u32],
     direction: TraversalDirection,
     node: u32,
     room: usize,
@@ -163,15 +193,15 @@ fn list_answer<'a>(
 }
 
 // How many edges a node's list has.
-pub fn degree<'a>(
+pub fn degree(
     counts: Counts,
     nodes: &[u32],
     lows: &[u32],
     highs: &[u32],
     live_nodes: &[u64],
     live_edges: &[u64],
-    outgoing: &'a [u32],
-    incoming: &'a [u32],
+    outgoing: &[u32],
+    incoming: &[u32],
     direction: TraversalDirection,
     node: u32,
 ) -> Answer
@@ -185,15 +215,15 @@ pub fn degree<'a>(
 }
 
 // The total of a node's list: the sum of the lowest weights and the sum of the highest.
-pub fn total<'a>(
+pub fn total(
     counts: Counts,
     nodes: &[u32],
     lows: &[u32],
     highs: &[u32],
     live_nodes: &[u64],
     live_edges: &[u64],
-    outgoing: &'a [u32],
-    incoming: &'a [u32],
+    outgoing: &[u32],
+    incoming: &[u32],
     direction: TraversalDirection,
     node: u32,
 ) -> Total
@@ -222,15 +252,15 @@ pub fn total<'a>(
 }
 
 // A node's list into `slots`.
-pub fn walk<'a>(
+pub fn walk(
     counts: Counts,
     nodes: &[u32],
     lows: &[u32],
     highs: &[u32],
     live_nodes: &[u64],
     live_edges: &[u64],
-    outgoing: &'a [u32],
-    incoming: &'a [u32],
+    outgoing: &[u32],
+    incoming: &[u32],
     direction: TraversalDirection,
     node: u32,
     slots: &mut [u32],
@@ -263,15 +293,15 @@ pub fn walk<'a>(
 }
 
 // The far ends of a node's list into `slots`: successors, or predecessors.
-pub fn neighbors<'a>(
+pub fn neighbors(
     counts: Counts,
     nodes: &[u32],
     lows: &[u32],
     highs: &[u32],
     live_nodes: &[u64],
     live_edges: &[u64],
-    outgoing: &'a [u32],
-    incoming: &'a [u32],
+    outgoing: &[u32],
+    incoming: &[u32],
     direction: TraversalDirection,
     node: u32,
     slots: &mut [u32],

@@ -1,9 +1,8 @@
 -- Walks of a whole store: where it is checked each node can be walked, and the walk is the node's list of the plain lists. So a public read answers with what
 -- the functions over an axis give.
-use Rattle.std.specs.Prelude.{ℕ, ◌<◌, ◌≡◌, false, List, map, get_or}
+use Rattle.std.specs.Prelude.{ℕ, ◌<◌, ◌≡◌, false, map, get_or}
 use Rattle.plain.specs.Library.{◌∙◌, arith}
 use Rattle.plain.specs.declared.TraversalDirection.{TraversalDirection}
-use Rattle.plain.specs.declared.TraversalDirection.TheVariants.{Outgoing, Incoming}
 use Rattle.plain.specs.Plain.{list_of, end_of, opposite}
 use Rattle.plain.proofs.Laws.ListLaws.{map_same}
 use Rattle.shape.specs.Columns.{end_at}
@@ -13,18 +12,7 @@ use Rattle.shape.specs.Steps.{walk_in as walk_of_shape}
 use Rattle.shape.proofs.Laws.Refining.{list_is_walk as walked}
 use Rattle.shape.proofs.Laws.Reading.{edge_flags_are, node_flags_are, shape_adjacency, plain_end}
 use Rattle.adjacency.specs.Walk.{walk_in, Readable, Walkable}
-use Rattle.adjacency.specs.Reads.{axis_of}
 use Rattle.adjacency.specs.Laws.Walk.{walk_below}
-
--- the axis that a direction means is the one that the store has for it
-pub told_axis : (d : TraversalDirection) (w : Words) {ws : List ℕ} → ws ≡ axis_of d w.outgoing w.incoming → ws ≡ axis_words d w
-told_axis Outgoing w told = told
-told_axis Incoming w told = told
-
--- and the other one that of the opposite direction
-pub told_far : (d : TraversalDirection) (w : Words) {ws : List ℕ} → ws ≡ axis_of d w.incoming w.outgoing → ws ≡ axis_words (opposite d) w
-told_far Outgoing w told = told
-told_far Incoming w told = told
 
 module _ {w : Words} (k : Checked w) (d : TraversalDirection) (x : ℕ) (node : x < w.counts.nodes.bound) where
   -- a node of a checked store can be read, in either direction
