@@ -1,4 +1,4 @@
-/* The lot store for programs in C: the public entries of crates `boundary` and `boundary_books`, proved. A lot is a node, a transfer between lots is an edge.
+/* The lot store for programs in C: the public entries of crates `boundary` and `boundary_books`, exported by `boundary_c`, proved. A lot is a node, a transfer between lots is an edge.
  *
  * `wrapper/archive` writes target/staticlib/liblots.a, to be linked; wrapper/tests/header.c is a small program that uses it.
  *

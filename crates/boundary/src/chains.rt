@@ -5,8 +5,7 @@ ghost use Rattle.nearest.specs.Calls.{NearestOf};
 
 use plain::{Answer, Counts};
 
-#[unsafe(no_mangle)]
-pub extern "C" fn lot_nearest(
+pub fn lot_nearest(
     counts: Counts,
     nodes: &[u32],
     lows: &[u32],

@@ -1,5 +1,6 @@
 // The public entries that make a store, change it by strips and read it, for programs in C or Rust, over slices and numbers: each is the entry that it wraps, by the
-// same contract, and requires nothing. Those that take a whole book are crate boundary_books. The C header of both, lots.h, stands beside this crate's src.
+// same contract, and requires nothing. Those that take a whole book are crate boundary_books; boundary_c exports both. The C header, lots.h, stands beside this crate's
+// src.
 
 #![tactic(auto)]
 

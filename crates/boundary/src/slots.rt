@@ -7,8 +7,7 @@ ghost use Rattle.view.specs.Calls.{Answered, Recorded};
 
 use plain::{Answer, Counts, Record};
 
-#[unsafe(no_mangle)]
-pub extern "C" fn lot_node_payload(
+pub fn lot_node_payload(
     counts: Counts,
     nodes: &[u32],
     lows: &[u32],
@@ -28,8 +27,7 @@ pub extern "C" fn lot_node_payload(
     )
 }
 
-#[unsafe(no_mangle)]
-pub extern "C" fn lot_edge_record(
+pub fn lot_edge_record(
     counts: Counts,
     nodes: &[u32],
     lows: &[u32],
@@ -49,8 +47,7 @@ pub extern "C" fn lot_edge_record(
     )
 }
 
-#[unsafe(no_mangle)]
-pub extern "C" fn lot_live_edge_record(
+pub fn lot_live_edge_record(
     counts: Counts,
     nodes: &[u32],
     lows: &[u32],
@@ -70,8 +67,7 @@ pub extern "C" fn lot_live_edge_record(
     )
 }
 
-#[unsafe(no_mangle)]
-pub extern "C" fn lot_contains_node(
+pub fn lot_contains_node(
     counts: Counts,
     nodes: &[u32],
     lows: &[u32],
@@ -91,8 +87,7 @@ pub extern "C" fn lot_contains_node(
     )
 }
 
-#[unsafe(no_mangle)]
-pub extern "C" fn lot_contains_edge(
+pub fn lot_contains_edge(
     counts: Counts,
     nodes: &[u32],
     lows: &[u32],

@@ -7,8 +7,7 @@ ghost use Rattle.strip.specs.Strip.{StripOf};
 
 use plain::{Changed, Counts};
 
-#[unsafe(no_mangle)]
-pub extern "C" fn lot_fresh(
+pub fn lot_fresh(
     nodes: &[u32],
     lows: &[u32],
     highs: &[u32],
@@ -26,8 +25,7 @@ pub extern "C" fn lot_fresh(
     )
 }
 
-#[unsafe(no_mangle)]
-pub extern "C" fn lot_skid_fresh(
+pub fn lot_skid_fresh(
     nodes: &[u32],
     lows: &[u32],
     highs: &[u32],
@@ -45,8 +43,7 @@ pub extern "C" fn lot_skid_fresh(
     )
 }
 
-#[unsafe(no_mangle)]
-pub extern "C" fn lot_strip(
+pub fn lot_strip(
     counts: Counts,
     nodes: &mut [u32],
     lows: &mut [u32],

@@ -8,8 +8,7 @@ ghost use Rattle.view.specs.Calls.{Answered, Totalled, Replied};
 
 use plain::{Answer, Counts, Total, TraversalDirection};
 
-#[unsafe(no_mangle)]
-pub extern "C" fn lot_out_degree(
+pub fn lot_out_degree(
     counts: Counts,
     nodes: &[u32],
     lows: &[u32],
@@ -38,8 +37,7 @@ pub extern "C" fn lot_out_degree(
     )
 }
 
-#[unsafe(no_mangle)]
-pub extern "C" fn lot_in_degree(
+pub fn lot_in_degree(
     counts: Counts,
     nodes: &[u32],
     lows: &[u32],
@@ -68,8 +66,7 @@ pub extern "C" fn lot_in_degree(
     )
 }
 
-#[unsafe(no_mangle)]
-pub extern "C" fn lot_out_total(
+pub fn lot_out_total(
     counts: Counts,
     nodes: &[u32],
     lows: &[u32],
@@ -98,8 +95,7 @@ pub extern "C" fn lot_out_total(
     )
 }
 
-#[unsafe(no_mangle)]
-pub extern "C" fn lot_in_total(
+pub fn lot_in_total(
     counts: Counts,
     nodes: &[u32],
     lows: &[u32],
@@ -128,8 +124,7 @@ pub extern "C" fn lot_in_total(
     )
 }
 
-#[unsafe(no_mangle)]
-pub extern "C" fn lot_outgoing(
+pub fn lot_outgoing(
     counts: Counts,
     nodes: &[u32],
     lows: &[u32],
@@ -160,8 +155,7 @@ pub extern "C" fn lot_outgoing(
     )
 }
 
-#[unsafe(no_mangle)]
-pub extern "C" fn lot_incoming(
+pub fn lot_incoming(
     counts: Counts,
     nodes: &[u32],
     lows: &[u32],
@@ -192,8 +186,7 @@ pub extern "C" fn lot_incoming(
     )
 }
 
-#[unsafe(no_mangle)]
-pub extern "C" fn lot_successors(
+pub fn lot_successors(
     counts: Counts,
     nodes: &[u32],
     lows: &[u32],
@@ -224,8 +217,7 @@ pub extern "C" fn lot_successors(
     )
 }
 
-#[unsafe(no_mangle)]
-pub extern "C" fn lot_predecessors(
+pub fn lot_predecessors(
     counts: Counts,
     nodes: &[u32],
     lows: &[u32],
@@ -256,8 +248,7 @@ pub extern "C" fn lot_predecessors(
     )
 }
 
-#[unsafe(no_mangle)]
-pub extern "C" fn lot_find(
+pub fn lot_find(
     counts: Counts,
     nodes: &[u32],
     lows: &[u32],

@@ -11,8 +11,7 @@ ghost use Rattle.view.specs.Calls.{Answered, Replied};
 
 use plain::{Answer, Counts};
 
-#[unsafe(no_mangle)]
-pub extern "C" fn lot_check(
+pub fn lot_check(
     counts: Counts,
     nodes: &[u32],
     lows: &[u32],
@@ -29,8 +28,7 @@ pub extern "C" fn lot_check(
     )
 }
 
-#[unsafe(no_mangle)]
-pub extern "C" fn lot_node_bound(
+pub fn lot_node_bound(
     counts: Counts,
     nodes: &[u32],
     lows: &[u32],
@@ -49,8 +47,7 @@ pub extern "C" fn lot_node_bound(
     )
 }
 
-#[unsafe(no_mangle)]
-pub extern "C" fn lot_edge_bound(
+pub fn lot_edge_bound(
     counts: Counts,
     nodes: &[u32],
     lows: &[u32],
@@ -69,8 +66,7 @@ pub extern "C" fn lot_edge_bound(
     )
 }
 
-#[unsafe(no_mangle)]
-pub extern "C" fn lot_node_count(
+pub fn lot_node_count(
     counts: Counts,
     nodes: &[u32],
     lows: &[u32],
@@ -89,8 +85,7 @@ pub extern "C" fn lot_node_count(
     )
 }
 
-#[unsafe(no_mangle)]
-pub extern "C" fn lot_edge_count(
+pub fn lot_edge_count(
     counts: Counts,
     nodes: &[u32],
     lows: &[u32],
@@ -109,8 +104,7 @@ pub extern "C" fn lot_edge_count(
     )
 }
 
-#[unsafe(no_mangle)]
-pub extern "C" fn lot_is_empty(
+pub fn lot_is_empty(
     counts: Counts,
     nodes: &[u32],
     lows: &[u32],
@@ -129,8 +123,7 @@ pub extern "C" fn lot_is_empty(
     )
 }
 
-#[unsafe(no_mangle)]
-pub extern "C" fn lot_is_compact(
+pub fn lot_is_compact(
     counts: Counts,
     nodes: &[u32],
     lows: &[u32],
@@ -149,8 +142,7 @@ pub extern "C" fn lot_is_compact(
     )
 }
 
-#[unsafe(no_mangle)]
-pub extern "C" fn lot_node_ids(
+pub fn lot_node_ids(
     counts: Counts,
     nodes: &[u32],
     lows: &[u32],
@@ -170,8 +162,7 @@ pub extern "C" fn lot_node_ids(
     )
 }
 
-#[unsafe(no_mangle)]
-pub extern "C" fn lot_edge_ids(
+pub fn lot_edge_ids(
     counts: Counts,
     nodes: &[u32],
     lows: &[u32],

@@ -5,8 +5,7 @@ ghost use Rattle.compact.specs.Calls.{CompactOf};
 
 use plain::{Changed, Counts};
 
-#[unsafe(no_mangle)]
-pub extern "C" fn lot_compact(
+pub fn lot_compact(
     counts: Counts,
     nodes: &mut [u32],
     lows: &mut [u32],

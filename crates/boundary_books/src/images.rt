@@ -7,8 +7,7 @@ ghost use Rattle.image_read.specs.Calls.{ReadOf};
 
 use plain::{Answer, Changed, Counts};
 
-#[unsafe(no_mangle)]
-pub extern "C" fn lot_write_image(
+pub fn lot_write_image(
     counts: Counts,
     nodes: &[u32],
     lows: &[u32],
@@ -29,8 +28,7 @@ pub extern "C" fn lot_write_image(
     )
 }
 
-#[unsafe(no_mangle)]
-pub extern "C" fn lot_read_image(
+pub fn lot_read_image(
     counts: Counts,
     nodes: &mut [u32],
     lows: &mut [u32],
@@ -51,8 +49,7 @@ pub extern "C" fn lot_read_image(
     )
 }
 
-#[unsafe(no_mangle)]
-pub extern "C" fn lot_skid_read_image(
+pub fn lot_skid_read_image(
     counts: Counts,
     nodes: &mut [u32],
     lows: &mut [u32],

@@ -5,8 +5,7 @@ ghost use Rattle.join.specs.Calls.{no_counts, lent_maps, JoinOf};
 
 use plain::{Changed, Counts};
 
-#[unsafe(no_mangle)]
-pub extern "C" fn lot_join(
+pub fn lot_join(
     first: Counts,
     first_nodes: &[u32],
     first_lows: &[u32],

@@ -1,5 +1,5 @@
 // The public entries that take a whole book, for programs in C or Rust, over slices and numbers: compaction, joining and images. Each is the entry that it wraps, by the
-// same contract, and requires nothing. The others are crate boundary, with the C header of both.
+// same contract, and requires nothing. The others are crate boundary, with the C header; boundary_c exports both.
 
 #![tactic(auto)]
 

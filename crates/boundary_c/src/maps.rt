@@ -1,0 +1,26 @@
+// Maps of compactions.
+
+ghost use Rattle.renumbering.specs.Calls.{Lookup, Compose, IsIdentity};
+
+use plain::Answer;
+
+#[unsafe(no_mangle)]
+pub extern "C" fn lot_lookup(renumbering: &[u32], slot: u32) -> Answer
+    ensures { Lookup renumbering.now slot result }
+{
+    boundary::maps::lot_lookup(renumbering, slot)
+}
+
+#[unsafe(no_mangle)]
+pub extern "C" fn lot_compose(first: &[u32], second: &[u32], res: &mut [u32]) -> Answer
+    ensures { Compose first.now second.now res.old result res.new }
+{
+    boundary::maps::lot_compose(first, second, res)
+}
+
+#[unsafe(no_mangle)]
+pub extern "C" fn lot_is_identity(nodes: &[u32], edges: &[u32]) -> Answer
+    ensures { IsIdentity nodes.now edges.now result }
+{
+    boundary::maps::lot_is_identity(nodes, edges)
+}
