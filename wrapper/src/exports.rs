@@ -1,6 +1,7 @@
-//! What the library of crate `boundary_c` exports, and the one place where it is called. A slice is a pointer and a length. No function requires more than
-//! that its slices can be read, those for answers and a changed store written, and
-//! that they do not overlap: the borrows say so.
+//! What the library of crate `boundary_c` exports, and the one place where it is called.
+//! A slice is a pointer and a length. No function requires more than that its slices
+//! can be read, those for answers and a changed store written, and that they do not
+//! overlap: the borrows say so.
 
 use super::{Device, Memory};
 
