@@ -1,5 +1,7 @@
 pub mod Library
 pub mod Numbers
+pub mod Refusals
+pub mod Answers
 pub mod Lists
 pub mod Plain
 pub mod Operations

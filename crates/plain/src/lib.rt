@@ -3,7 +3,12 @@
 
 #![tactic(auto)]
 
+ghost use Rattle.std.specs.Prelude.{◌≡◌};
+ghost use Rattle.plain.specs.Plain.{opposite};
+
+pub mod answers;
 pub mod numbers;
+pub mod refusals;
 
 // "None" where the Rust has an `Option<Id>`.
 pub const NONE: u32 = 4294967295;
@@ -21,6 +26,17 @@ pub enum TraversalDirection {
     Outgoing,
     // From target to source: an edge is in the list of its target.
     Incoming,
+}
+
+impl TraversalDirection {
+    pub fn opposite(self) -> TraversalDirection
+        ensures { result ≡ opposite self }
+    {
+        match self {
+            TraversalDirection::Outgoing => TraversalDirection::Incoming,
+            TraversalDirection::Incoming => TraversalDirection::Outgoing,
+        }
+    }
 }
 
 // The payload of an edge: its lowest and its highest weight.
@@ -83,6 +99,22 @@ pub struct Slots {
 pub struct Counts {
     pub nodes: Slots,
     pub edges: Slots,
+}
+
+// The record of an edge: its ends and its payload.
+#[derive(Clone, Copy)]
+pub struct EdgeRecord {
+    pub source: u32,
+    pub target: u32,
+    pub payload: EdgePayload,
+}
+
+// The sum of the lowest and the sum of the highest weights of some edges.
+#[repr(C)]
+#[derive(Clone, Copy)]
+pub struct Sums {
+    pub low: u64,
+    pub high: u64,
 }
 
 // What a call answers: the number and the value of document 01's table. The value is wide enough for any length or capacity.

@@ -11,3 +11,4 @@ pub mod Fields
 pub mod Writes
 mod Examples
 pub mod Laws
+pub mod Stores

@@ -1,3 +1,127 @@
-// The store's memory read as lists: no code. The definitions stand in specs/, where every crate that touches the words cites them, their laws in proofs/Laws.
+// The store's memory: its counts and the seven slices that a caller lends, as one value, shared or to be written, and the same memory read as lists. The definitions stand in
+// specs/, where every crate that touches the words cites them, their laws in proofs/Laws.
 
 #![tactic(auto)]
+
+ghost use Rattle.std.specs.Prelude.{◌*◌, ◌≤◌, ◌≡◌, false, length, get_or};
+ghost use Rattle.plain.specs.Numbers.{out_of_range_node, removed_node, out_of_range_edge, removed_edge};
+ghost use Rattle.plain.specs.Refusals.{fault_number};
+ghost use Rattle.liveness.specs.Faults.{fault_of};
+ghost use Rattle.shape.specs.Shape.{axis_words, node_live, edge_live};
+ghost use Rattle.shape.specs.Stores.{words, words_mut};
+
+use liveness::is_live;
+use plain::refusals::Refusal;
+use plain::{Counts, TraversalDirection};
+
+// A store to be read: its counts and the seven slices that are lent.
+#[derive(Clone, Copy)]
+pub struct Store<'a> {
+    pub counts: Counts,
+    pub nodes: &'a [u32],
+    pub lows: &'a [u32],
+    pub highs: &'a [u32],
+    pub live_nodes: &'a [u64],
+    pub live_edges: &'a [u64],
+    pub outgoing: &'a [u32],
+    pub incoming: &'a [u32],
+}
+
+impl<'a> Store<'a> {
+    // The words of one direction.
+    pub fn axis(&self, direction: TraversalDirection) -> &'a [u32]
+        ensures { result.now ≡ axis_words direction (words self.now) }
+    {
+        match direction {
+            TraversalDirection::Outgoing => self.outgoing,
+            TraversalDirection::Incoming => self.incoming,
+        }
+    }
+
+    // Whether a node is live; one out of range is not.
+    pub fn is_node_live(&self, node: u32) -> bool
+        requires { self.now.counts.nodes.bound ≤ 64 * length self.now.live_nodes.now }
+        ensures { result ≡ get_or (node_live (words self.now)) node false }
+    {
+        is_live(
+            self.live_nodes,
+            self.counts.nodes.bound as usize,
+            node as usize,
+        )
+    }
+
+    // Whether an edge is live; one out of range is not.
+    pub fn is_edge_live(&self, edge: u32) -> bool
+        requires { self.now.counts.edges.bound ≤ 64 * length self.now.live_edges.now }
+        ensures { result ≡ get_or (edge_live (words self.now)) edge false }
+    {
+        is_live(
+            self.live_edges,
+            self.counts.edges.bound as usize,
+            edge as usize,
+        )
+    }
+
+    // Refuses a node at or above the bound, and one that is removed.
+    #[tactic(auto, unfolding(liveness::specs::Faults::fault_of))]
+    pub fn live_node(&self, node: u32) -> Result<(), Refusal>
+        requires { self.now.counts.nodes.bound ≤ 64 * length self.now.live_nodes.now }
+        ensures { fault_number result ≡ fault_of (node_live (words self.now)) self.now.counts.nodes.bound node out_of_range_node removed_node }
+    {
+        if self.counts.nodes.bound <= node {
+            return Err(Refusal::OutOfRangeNode);
+        }
+        if self.is_node_live(node) {
+            Ok(())
+        } else {
+            Err(Refusal::RemovedNode)
+        }
+    }
+
+    // Refuses an edge at or above the bound, and one that is removed.
+    #[tactic(auto, unfolding(liveness::specs::Faults::fault_of))]
+    pub fn live_edge(&self, edge: u32) -> Result<(), Refusal>
+        requires { self.now.counts.edges.bound ≤ 64 * length self.now.live_edges.now }
+        ensures { fault_number result ≡ fault_of (edge_live (words self.now)) self.now.counts.edges.bound edge out_of_range_edge removed_edge }
+    {
+        if self.counts.edges.bound <= edge {
+            return Err(Refusal::OutOfRangeEdge);
+        }
+        if self.is_edge_live(edge) {
+            Ok(())
+        } else {
+            Err(Refusal::RemovedEdge)
+        }
+    }
+}
+
+// A store to be written.
+#[derive(Drop)]
+pub struct StoreMut<'a> {
+    pub counts: Counts,
+    pub nodes: &'a mut [u32],
+    pub lows: &'a mut [u32],
+    pub highs: &'a mut [u32],
+    pub live_nodes: &'a mut [u64],
+    pub live_edges: &'a mut [u64],
+    pub outgoing: &'a mut [u32],
+    pub incoming: &'a mut [u32],
+}
+
+impl StoreMut<'_> {
+    // The same store, to be read.
+    pub fn as_store(&self) -> Store<'_>
+        ensures { words result ≡ words_mut self.now }
+    {
+        Store {
+            counts: self.counts,
+            nodes: self.nodes,
+            lows: self.lows,
+            highs: self.highs,
+            live_nodes: self.live_nodes,
+            live_edges: self.live_edges,
+            outgoing: self.outgoing,
+            incoming: self.incoming,
+        }
+    }
+}

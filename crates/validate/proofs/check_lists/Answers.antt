@@ -1,18 +1,19 @@
--- `validate::broken_lists` meets its contract: the runs of both directions, then the walks, each known to be right where the quick test has told so.
+-- `validate::check_lists` meets its contract: the runs of both directions, then the walks, each known to be right where the quick test has told so.
 use Rattle.std.specs.Prelude.{◌≡◌, true}
 use Rattle.plain.specs.Library.{sym, ◌∙◌}
 use Rattle.plain.specs.declared.TraversalDirection.TheVariants.{Outgoing, Incoming}
 use Rattle.plain.proofs.Laws.Booleans.{both_true}
-use Rattle.shape.specs.Shape.{Words, node_capacity, edge_capacity, node_live, edge_live, store}
+use Rattle.shape.specs.Shape.{Words, node_capacity, edge_capacity, node_live, edge_live}
+use Rattle.shape.specs.Stores.{words}
 use Rattle.shape.specs.Rules.{runs_right, rule_6, rule_7}
 use Rattle.validate.specs.Broken.{broken_lists}
 use Rattle.validate.proofs.Deciding.{structured, lists_readable, runs_readable, walks_readable, walks_rule}
-use Rattle.validate.proofs.broken_lists.Goals.{Start}
-use Rattle.validate.proofs.broken_lists.Goals as goal
+use Rattle.validate.proofs.check_lists.Goals.{Start}
+use Rattle.validate.proofs.check_lists.Goals as goal
 
 -- the store that is lent
 abbrev lent : Start → Words
-lent s = let a = s.args in store a.counts a.nodes.now a.lows.now a.highs.now a.live_nodes.now a.live_edges.now a.outgoing.now a.incoming.now
+lent s = words s.args.store.now
 
 -- rule 6, of the runs of both directions
 six : (w : Words) → runs_right (edge_capacity w) (node_capacity w) w.counts (node_live w) (edge_live w) w.outgoing ≡ true

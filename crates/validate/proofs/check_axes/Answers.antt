@@ -1,21 +1,22 @@
--- `validate::broken_axes` meets its contract: the ends of both directions, the weights, the index and the rings of both directions, and then what is left.
+-- `validate::check_axes` meets its contract: the ends of both directions, the weights, the index and the rings of both directions, and then what is left.
 use Rattle.std.specs.Prelude.{◌≡◌, true}
 use Rattle.plain.specs.Library.{sym, ◌∙◌}
 use Rattle.plain.specs.declared.TraversalDirection.{TraversalDirection}
 use Rattle.plain.specs.declared.TraversalDirection.TheVariants.{Outgoing, Incoming}
 use Rattle.plain.specs.Lists.{all, from}
 use Rattle.plain.proofs.Laws.Booleans.{both_true}
-use Rattle.shape.specs.Shape.{Words, node_capacity, edge_capacity, axis_words, store}
+use Rattle.shape.specs.Shape.{Words, node_capacity, edge_capacity, axis_words}
+use Rattle.shape.specs.Stores.{words}
 use Rattle.shape.specs.Rules.{ends_right, weights_right, rule_3, index_right, rule_4, ring_right, rule_5}
 use Rattle.validate_words.specs.Sizes.{AxisSized}
 use Rattle.validate.specs.Broken.{broken_axes}
 use Rattle.validate.proofs.Deciding.{axis_sized, weights_there}
-use Rattle.validate.proofs.broken_axes.Goals.{Start}
-use Rattle.validate.proofs.broken_axes.Goals as goal
+use Rattle.validate.proofs.check_axes.Goals.{Start}
+use Rattle.validate.proofs.check_axes.Goals as goal
 
 -- the store that is lent
 abbrev lent : Start → Words
-lent s = let a = s.args in store a.counts a.nodes.now a.lows.now a.highs.now a.live_nodes.now a.live_edges.now a.outgoing.now a.incoming.now
+lent s = words s.args.store.now
 
 -- each direction has its words
 sized : (c : Start) (d : TraversalDirection) → let w = lent c in AxisSized (axis_words d w) (edge_capacity w) (node_capacity w) w.counts
@@ -116,9 +117,9 @@ returns-then-not-rings_right-2 c =
       sym c.rings_right-2.ensures ∙ c.if-not-rings_right-2.true,
     )
 
-pub broken_lists-requires : goal.broken_lists-requires
-broken_lists-requires c =
-    let w = lent (goal.at.broken_lists-requires c).Start in
+pub check_lists-requires : goal.check_lists-requires
+check_lists-requires c =
+    let w = lent (goal.at.check_lists-requires c).Start in
     record {
       counted = c.requires;
       r3 = three w (sym c.ends_right.ensures ∙ c.if-not-ends_right.false) (sym c.ends_right-2.ensures ∙ c.if-not-ends_right-2.false) (sym c.weights_right.ensures ∙ c.if-not-weights_right.false);
@@ -134,4 +135,4 @@ returns c =
       three w (sym c.ends_right.ensures ∙ c.if-not-ends_right.false) (sym c.ends_right-2.ensures ∙ c.if-not-ends_right-2.false) (sym c.weights_right.ensures ∙ c.if-not-weights_right.false),
       four w (sym c.index_right.ensures ∙ c.if-not-index_right.false) (sym c.index_right-2.ensures ∙ c.if-not-index_right-2.false),
       five w (sym c.rings_right.ensures ∙ c.if-not-rings_right.false) (sym c.rings_right-2.ensures ∙ c.if-not-rings_right-2.false),
-    ) c.broken_lists.ensures
+    ) c.check_lists.ensures
