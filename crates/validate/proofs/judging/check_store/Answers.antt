@@ -1,7 +1,7 @@
 -- `validate::judging::check_store` meets its contract: the sizes, the live bits of nodes and of edges, and then what is left. The payload words that are lent are words of
 -- 32 bits.
 use Rattle.std.specs.Prelude.{ℕ, ◌<◌, ◌^◌, ◌≡◌, true, get_or}
-use Rattle.plain.specs.Library.{sym, ◌∙◌, arith}
+use Rattle.plain.specs.Library.{sym, ◌∙◌}
 use Rattle.plain.proofs.Laws.Booleans.{both_true}
 use Rattle.shape.specs.Shape.{Words}
 use Rattle.shape.specs.Stores.{words}
