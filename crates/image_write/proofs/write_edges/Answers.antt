@@ -3,9 +3,10 @@ use Rattle.std.specs.Prelude.{ℕ, ◌≡◌, length}
 use Rattle.plain.specs.Library.{arith}
 use Rattle.plain.specs.Reads.{live_slots}
 use Rattle.plain.specs.Image.{record_width}
-use Rattle.liveness.specs.Flags.{live_flags}
 use Rattle.liveness.specs.Laws.Flags.{length_flags}
 use Rattle.liveness.specs.Laws.Passed.{passed_later}
+use Rattle.shape.specs.Shape.{edge_live}
+use Rattle.shape.specs.Stores.{words}
 use Rattle.image_write.proofs.Strung.{live_none, live_more, live_all, records_strung}
 use Rattle.image_write.specs.Writing.{record_at}
 use Rattle.image_write.proofs.Writing.{piece, edge_room, length_record_bits}
@@ -14,16 +15,16 @@ use Rattle.image_write.proofs.write_edges.Goals as goal
 
 -- a record has as many bits as any other
 long : (c : At-loop-e) (e : ℕ) → let a = c.args in
-    length (piece a.width a.live.now a.slots a.outgoing.now a.incoming.now a.lows.now a.highs.now e) ≡ record_width a.width
+    length (piece a.width a.nodes.now.live.now a.nodes.now.slots (words a.store.now) e) ≡ record_width a.width
 long c e =
     let a = c.args in
-    length_record_bits a.width (record_at a.live.now a.slots a.outgoing.now a.incoming.now a.lows.now a.highs.now e)
+    length_record_bits a.width (record_at a.nodes.now.live.now a.nodes.now.slots (words a.store.now) e)
 
 pub loop-e-init : goal.loop-e-init
 loop-e-init c =
     let a = c.args in
     live_none a.bytes.now a.pen (record_width a.width)
-    (piece a.width a.live.now a.slots a.outgoing.now a.incoming.now a.lows.now a.highs.now) c.next_live-e.ensures c.requires.room
+    (piece a.width a.nodes.now.live.now a.nodes.now.slots (words a.store.now)) c.next_live-e.ensures c.requires.room
 
 pub write_edge-at-requires : goal.write_edge-at-requires
 write_edge-at-requires c =
@@ -43,6 +44,6 @@ shape_of-bytes c = c.loop-e.invariant.written.penned.long
 pub returns : goal.returns
 returns c =
     let a = c.args in
-    rw (records_strung a.width (record_at a.live.now a.slots a.outgoing.now a.incoming.now a.lows.now a.highs.now)
-    (live_slots (live_flags a.live_edges.now a.bound))) at
+    rw (records_strung a.width (record_at a.nodes.now.live.now a.nodes.now.slots (words a.store.now))
+    (live_slots (edge_live (words a.store.now)))) at
     (live_all c.loop-e.invariant (rw length_flags c.loop-e-test.false))
