@@ -1,6 +1,6 @@
 -- A turn of each writer's loop has what it needs: the piece that comes next has room, and its value fits its width.
 use Rattle.std.specs.Prelude.{ℕ, ◌+◌, ◌*◌, ◌^◌, ◌≤◌, ◌<◌, ◌≡◌, true, false, List, [], ◌∷◌, ◌++◌, length, get_or}
-use Rattle.plain.specs.Library.{sym, ◌∙◌, append-nil, append_assoc, lt_of_lt_of_le, arith}
+use Rattle.plain.specs.Library.{◌∙◌, append-nil, append_assoc, lt_of_lt_of_le, arith}
 use native.Mathlib.Nat.{mul-one}
 use lib.Pow.{pow_mono, pow-add}
 use lib.Arith.{digits_lt}
@@ -14,13 +14,12 @@ use Rattle.plain.proofs.Laws.ImageBits.{length_edge_bits}
 use Rattle.plain.proofs.Laws.Rank.{rank_live, live_below}
 use Rattle.liveness.specs.Flags.{live_flags}
 use Rattle.liveness.specs.Laws.Flags.{length_flags}
-use Rattle.liveness.specs.Laws.Passed.{passed_live}
 use Rattle.shape.specs.Shape.{Words, edge_live}
 use Rattle.bits.specs.declared.pen.Pen.{Pen}
 use Rattle.bits.specs.Penned.{Puts, Penned, fresh}
 use Rattle.bits.specs.Laws.Penned.{penned_then, bits_behind}
-use Rattle.image_write.specs.Writing.{PiecesFit, NodesFit, RecordFits, RanksFit, EdgeFits, EdgesFit, EntriesFit, record_bits, record_at, count_bits}
-use Rattle.image_write.proofs.Strung.{StrungTo, StrungLive, entry_room, live_room}
+use Rattle.image_write.specs.Writing.{PiecesFit, NodesFit, RecordFits, RanksFit, EdgeFits, EdgesFit, EdgeThere, EntriesFit, record_bits, record_at, count_bits}
+use Rattle.image_write.proofs.Strung.{StrungTo, StrungLive, entry_room, live_next, live_room}
 
 -- a piece of at most 32 bits that has room
 piece_room : {s : List ℕ} {p : Pen} {w v : ℕ} → w ≤ 32 → v < 2 ^ w → PiecesFit s p w 1 → Puts s p w v
@@ -54,9 +53,14 @@ abbrev pub node_bits : List ℕ → ℕ → List ℕ
 node_bits nodes x = bits_of node_payload_width (get_or nodes x 0)
 
 -- the payload that comes next has room
-pub node_room : {s : List ℕ} {p : Pen} {nodes live : List ℕ} {bound x v : ℕ} {q : Pen} {t : List ℕ} → NodesFit s p nodes live bound
-    → StrungLive (live_flags live bound) s p node_payload_width (node_bits nodes) x t q → x < bound → v < 2 ^ 32 → Puts t q node_payload_width v
-node_room {live = live} {bound} h a l fits = piece_room (omega arith) fits (live_room a h.room (rw (length_flags live bound) l))
+pub node_room : {s : List ℕ} {p : Pen} {nodes live : List ℕ} {bound x v : ℕ} {past rest later : List ℕ} {q : Pen} {t : List ℕ} → NodesFit s p nodes live bound
+    → StrungLive (live_flags live bound) s p node_payload_width (node_bits nodes) past rest t q → rest ≡ x ∷ later → v < 2 ^ 32 → Puts t q node_payload_width v
+node_room h a next fits = piece_room (omega arith) fits (live_room a next h.room)
+
+-- it is a node
+pub node_there : {s : List ℕ} {p : Pen} {nodes live : List ℕ} {bound x : ℕ} {past rest later : List ℕ} {q : Pen} {t : List ℕ} → NodesFit s p nodes live bound
+    → StrungLive (live_flags live bound) s p node_payload_width (node_bits nodes) past rest t q → rest ≡ x ∷ later → x < length nodes
+node_there {live = live} {bound} {x} h a next = omega (arith, live_below (live_flags live bound) x (live_next a next), length_flags live bound, h.there)
 
 -- ---- the live edges' records
 
@@ -125,17 +129,27 @@ record_fits {source = source} {target} h p q = record {
 }
 
 -- the record that comes next has room
-pub edge_room : {s : List ℕ} {p : Pen} {w : ℕ} {live : List ℕ} {slots : ℕ} {v : Words} {e : ℕ} {q : Pen} {t : List ℕ} → EdgesFit s p w live slots v
-    → StrungLive (edge_live v) s p (record_width w) (piece w live slots v) e t q → e < v.counts.edges.bound
+pub edge_room : {s : List ℕ} {p : Pen} {w : ℕ} {live : List ℕ} {slots : ℕ} {v : Words} {e : ℕ} {past rest later : List ℕ} {q : Pen} {t : List ℕ} → EdgesFit s p w live slots v
+    → StrungLive (edge_live v) s p (record_width w) (piece w live slots v) past rest t q → rest ≡ e ∷ later
     → EdgeFits t q w live slots (get_or v.outgoing e 0) (get_or v.incoming e 0)
-edge_room {v = v} {e} h a l =
-    let low : e < length (edge_live v) = rw (length_flags v.live_edges v.counts.edges.bound) l in
-    let alive = passed_live a.passed low in
+edge_room {e = e} h a next = record {
+  ranks_fit = h.ranks_fit;
+  source_live = h.sources_live e (live_next a next);
+  target_live = h.targets_live e (live_next a next);
+  room = live_room a next h.room;
+}
+
+-- it is an edge
+pub edge_there : {s : List ℕ} {p : Pen} {w : ℕ} {live : List ℕ} {slots : ℕ} {v : Words} {e : ℕ} {past rest later : List ℕ} {q : Pen} {t : List ℕ} → EdgesFit s p w live slots v
+    → StrungLive (edge_live v) s p (record_width w) (piece w live slots v) past rest t q → rest ≡ e ∷ later → EdgeThere v e
+edge_there {v = v} {e} h a next =
+    let low = live_below (edge_live v) e (live_next a next) in
+    let size = length_flags v.live_edges v.counts.edges.bound in
     record {
-      ranks_fit = h.ranks_fit;
-      source_live = h.sources_live e alive;
-      target_live = h.targets_live e alive;
-      room = live_room a h.room low;
+      source_there = omega (arith, low, size, h.sources_there);
+      target_there = omega (arith, low, size, h.targets_there);
+      low_there = omega (arith, low, size, h.lows_there);
+      high_there = omega (arith, low, size, h.highs_there);
     }
 
 -- ---- the lists' entries

@@ -23,6 +23,8 @@ ghost use Rattle.image_write.specs.Writing.{
   RecordFits,
   EdgeFits,
   EdgesFit,
+  EdgeThere,
+  edge_of,
   EntriesFit,
   SlotsFit,
   ListsFit,
@@ -40,7 +42,8 @@ use crate::ranking::Numbering;
 use bits::pen::{Pen, finish, put};
 use bits::{least_width, raise};
 use image_check::places::{COUNT_WIDTH, NODE_PAYLOAD_WIDTH, WEIGHT_WIDTH, image_bytes};
-use liveness::{next_live, write_ranks};
+use liveness::live_slots::LiveSlots;
+use liveness::write_ranks;
 use plain::refusals::Refusal;
 use plain::{EdgePayload, EdgeRecord};
 use shape::Store;
@@ -70,10 +73,8 @@ fn write_nodes(bytes: &mut [u8], pen: Pen, nodes: &[u32], live: &[u64], bound: u
     ensures { Penned bytes.old pen (row node_payload_width (live_payloads nodes.now live.now bound)) bytes.new result }
 {
     let mut at = pen;
-    let mut node = next_live(live, bound, 0);
-    while node < bound {
+    for node in LiveSlots::new(live, bound) {
         at = put(bytes, at, NODE_PAYLOAD_WIDTH, nodes[node] as u64);
-        node = next_live(live, bound, node + 1);
     }
     at
 }
@@ -91,13 +92,7 @@ fn write_record(bytes: &mut [u8], pen: Pen, width: u32, edge: EdgeRecord) -> Pen
 }
 
 // Writes the record of a live edge, its ends by their new numbers. Internal.
-fn write_edge(
-    bytes: &mut [u8],
-    pen: Pen,
-    width: u32,
-    nodes: &Numbering,
-    edge: EdgeRecord,
-) -> Pen
+fn write_edge(bytes: &mut [u8], pen: Pen, width: u32, nodes: &Numbering, edge: EdgeRecord) -> Pen
     requires { EdgeFits bytes.old pen width nodes.now.live.now nodes.now.slots edge.source edge.target }
     ensures { Penned bytes.old pen
         (record_bits width (ranked_record nodes.now.live.now nodes.now.slots edge.source edge.target edge.payload)) bytes.new result }
@@ -110,38 +105,36 @@ fn write_edge(
     write_record(bytes, pen, width, numbered)
 }
 
+// The record of an edge. Internal: there is one.
+fn edge_at(store: &Store, edge: usize) -> EdgeRecord
+    requires { EdgeThere (words store.now) edge }
+    ensures { result ≡ edge_of (words store.now) edge }
+{
+    EdgeRecord {
+        source: store.outgoing[edge],
+        target: store.incoming[edge],
+        payload: EdgePayload {
+            low: store.lows[edge],
+            high: store.highs[edge],
+        },
+    }
+}
+
 // Writes the records of the live edges in slot order, and answers the pen after them. Internal.
 fn write_edges(bytes: &mut [u8], pen: Pen, width: u32, nodes: &Numbering, store: &Store) -> Pen
     requires { EdgesFit bytes.old pen width nodes.now.live.now nodes.now.slots (words store.now) }
     ensures { Penned bytes.old pen (edge_bits width (live_records nodes.now.live.now nodes.now.slots (words store.now))) bytes.new result }
 {
-    let live = store.live_edges;
     let bound = store.counts.edges.bound as usize;
     let mut at = pen;
-    let mut e = next_live(live, bound, 0);
-    while e < bound {
-        let edge = EdgeRecord {
-            source: store.outgoing[e],
-            target: store.incoming[e],
-            payload: EdgePayload {
-                low: store.lows[e],
-                high: store.highs[e],
-            },
-        };
-        at = write_edge(bytes, at, width, nodes, edge);
-        e = next_live(live, bound, e + 1);
+    for e in LiveSlots::new(store.live_edges, bound) {
+        at = write_edge(bytes, at, width, nodes, edge_at(store, e));
     }
     at
 }
 
 // Writes entries of lists by their new numbers, one after the other, and answers the pen after them. Internal.
-fn write_entries(
-    bytes: &mut [u8],
-    pen: Pen,
-    width: u32,
-    edges: &Numbering,
-    entries: &[u32],
-) -> Pen
+fn write_entries(bytes: &mut [u8], pen: Pen, width: u32, edges: &Numbering, entries: &[u32]) -> Pen
     requires { EntriesFit bytes.old pen width edges.now.live.now edges.now.slots entries.now }
     ensures { Penned bytes.old pen (row width (map (rank (live_flags edges.now.live.now edges.now.slots)) entries.now)) bytes.new result }
 {

@@ -24,8 +24,8 @@ put-at-requires c =
 pub loop-entry-preserved : goal.loop-entry-preserved
 loop-entry-preserved c =
     let a = c.args in
-      entry_more c.loop-entry.invariant (λ e. length_bits_of a.width (rank (live_flags a.edges.now.live.now a.edges.now.slots) e)) (omega arith)
-          (rw c.new_number.ensures at c.put-at.ensures)
+    entry_more c.loop-entry.invariant (λ e. length_bits_of a.width (rank (live_flags a.edges.now.live.now a.edges.now.slots) e)) (omega arith)
+    (rw c.new_number.ensures at c.put-at.ensures)
 
 pub shape_of-bytes : goal.shape_of-bytes
 shape_of-bytes c = c.loop-entry.invariant.front.penned.long
