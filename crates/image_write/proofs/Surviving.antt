@@ -22,9 +22,8 @@ use Rattle.plain.proofs.Laws.Compacting.{survivors_sound, length_surviving_nodes
 use Rattle.plain.proofs.Laws.ImageBits.{length_edge_bits, below_image_bits, length_image_bits}
 use Rattle.plain.proofs.Laws.ImageLaws.{fitted_joined, image_length}
 use Rattle.plain.proofs.Laws.Width.{width_holds, width_least}
-use Rattle.liveness.specs.Flags.{live_flags}
 use Rattle.liveness.specs.Laws.Flags.{length_flags, count_le}
-use Rattle.liveness.specs.Ranks.{RanksFit, Ranked}
+use Rattle.liveness.specs.Ranks.{RanksFit}
 use Rattle.shape.specs.Shape.{Words, capacities, node_live, edge_live, axis_words, plain_of, lists}
 use Rattle.shape.specs.Checked.{SlotsChecked, Checked}
 use Rattle.shape.proofs.Laws.Reading.{plain_node_flags, plain_edge_flags, plain_end, node_at, edge_at}
@@ -36,7 +35,6 @@ use Rattle.bits.specs.Wrote.{Wrote}
 use Rattle.bits.specs.Penned.{Ready, Penned, fresh, reach, waiting}
 use Rattle.bits.specs.Laws.Wrote.{wrote_pack}
 use Rattle.bits.specs.Laws.Penned.{penned_then, penned_wrote}
-use Rattle.image_write.specs.Numbering.{Numbered}
 use Rattle.image_write.specs.Writing.{PiecesFit, NodesFit, EdgesFit, SlotsFit, ListsFit, ImageFits, live_payloads, record_at, live_records, count_bits, slot_bits}
 
 -- ---- the survivors, in words
@@ -109,11 +107,6 @@ width_few n few = width_least n 16 (omega arith)
 -- the counts before the words of live bits have room in an array of as many
 pub ranks_room : {live : List ℕ} {slots : ℕ} {ranks : List ℕ} → slots ≤ 64 * length live → slots ≤ LIMIT → length ranks ≡ live_words LIMIT → RanksFit live slots ranks
 ranks_room long few size = record { long = long; few = few; fits = omega arith }
-
--- slots that are counted right are numbered
-pub numbers_of : {live ranks : List ℕ} {slots alive : ℕ} {all : Bool} → Ranked live slots ranks → alive ≡ live_count (live_flags live slots) → (all ≡ true → alive ≡ slots)
-    → Numbered live slots ranks all
-numbers_of ranked right none-removed = record { ranked = ranked; whole = λ set. sym right ∙ none-removed set }
 
 -- ---- counts, payloads and records
 

@@ -43,7 +43,6 @@ use bits::pen::{Pen, finish, put};
 use bits::{least_width, raise};
 use image_check::places::{COUNT_WIDTH, NODE_PAYLOAD_WIDTH, WEIGHT_WIDTH, image_bytes};
 use liveness::live_slots::LiveSlots;
-use liveness::write_ranks;
 use plain::refusals::Refusal;
 use plain::{EdgePayload, EdgeRecord};
 use shape::Store;
@@ -150,19 +149,13 @@ fn write_slots(store: &Store, width: u32, bytes: &mut [u8]) -> Pen
     requires { SlotsFit (words store.now) width bytes.old }
     ensures { Penned bytes.old fresh (slot_bits width (survivors (lists (words store.now)))) bytes.new result }
 {
-    let node_slots = store.counts.nodes;
-    let edge_slots = store.counts.edges;
-    let slots = node_slots.bound as usize;
+    let counts = store.counts;
+    // No heap: a fixed array.
     let mut ranks: [u32; LIVE_WORDS] = [0; LIVE_WORDS];
-    write_ranks(store.live_nodes, slots, &mut ranks);
-    let nodes = Numbering {
-        live: store.live_nodes,
-        slots,
-        ranks: &ranks,
-        all: node_slots.live == node_slots.bound,
-    };
-    let first = write_counts(bytes, node_slots.live, edge_slots.live);
-    let second = write_nodes(bytes, first, store.nodes, store.live_nodes, slots);
+    let nodes = Numbering::new(store.live_nodes, counts.nodes, &mut ranks);
+    let first = write_counts(bytes, counts.nodes.live, counts.edges.live);
+    let bound = counts.nodes.bound as usize;
+    let second = write_nodes(bytes, first, store.nodes, store.live_nodes, bound);
     write_edges(bytes, second, width, &nodes, store)
 }
 
@@ -171,16 +164,9 @@ fn write_lists(bytes: &mut [u8], pen: Pen, width: u32, store: &Store, entries: &
     requires { ListsFit bytes.old pen width (words store.now) entries.now }
     ensures { Penned bytes.old pen (row width (map (rank (edge_live (words store.now))) entries.now)) bytes.new result }
 {
-    let edge_slots = store.counts.edges;
-    let slots = edge_slots.bound as usize;
+    // No heap: a fixed array.
     let mut ranks: [u32; LIVE_WORDS] = [0; LIVE_WORDS];
-    write_ranks(store.live_edges, slots, &mut ranks);
-    let edges = Numbering {
-        live: store.live_edges,
-        slots,
-        ranks: &ranks,
-        all: edge_slots.live == edge_slots.bound,
-    };
+    let edges = Numbering::new(store.live_edges, store.counts.edges, &mut ranks);
     write_entries(bytes, pen, width, &edges, entries)
 }
 
