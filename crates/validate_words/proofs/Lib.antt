@@ -1,4 +1,3 @@
-pub mod Counting
 pub mod Indexing
 pub mod Ringing
 pub mod Climbing

@@ -4,7 +4,7 @@ ghost use Rattle.std.specs.Prelude.{◌*◌, ◌≤◌, ◌≡◌, length};
 ghost use Rattle.shape.specs.Rules.{slots_right as slots_test, live_agrees as Live_test};
 ghost use Rattle.validate_words.specs.Sizes.{sizes_test};
 
-use liveness::{Counted, count_live};
+use liveness::count_live;
 use plain::{Counts, LIMIT, Slots};
 
 // One kind of slot: the capacity within the limit, the bound within the capacity, the base within the bound, live words enough.
@@ -52,13 +52,10 @@ pub fn sizes_right(
 }
 
 // Rule 2 for one kind of slot: the last word's unused bits are 0, and as many slots are live as the count says.
+#[tactic(auto, unfolding(liveness::specs::Flags::counted))]
 pub fn live_right(words: &[u64], slots: Slots) -> bool
     requires { slots.bound ≤ 64 * length words.now }
     ensures { result ≡ Live_test words.now slots }
 {
-    let counted = count_live(words, slots.bound as usize);
-    match counted {
-        Counted::Live(live) => slots.live as usize == live,
-        Counted::Unpacked => false,
-    }
+    count_live(words, slots.bound as usize) == Some(slots.live as usize)
 }
