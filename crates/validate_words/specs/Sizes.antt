@@ -1,9 +1,8 @@
 -- What rule 1 says of one direction.
-use Rattle.std.specs.Prelude.{ℕ, ◌+◌, ◌*◌, Bool, ◌&&◌, List, leb}
+use Rattle.std.specs.Prelude.{ℕ, List}
 use Rattle.plain.specs.declared.Counts.{Counts}
 use Rattle.shape.specs.Columns.{Sized}
 use Rattle.shape.specs.Checked.{Bounded}
-use Rattle.shape.specs.Rules.{slots_right}
 
 -- What rule 1 says of one direction, of capacities ce and cn.
 pub record AxisSized (ws : List ℕ) (ce cn : ℕ) (counts : Counts) : Type 0 where

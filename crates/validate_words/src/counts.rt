@@ -37,11 +37,8 @@ pub fn sizes_right(store: &Store) -> bool
         store.nodes.len(),
         store.live_nodes.len(),
         store.counts.nodes,
-    ) && slots_right(
-        store.lows.len(),
-        store.live_edges.len(),
-        store.counts.edges,
-    ) && store.lows.len() <= store.highs.len()
+    ) && slots_right(store.lows.len(), store.live_edges.len(), store.counts.edges)
+        && store.lows.len() <= store.highs.len()
         && axes_long(store)
 }
 

@@ -123,7 +123,8 @@ fn rings_climb(axis: &[u32], edge_capacity: usize, node_capacity: usize, counts:
     let ends = counts.nodes.bound;
     let mut lasts = 0;
     for e in base..bound {
-        let Some(step) = edge_climbs(axis, edge_capacity, node_capacity, base, bound, ends, e) else {
+        let Some(step) = edge_climbs(axis, edge_capacity, node_capacity, base, bound, ends, e)
+        else {
             return false;
         };
         lasts += step;
