@@ -151,3 +151,14 @@ impl From<Rule> for Refusal {
         Refusal::NoStore(rule)
     }
 }
+
+impl From<ImageRule> for Refusal {
+    ghost use Rattle.std.specs.Prelude.{◌≡◌};
+    ghost use Rattle.plain.specs.declared.refusals.Refusal.TheVariants.{Unreadable};
+
+    ghost from_gives = { λ rule refusal. refusal ≡ Unreadable rule };
+
+    fn from(rule: ImageRule) -> Refusal {
+        Refusal::Unreadable(rule)
+    }
+}
