@@ -1,3 +1,2 @@
-pub mod Indexing
 pub mod Ringing
 pub mod Climbing
