@@ -1,6 +1,14 @@
 -- What the reads of a slot answer on the plain lists of a store, by the words that they read.
-use Rattle.std.specs.Prelude.{ℕ, ◌≤◌, ◌<◌, ◌≡◌, Bool, true, false, List, get_or}
+use Rattle.std.specs.Prelude.{ℕ, ◌≤◌, ◌<◌, ◌≡◌, Bool, true, false, List, get_or, Err}
 use Rattle.plain.specs.Library.{sym, ap, ◌∙◌, arith}
+use Rattle.plain.specs.declared.refusals.Refusal.{Refusal}
+use Rattle.plain.specs.Answers.{edge_record_of}
+use Rattle.plain.specs.Refusals.{number_of}
+use Rattle.plain.proofs.Laws.Untold.{refusal_number, untold_value}
+use Rattle.plain.proofs.Laws.Rank.{live_below}
+use Rattle.liveness.specs.Faults.{fault_of}
+use Rattle.liveness.specs.Laws.Faults.{by_fault, no_fault}
+use Rattle.liveness.specs.Laws.Flags.{length_flags}
 use Rattle.plain.specs.declared.TraversalDirection.TheVariants.{Outgoing, Incoming}
 use Rattle.plain.specs.Numbers.{NONE}
 use Rattle.plain.specs.Reads.{answered, yes_or_no, no_record, node_payload, edge_record, live_edge_record, contains_node, contains_edge}
@@ -66,3 +74,28 @@ module _ (w : Words) where
   pub edge_there : (e : ℕ) → contains_edge (lists w) e ≡ yes_or_no (get_or (edge_live w) e false)
   unfolding plain_of
   edge_there e = contains_edge_is (lists w) e ∙ ap (λ (fs : List Bool). yes_or_no (get_or fs e false)) (edges_told w).same
+
+  -- what a live record is refused with: the fault of the slot
+  pub live_record_refused : (e : ℕ) (r : Refusal) → number_of r ≡ fault_of (edge_live w) w.counts.edges.bound e 7 8 → live_edge_record (lists w) e ≡ edge_record_of (Err r)
+  live_record_refused e r is =
+      by_fault (edge_live w) w.counts.edges.bound e 7 8 (λ (n : ℕ). number_of r ≡ n → live_edge_record (lists w) e ≡ edge_record_of (Err r))
+      (λ past same. live_record_past e past ∙ sym (rw (untold_value r (omega arith) (omega arith), same)))
+      (λ below dead same. live_record_removed e below dead ∙ sym (rw (untold_value r (omega arith) (omega arith), same)))
+      (λ none. omega (arith, refusal_number r))
+      is
+
+-- where there is no fault the edge is live, and below the bound
+module _ {w : Words} (k : Checked w) (e : ℕ) (none : 0 ≡ fault_of (edge_live w) w.counts.edges.bound e 7 8) where
+  edge_unfaulted : get_or (edge_live w) e false ≡ true
+  edge_unfaulted = no_fault (edge_live w) w.counts.edges.bound e 7 8 (λ q. omega arith) (λ q. omega arith) (sym none)
+
+  edge_below : e < w.counts.edges.bound
+  edge_below = rw (length_flags w.live_edges w.counts.edges.bound) at (live_below (edge_live w) e edge_unfaulted)
+
+  -- so its words are there
+  pub live_record_there : RecordThere w.lows w.highs w.outgoing w.incoming e
+  live_record_there = record_there k e edge_below
+
+  -- and are the live record
+  pub live_record_unfaulted : live_edge_record (lists w) e ≡ record_words w.lows w.highs w.outgoing w.incoming e
+  live_record_unfaulted = live_record_read w e edge_below edge_unfaulted
