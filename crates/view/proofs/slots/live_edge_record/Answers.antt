@@ -1,15 +1,15 @@
--- `view::slots::live_edge_record` meets its contract: the check, the fault of the slot, and then the law of the record of a live edge.
+-- `view::slots::live_edge_record` meets its contract: the check, what the slot is refused with, and then the law of the record of a live edge.
 use Rattle.plain.specs.Library.{sym, ap, ◌∙◌}
 use Rattle.plain.specs.Refusals.{rule_of}
-use Rattle.plain.proofs.Laws.Untold.{refused_exit}
+use Rattle.plain.proofs.Laws.Exits.{refused_exit}
 use Rattle.view.specs.Laws.Calls.{record_done}
-use Rattle.view.proofs.Reading.{live_record_refused, live_record_there, live_record_unfaulted}
+use Rattle.view.proofs.Reading.{live_record_refused, live_record_there, live_record_passed}
 use Rattle.view.proofs.slots.live_edge_record.Goals as goal
 
 pub returns-in_err-live_edge : goal.returns-in_err-live_edge
 returns-in_err-live_edge c =
     rw (refused_exit _ c.from_residual-in_err-live_edge.ensures.1)
-    (record_done c.check_store.ensures (ap rule_of c.in_ok-check_store.was) (sym (live_record_refused _ _ _ c.in_err-live_edge.ensures)))
+    (record_done c.check_store.ensures (ap rule_of c.in_ok-check_store.was) (sym (live_record_refused _ _ c.in_err-live_edge.ensures)))
 
 pub record_at-requires : goal.record_at-requires
 record_at-requires c =
@@ -19,4 +19,4 @@ pub returns : goal.returns
 returns c =
     let none = ap rule_of c.in_ok-check_store.was in
     record_done c.check_store.ensures none
-    (c.record_at.ensures ∙ sym (live_record_unfaulted (c.check_store.ensures.checked none) _ c.in_ok-live_edge.ensures))
+    (c.record_at.ensures ∙ sym (live_record_passed (c.check_store.ensures.checked none) _ c.in_ok-live_edge.ensures))
