@@ -200,17 +200,7 @@ pub fn write_image(store: &Store, work: &mut [u32], bytes: &mut [u8]) -> Result<
     if bytes.len() < needed {
         return Err(Refusal::TooShort(needed as u64));
     }
-    write_both(
-        counts,
-        store.nodes,
-        store.lows,
-        store.highs,
-        store.live_nodes,
-        store.live_edges,
-        store.outgoing,
-        store.incoming,
-        work,
-    );
+    write_both(store, work);
     write_survivors(store, work, bytes);
     Ok(needed)
 }
