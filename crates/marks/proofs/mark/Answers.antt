@@ -1,5 +1,5 @@
 -- `marks::mark` meets its contract: the two ways are `mark_again` and `mark_new` of proofs/Marking.antt.
-use Rattle.std.specs.Prelude.{◌/◌, ◌%◌}
+use Rattle.std.specs.Prelude.{◌%◌}
 use Rattle.plain.specs.Library.{arith}
 use Rattle.liveness.specs.Flags.{bit}
 use Rattle.liveness.specs.Laws.Bits.{power, mark_below}
@@ -14,7 +14,7 @@ pub overflow_add-seen : goal.overflow_add-seen
 unfolding bit
 overflow_add-seen c =
     let edge = c.args.edge in
-    rw power (record { fits = mark_below 64 (edge % 64) _ (omega arith) (c.slice_known-1.given (edge / 64)).fits (omega arith) })
+    rw power (record { fits = mark_below 64 (edge % 64) _ (omega arith) (omega arith) (omega arith) })
 
 pub returns : goal.returns
 unfolding bit
