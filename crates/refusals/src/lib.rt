@@ -2,10 +2,9 @@
 
 #![tactic(auto)]
 
-ghost use Rattle.std.specs.Prelude.{◌≡◌};
+ghost use Rattle.std.specs.Prelude.{◌≤◌, ◌<◌, ◌≡◌, MatchResult};
 ghost use Rattle.plain.specs.Answers.{answer_of};
-ghost use Rattle.plain.specs.Refusals.{fault_number};
-ghost use Rattle.plain.specs.Step.{payload_fault};
+ghost use Rattle.plain.specs.declared.refusals.Refusal.TheVariants.{Inverted};
 ghost use Rattle.plain.specs.declared.Operation.TheVariants.{AddNode, AddEdge, RemoveEdge, RemoveNode, Redirect, Move, SetPayload};
 ghost use Rattle.shape.specs.Checked.{Checked};
 ghost use Rattle.shape.specs.Stores.{words_mut, SameSlices};
@@ -17,9 +16,8 @@ use plain::{EdgePayload, TraversalDirection};
 use shape::StoreMut;
 
 // "It refuses with 16 .. for a low above its high."
-#[tactic(auto, unfolding(plain::specs::Step::payload_fault))]
 fn ordered(payload: EdgePayload) -> Result<(), Refusal>
-    ensures { fault_number result ≡ payload_fault payload }
+    ensures { MatchResult result (λ _. payload.low ≤ payload.high) (λ refusal. (payload.high < payload.low) × (refusal ≡ Inverted)) }
 {
     if payload.low <= payload.high {
         Ok(())
