@@ -1,10 +1,16 @@
 -- What the functions on lengths promise: the lengths and limits of the program as the lengths and the device of the definitions.
-use Rattle.std.specs.Prelude.{ℕ, ◌^◌, ◌<◌, cond, leb}
+use Rattle.std.specs.Prelude.{ℕ, ◌^◌, ◌<◌, ◌≡◌, Result, Ok, Err}
 use Rattle.plain.specs.declared.Answer.{Answer}
+use Rattle.plain.specs.declared.refusals.Refusal.{Refusal}
+use Rattle.plain.specs.Answers.{done_of}
+use Rattle.plain.specs.Numbers.{above_limit, above_skid}
 use Rattle.plain.specs.Step.{Capacities}
 use Rattle.plain.specs.Memory.{Lengths}
-use Rattle.plain.specs.Devices.{Device}
+use Rattle.plain.specs.Devices.{Device, Takes}
+use Rattle.plain.specs.Calls.{within}
 use Rattle.memory.specs.declared.Lengths.{Lengths as Measures}
+use Rattle.memory.specs.declared.Above.{Above}
+use Rattle.memory.specs.declared.Above.TheVariants.{Limit, Skid}
 use Rattle.memory.specs.declared.Limits.{Limits}
 
 abbrev pub caps : ℕ → ℕ → Capacities
@@ -24,9 +30,19 @@ lengths nodes lows highs live_nodes live_edges outgoing incoming = record {
 abbrev pub measured : Measures → Lengths
 measured l = lengths l.nodes l.lows l.highs l.live_nodes l.live_edges l.outgoing l.incoming
 
+-- the number that more is refused with
+abbrev pub above_number : Above → ℕ
+above_number Limit = above_limit
+above_number Skid = above_skid
+
 -- the device of these limits
 abbrev pub device_of : Limits → Device
-device_of l = record { limits = caps l.nodes l.edges; number = l.number }
+device_of l = record { limits = caps l.nodes l.edges; number = above_number l.above }
+
+-- What is told where so many are asked of a device: it takes them, or its refusal, whatever were to follow.
+abbrev pub Taken : Device → Capacities → Result Unit Refusal → Type 0
+Taken device asked (Ok done) = Takes device asked
+Taken device asked (Err refusal) = (rest : Answer) → within device asked rest ≡ done_of (Err refusal)
 
 -- Slots of 32 bits: no length needed wraps.
 pub record FewSlots (slots : ℕ) : Type 0 where
@@ -35,7 +51,3 @@ pub record FewSlots (slots : ℕ) : Type 0 where
 pub record Few (nodes edges : ℕ) : Type 0 where
   pub nodes_few : FewSlots nodes
   pub edges_few : FewSlots edges
-
--- refused with the number where there is less than is needed, else as it goes on
-unfoldable pub lacking : ℕ → ℕ → ℕ → Answer → Answer
-lacking number needs has rest = cond (leb needs has) rest (record { number = number; value = needs })

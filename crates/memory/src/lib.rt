@@ -1,14 +1,17 @@
 // The lengths of a store's memory, judged as numbers: capacities within a device's limits, the words that each slice needs, and the first slice that is too short.
-// Making a store and reading an image answer by these functions alone, so that no length is worked out twice.
+// Making a store and reading an image are refused by these functions alone, so that no length is worked out twice.
 
 #![tactic(auto)]
 
-ghost use Rattle.std.specs.Prelude.{◌≡◌};
+ghost use Rattle.std.specs.Prelude.{◌≡◌, ◌≤◌, ◌<◌, MatchResult};
+ghost use Rattle.plain.specs.Answers.{done_of};
+ghost use Rattle.plain.specs.Refusals.{number_of, value_of, image_rule_of};
 ghost use Rattle.plain.specs.Memory.{first_short, other_slices, live_words, axis_length};
 ghost use Rattle.plain.specs.Calls.{fresh, short_answer, reading};
-ghost use Rattle.memory.specs.Lengths.{caps, measured, device_of, lacking as lacking_of, Few, FewSlots};
+ghost use Rattle.memory.specs.Lengths.{caps, measured, device_of, above_number, Taken, Few, FewSlots};
 
-use plain::{Answer, LIMIT, numbers};
+use plain::LIMIT;
+use plain::refusals::{ImageRule, Refusal};
 
 // The lengths of a store's slices, in parameter order. Those of the nodes' payloads and of the edges' lows are the capacities.
 #[derive(Clone, Copy)]
@@ -22,12 +25,34 @@ pub struct Lengths {
     pub incoming: usize,
 }
 
-// The most nodes and edges that a device takes, and the number that it refuses more with.
+// How a device refuses more than it takes.
+#[derive(Clone, Copy, PartialEq, Eq, Debug)]
+pub enum Above {
+    // A box: "capacity above 32,768 | 13".
+    Limit,
+    // The skid: "It refuses with 15".
+    Skid,
+}
+
+impl Above {
+    // The refusal of so many.
+    pub fn refusal(self, asked: usize) -> Refusal
+        ensures number { number_of result ≡ above_number self }
+        ensures value { value_of result ≡ asked }
+    {
+        match self {
+            Above::Limit => Refusal::AboveLimit(asked as u64),
+            Above::Skid => Refusal::AboveSkid(asked as u64),
+        }
+    }
+}
+
+// The most nodes and edges that a device takes, and how it refuses more.
 #[derive(Clone, Copy)]
 pub struct Limits {
     pub nodes: u32,
     pub edges: u32,
-    pub number: u32,
+    pub above: Above,
 }
 
 impl Limits {
@@ -35,15 +60,29 @@ impl Limits {
     pub const BOX: Limits = Limits {
         nodes: LIMIT,
         edges: LIMIT,
-        number: numbers::ABOVE_LIMIT,
+        above: Above::Limit,
     };
 
-    // "64 lots and 128 transfers", "It refuses with 15"
+    // "64 lots and 128 transfers"
     pub const SKID: Limits = Limits {
         nodes: 64,
         edges: 128,
-        number: numbers::ABOVE_SKID,
+        above: Above::Skid,
     };
+
+    // Refuses more nodes or edges than the device takes, nodes before edges, with the number asked for.
+    #[tactic(auto, unfolding(plain::specs::Calls::within))]
+    pub fn take(self, nodes: usize, edges: usize) -> Result<(), Refusal>
+        ensures { Taken (device_of self) (caps nodes edges) result }
+    {
+        if (self.nodes as usize) < nodes {
+            return Err(self.above.refusal(nodes));
+        }
+        if (self.edges as usize) < edges {
+            return Err(self.above.refusal(edges));
+        }
+        Ok(())
+    }
 }
 
 // The live words of so many slots.
@@ -62,92 +101,57 @@ pub fn axis_length(node_capacity: usize, edge_capacity: usize) -> usize
     4 * edge_capacity + 6 * node_capacity + 1
 }
 
-// The answer, or the refusal of a need above what there is, with the value asked for: a slice too short, or more than a device takes. For a call's slices, the last
-// one first.
-pub fn lacking(number: u32, needs: usize, has: usize, rest: Answer) -> Answer
-    ensures { result ≡ lacking_of number needs has rest }
+// Refuses a slice that is too short, with the length needed.
+pub fn need(needs: usize, has: usize) -> Result<(), Refusal>
+    ensures { MatchResult result (λ _. needs ≤ has) (λ refusal. (has < needs) × (refusal ≡ Refusal.TooShort needs)) }
 {
-    if needs <= has {
-        return rest;
+    if has < needs {
+        return Err(Refusal::TooShort(needs as u64));
     }
-    Answer {
-        number,
-        value: needs as u64,
-    }
+    Ok(())
 }
 
-// 2 for the first slice beside those two that is too short.
-fn others(lengths: Lengths) -> Answer
+// Refuses the first slice beside those two that is too short.
+#[tactic(auto, unfolding(plain::specs::Memory::first_short))]
+fn check_others(lengths: Lengths) -> Result<(), Refusal>
     requires { Few lengths.nodes lengths.lows }
-    ensures { result ≡ short_answer (first_short (other_slices (measured lengths))) }
+    ensures { done_of result ≡ short_answer (first_short (other_slices (measured lengths))) }
 {
-    let done = Answer {
-        number: numbers::DONE,
-        value: 0,
-    };
     let axis = axis_length(lengths.nodes, lengths.lows);
-    let incoming = lacking(numbers::TOO_SHORT, axis, lengths.incoming, done);
-    let outgoing = lacking(numbers::TOO_SHORT, axis, lengths.outgoing, incoming);
-    let live_edges = lacking(
-        numbers::TOO_SHORT,
-        live_words(lengths.lows),
-        lengths.live_edges,
-        outgoing,
-    );
-    let live_nodes = lacking(
-        numbers::TOO_SHORT,
-        live_words(lengths.nodes),
-        lengths.live_nodes,
-        live_edges,
-    );
-    lacking(numbers::TOO_SHORT, lengths.lows, lengths.highs, live_nodes)
+    need(lengths.lows, lengths.highs)?;
+    need(live_words(lengths.nodes), lengths.live_nodes)?;
+    need(live_words(lengths.lows), lengths.live_edges)?;
+    need(axis, lengths.outgoing)?;
+    need(axis, lengths.incoming)
 }
 
-// The answer of reading an image into memory of these lengths, by the image's first broken rule, 0 for none, and its two counts: the limits of the memory, 12, the limits
-// of the image, 2.
-pub fn reading_answer(
+// Refuses to read an image into memory of these lengths, by the image's first broken rule, if one is, and its two counts: the limits of the memory, the rule, the limits of
+// the image, a slice too short.
+#[tactic(auto, unfolding(plain::specs::Calls::reading, plain::specs::Calls::within, plain::specs::Memory::first_short))]
+pub fn check_reading(
     limits: Limits,
     lengths: Lengths,
-    rule: u32,
+    rule: Result<(), ImageRule>,
     count_nodes: u32,
     count_edges: u32,
-) -> Answer
-    ensures { result ≡ reading (device_of limits) (measured lengths) rule count_nodes count_edges }
+) -> Result<(), Refusal>
+    ensures { done_of result ≡ reading (device_of limits) (measured lengths) (image_rule_of rule) count_nodes count_edges }
 {
-    let node_capacity = lengths.nodes;
-    let edge_capacity = lengths.lows;
-    let most_nodes = limits.nodes as usize;
-    let most_edges = limits.edges as usize;
-    if most_nodes < node_capacity {
-        return Answer {
-            number: limits.number,
-            value: node_capacity as u64,
-        };
-    }
-    if most_edges < edge_capacity {
-        return Answer {
-            number: limits.number,
-            value: edge_capacity as u64,
-        };
-    }
-    if rule != 0 {
-        return Answer {
-            number: numbers::UNREADABLE,
-            value: rule as u64,
-        };
-    }
+    limits.take(lengths.nodes, lengths.lows)?;
+    rule?;
     let asked_nodes = count_nodes as usize;
     let asked_edges = count_edges as usize;
-    let rest = others(lengths);
-    let edges_there = lacking(numbers::TOO_SHORT, asked_edges, edge_capacity, rest);
-    let nodes_there = lacking(numbers::TOO_SHORT, asked_nodes, node_capacity, edges_there);
-    let edges_taken = lacking(limits.number, asked_edges, most_edges, nodes_there);
-    lacking(limits.number, asked_nodes, most_nodes, edges_taken)
+    limits.take(asked_nodes, asked_edges)?;
+    need(asked_nodes, lengths.nodes)?;
+    need(asked_edges, lengths.lows)?;
+    check_others(lengths)
 }
 
-// The answer of making a store in memory of these lengths: the limits, then 2. It is that of an image of nothing.
-pub fn fresh_answer(limits: Limits, lengths: Lengths) -> Answer
-    ensures { result ≡ fresh (device_of limits) (measured lengths) }
+// Refuses to make a store in memory of these lengths: the limits, then a slice too short.
+#[tactic(auto, unfolding(plain::specs::Calls::fresh, plain::specs::Calls::within))]
+pub fn check_fresh(limits: Limits, lengths: Lengths) -> Result<(), Refusal>
+    ensures { done_of result ≡ fresh (device_of limits) (measured lengths) }
 {
-    reading_answer(limits, lengths, 0, 0, 0)
+    limits.take(lengths.nodes, lengths.lows)?;
+    check_others(lengths)
 }

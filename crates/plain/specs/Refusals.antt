@@ -66,6 +66,11 @@ abbrev pub rule_of : Result Unit Rule → ℕ
 rule_of (Ok done) = 0
 rule_of (Err rule) = rule_number rule
 
+-- the first broken rule of an image, 0 where none is
+abbrev pub image_rule_of : Result Unit ImageRule → ℕ
+image_rule_of (Ok done) = 0
+image_rule_of (Err rule) = image_rule_number rule
+
 -- the number that a step of a call is refused with, 0 where it goes on
 abbrev pub fault_number : Result Unit Refusal → ℕ
 fault_number (Ok done) = 0

@@ -8,6 +8,7 @@ ghost use Rattle.plain.specs.Plain.{opposite};
 
 pub mod answers;
 pub mod numbers;
+mod printed;
 pub mod refusals;
 
 // "None" where the Rust has an `Option<Id>`.

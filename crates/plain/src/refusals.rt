@@ -147,7 +147,18 @@ impl From<Rule> for Refusal {
 
     ghost from_gives = { λ rule refusal. refusal ≡ NoStore rule };
 
-    fn from(rule: Rule) -> Refusal {
-        Refusal::NoStore(rule)
+    fn from(broken: Rule) -> Refusal {
+        Refusal::NoStore(broken)
+    }
+}
+
+impl From<ImageRule> for Refusal {
+    ghost use Rattle.std.specs.Prelude.{◌≡◌};
+    ghost use Rattle.plain.specs.declared.refusals.Refusal.TheVariants.{Unreadable};
+
+    ghost from_gives = { λ rule refusal. refusal ≡ Unreadable rule };
+
+    fn from(rule: ImageRule) -> Refusal {
+        Refusal::Unreadable(rule)
     }
 }

@@ -1,5 +1,5 @@
 -- The lists that compaction takes over from one direction, by the words of its axis: the walks of the live nodes, ring order included.
-use Rattle.std.specs.Prelude.{ℕ, ◌+◌, ◌*◌, ◌≤◌, ◌<◌, ◌≡◌, Bool, true, false, List, ◌++◌, map, length, take, drop}
+use Rattle.std.specs.Prelude.{ℕ, ◌+◌, ◌*◌, ◌≤◌, ◌<◌, ◌≡◌, Bool, true, List, ◌++◌, map, length, take, drop}
 use Rattle.plain.specs.declared.Counts.{Counts}
 use Rattle.plain.specs.Lists.{joined}
 use Rattle.plain.specs.Reads.{live_slots}
@@ -21,11 +21,6 @@ pub record ListsFit (ws : List ℕ) (ce cn : ℕ) (counts : Counts) (live_nodes 
   pub fits : counts.edges.live ≤ length out
 
 -- ---- one walk behind what stands in a slice
-
--- the places that an edge takes in a list, by whether it is listed
-unfoldable pub places_of : Bool → ℕ
-places_of true = 1
-places_of false = 0
 
 -- What it takes to put a walk there: it can be read, and together with the first `from` words it is no longer than `total` words of the slice.
 pub record PutFits (linked : Bool) (entries next : List ℕ) (tombstoned : Bool) (live : List ℕ) (slots : ℕ) (c : AdjacencyCursor) (out : List ℕ) (total from : ℕ)

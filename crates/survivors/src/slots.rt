@@ -19,15 +19,12 @@ pub fn write_map(live: &[u64], bound: usize, first: u32, map: &mut [u32])
     ensures { map.new ≡ written (renumbering_from first (live_flags live.now bound)) map.old }
 {
     let mut next: u32 = first;
-    let mut slot: usize = 0;
-    while slot < bound {
-        let here = slot;
-        slot += 1;
-        if liveness::is_live(live, bound, here) {
-            map[here] = next;
+    for slot in 0..bound {
+        if liveness::is_live(live, bound, slot) {
+            map[slot] = next;
             next += 1;
         } else {
-            map[here] = NONE;
+            map[slot] = NONE;
         }
     }
 }
@@ -42,12 +39,9 @@ pub fn keep_live(words: &mut [u32], live: &[u64], bound: usize, count: usize)
         return;
     }
     let mut to: usize = 0;
-    let mut slot: usize = 0;
-    while slot < bound {
-        let here = slot;
-        slot += 1;
-        if liveness::is_live(live, bound, here) {
-            words[to] = words[here];
+    for slot in 0..bound {
+        if liveness::is_live(live, bound, slot) {
+            words[to] = words[slot];
             to += 1;
         }
     }
@@ -67,9 +61,7 @@ pub fn translate(words: &mut [u32], count: usize, map: &[u32])
     requires { Translatable words.old count map.now }
     ensures { Rewritten words.old words.new 0 count (translated_word words.old map.now) }
 {
-    let mut i: usize = 0;
-    while i < count {
+    for i in 0..count {
         words[i] = map[words[i] as usize];
-        i += 1;
     }
 }

@@ -1,12 +1,7 @@
--- `survivors::slots::translate` meets its contract. The loop's invariant: the words passed are put through the map, all others are as they were. The measure is
--- the number of words left.
-use Rattle.std.specs.Prelude.{◌-◌, ◌≤◌}
+-- `survivors::slots::translate` meets its contract. The loop's invariant: the words passed are put through the map, all others are as they were.
 use Rattle.shape.specs.Index.{Rewritten}
 use Rattle.survivors.specs.Slots.{translated_word}
 use Rattle.survivors.proofs.slots.translate.Given as goal
 
 abbrev pub invariant-loop-i : goal.invariant-loop-i
-invariant-loop-i l = (l.i ≤ l.count) × Rewritten l.initial.words l.words 0 l.i (translated_word l.initial.words l.map)
-
-abbrev pub decreases-loop-i : goal.decreases-loop-i
-decreases-loop-i l = l.count - l.i
+invariant-loop-i l = Rewritten l.initial.words l.words 0 l.i (translated_word l.initial.words l.map)
