@@ -1,9 +1,10 @@
 -- The ways that additions, removals and a new payload end, each by what the program has tested.
-use Rattle.std.specs.Prelude.{ℕ, ◌≤◌, ◌<◌, ◌≡◌, refl, Bool, true, false, List, get_or}
+use Rattle.std.specs.Prelude.{ℕ, ◌≤◌, ◌<◌, ◌≡◌, refl, Bool, true, false, List, get_or, Err}
 use mir.Val.{bool_byte}
 use Rattle.plain.specs.Library.{sym, subst, ◌∙◌, ⊎_elim}
 use Rattle.plain.specs.declared.EdgePayload.{EdgePayload}
 use Rattle.plain.specs.declared.refusals.Refusal.{Refusal}
+use Rattle.plain.specs.declared.refusals.Refusal.TheVariants.{OutOfRangeNode, RemovedNode}
 use Rattle.plain.specs.declared.Operation.{Operation}
 use Rattle.plain.specs.declared.Operation.TheVariants.{AddNode, AddEdge, RemoveEdge, RemoveNode, SetPayload}
 use Rattle.plain.specs.Numbers.{NONE}
@@ -12,9 +13,9 @@ use Rattle.plain.specs.Refusals.{number_of, value_of}
 use Rattle.plain.specs.Step.{changed, unchanged}
 use Rattle.plain.specs.Laws.Cases.{Absent, Removed, Live, Case, add_node_full, add_node, add_edge_inverted, add_edge_source_absent, add_edge_source_removed, add_edge_target_absent, add_edge_target_removed, add_edge_full, add_edge, remove_edge_absent, remove_edge_removed, remove_edge, remove_node_absent, remove_node_removed, remove_node, set_payload_inverted, set_payload_absent, set_payload}
 use Rattle.plain.proofs.Laws.Booleans.{by_test, below_or_not}
-use Rattle.liveness.specs.Faults.{fault_of}
 use Rattle.shape.specs.Shape.{Words, capacities, node_capacity, edge_capacity, node_live, lists}
 use Rattle.shape.specs.Checked.{Checked}
+use Rattle.shape.specs.Stores.{slot_refused}
 use Rattle.shape.specs.Steps.{acts}
 use Rattle.shape.specs.Laws.Slots.{Told}
 use Rattle.shape.proofs.Laws.Slots.{nodes_told, edges_told, node_bound_of, edge_bound_of, absent_slot, live_slot, removed_slot}
@@ -41,18 +42,18 @@ module _ {w : Words} (c : Checked w) where
     edge_inverted order = stays c (add_edge_inverted order) refl
 
   module _ (source target : ℕ) {payload : EdgePayload} (order : payload.low ≤ payload.high) where
-    pub source_fault : {v : Words} → v ≡ w → (refusal : Refusal) → number_of refusal ≡ fault_of (node_live v) v.counts.nodes.bound source 5 6
+    pub source_fault : {v : Words} → v ≡ w → {refusal : Refusal} → Err refusal ≡ slot_refused OutOfRangeNode RemovedNode (node_live v) v.counts.nodes.bound source
         → StepOf (AddEdge source target payload) w w (number_of refusal) (value_of refusal)
-    source_fault same refusal =
-        node_fault same (AddEdge source target payload) refusal source
+    source_fault same =
+        node_fault same (AddEdge source target payload) source
         (λ h. stays c (add_edge_source_absent order (absent_slot (nodes_told w) source h)) refl)
         (λ l h. stays c (add_edge_source_removed order (removed_slot (nodes_told w) source l h)) refl)
 
     pub target_fault : get_or (node_live w) source false ≡ true → {v : Words} → v ≡ w → (refusal : Refusal)
-        → number_of refusal ≡ fault_of (node_live v) v.counts.nodes.bound target 5 6
+        → Err refusal ≡ slot_refused OutOfRangeNode RemovedNode (node_live v) v.counts.nodes.bound target
         → StepOf (AddEdge source target payload) w w (number_of refusal) (value_of refusal)
-    target_fault s same refusal =
-        node_fault same (AddEdge source target payload) refusal target
+    target_fault s same =
+        node_fault same (AddEdge source target payload) target
         (λ h. stays c (add_edge_target_absent order (live_slot (nodes_told w) source s) (absent_slot (nodes_told w) target h)) refl)
         (λ l h. stays c (add_edge_target_removed order (live_slot (nodes_told w) source s) (removed_slot (nodes_told w) target l h)) refl)
 

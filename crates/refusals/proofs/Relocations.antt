@@ -1,9 +1,10 @@
 -- The ways that redirections and moves end, each by what the program has tested.
-use Rattle.std.specs.Prelude.{ℕ, ◌≤◌, ◌<◌, ◌≡◌, refl, Bool, true, false, ◌≢◌, [], length, get_or, eqb}
+use Rattle.std.specs.Prelude.{ℕ, ◌≤◌, ◌<◌, ◌≡◌, refl, Bool, true, false, ◌≢◌, [], length, get_or, eqb, Err}
 use Rattle.plain.specs.Library.{sym, ap, subst, ◌∙◌, eqb-true, eqb-false, eq-eqb, ne_eqb}
 use Rattle.plain.specs.declared.TraversalDirection.{TraversalDirection}
 use Rattle.plain.specs.declared.Operation.TheVariants.{Redirect, Move}
 use Rattle.plain.specs.declared.refusals.Refusal.{Refusal}
+use Rattle.plain.specs.declared.refusals.Refusal.TheVariants.{OutOfRangeNode, RemovedNode, OutOfRangeEdge, RemovedEdge}
 use Rattle.plain.specs.Numbers.{NONE}
 use Rattle.plain.specs.Refusals.{number_of, value_of}
 use Rattle.plain.specs.Plain.{end_of, list_of}
@@ -12,9 +13,9 @@ use Rattle.plain.specs.Laws.Cases.{redirect_edge_absent, redirect_edge_removed, 
 use Rattle.plain.proofs.Laws.ListLaws.{no_entries}
 use Rattle.plain.proofs.Laws.Rank.{live_below}
 use Rattle.liveness.specs.Laws.Flags.{length_flags}
-use Rattle.liveness.specs.Faults.{fault_of}
 use Rattle.shape.specs.Shape.{Words, node_capacity, edge_capacity, node_live, edge_live, axis_words, lists}
 use Rattle.shape.specs.Checked.{Checked}
+use Rattle.shape.specs.Stores.{slot_refused}
 use Rattle.shape.proofs.Laws.Reading.{plain_end}
 use Rattle.shape.proofs.Laws.Slots.{nodes_told, edges_told, node_bound_of, absent_slot, live_slot, removed_slot}
 use Rattle.adjacency.specs.Walk.{walk_in}
@@ -25,17 +26,17 @@ use Rattle.refusals.proofs.Told.{node_fault, edge_fault}
 use Rattle.refusals.specs.Laws.Stepping.{stays, done}
 
 module _ {w : Words} (c : Checked w) (d : TraversalDirection) (edge node : ℕ) where
-  pub redirect_edge_fault : {v : Words} → v ≡ w → (refusal : Refusal) → number_of refusal ≡ fault_of (edge_live v) v.counts.edges.bound edge 7 8
+  pub redirect_edge_fault : {v : Words} → v ≡ w → {refusal : Refusal} → Err refusal ≡ slot_refused OutOfRangeEdge RemovedEdge (edge_live v) v.counts.edges.bound edge
       → StepOf (Redirect d edge node) w w (number_of refusal) (value_of refusal)
-  redirect_edge_fault same refusal =
-      edge_fault same (Redirect d edge node) refusal edge
+  redirect_edge_fault same =
+      edge_fault same (Redirect d edge node) edge
       (λ h. stays c (redirect_edge_absent (absent_slot (edges_told w) edge h)) refl) (λ l h. stays c (redirect_edge_removed (removed_slot (edges_told w) edge l h)) refl)
 
   module _ (alive : get_or (edge_live w) edge false ≡ true) where
-    pub redirect_node_fault : {v : Words} → v ≡ w → (refusal : Refusal) → number_of refusal ≡ fault_of (node_live v) v.counts.nodes.bound node 5 6
+    pub redirect_node_fault : {v : Words} → v ≡ w → {refusal : Refusal} → Err refusal ≡ slot_refused OutOfRangeNode RemovedNode (node_live v) v.counts.nodes.bound node
         → StepOf (Redirect d edge node) w w (number_of refusal) (value_of refusal)
-    redirect_node_fault same refusal =
-        node_fault same (Redirect d edge node) refusal node
+    redirect_node_fault same =
+        node_fault same (Redirect d edge node) node
         (λ h. stays c (redirect_node_absent (live_slot (edges_told w) edge alive) (absent_slot (nodes_told w) node h)) refl)
         (λ l h. stays c (redirect_node_removed (live_slot (edges_told w) edge alive) (removed_slot (nodes_told w) node l h)) refl)
 
@@ -85,10 +86,10 @@ module _ {w : Words} (c : Checked w) (d : TraversalDirection) (old new : ℕ) wh
       nothing_moved empty = stays c (move_nothing apart (rw (node_bound_of w) below) empty) refl
 
       module _ (some : list_of d (lists w) old ≢ []) where
-        pub new_fault : {v : Words} → v ≡ w → (refusal : Refusal) → number_of refusal ≡ fault_of (node_live v) v.counts.nodes.bound new 5 6
+        pub new_fault : {v : Words} → v ≡ w → {refusal : Refusal} → Err refusal ≡ slot_refused OutOfRangeNode RemovedNode (node_live v) v.counts.nodes.bound new
             → StepOf (Move d old new) w w (number_of refusal) (value_of refusal)
-        new_fault same refusal =
-            node_fault same (Move d old new) refusal new
+        new_fault same =
+            node_fault same (Move d old new) new
             (λ h. stays c (move_new_absent apart (rw (node_bound_of w) below) some (absent_slot (nodes_told w) new h)) refl)
             (λ l h. stays c (move_new_removed apart (rw (node_bound_of w) below) some (removed_slot (nodes_told w) new l h)) refl)
 

@@ -1,5 +1,5 @@
 -- `refusals::add_edge` meets its contract: the order of the payload, the faults of source and target, then the room, then the store's addition.
-use Rattle.plain.proofs.Laws.Untold.{refused_exit}
+use Rattle.plain.proofs.Laws.Exits.{refused_exit}
 use Rattle.refusals.proofs.Told.{told_node}
 use Rattle.refusals.proofs.Additions.{edge_inverted, source_fault, target_fault, edge_full, edge_added}
 use Rattle.refusals.proofs.add_edge.Goals as goal
@@ -11,13 +11,13 @@ returns-in_err-ordered-clause-steps c =
 pub returns-in_err-live_node-clause-steps : goal.returns-in_err-live_node-clause-steps
 returns-in_err-live_node-clause-steps c =
     rw (refused_exit _ c.from_residual-in_err-live_node.ensures.1)
-    (source_fault c.requires c.args.source c.args.target c.in_ok-ordered.ensures c.as_store-read.ensures _ c.in_err-live_node.ensures)
+    (source_fault c.requires c.args.source c.args.target c.in_ok-ordered.ensures c.as_store-read.ensures c.in_err-live_node.ensures)
 
 pub returns-in_err-live_node-2-clause-steps : goal.returns-in_err-live_node-2-clause-steps
 returns-in_err-live_node-2-clause-steps c =
     rw (refused_exit _ c.from_residual-in_err-live_node-2.ensures.1)
     (target_fault c.requires c.args.source c.args.target c.in_ok-ordered.ensures (told_node c.as_store-read.ensures c.args.source c.in_ok-live_node.ensures)
-    c.as_store-read.ensures _ c.in_err-live_node-2.ensures)
+    c.as_store-read.ensures c.in_err-live_node-2.ensures)
 
 pub returns-then-store-slot-clause-steps : goal.returns-then-store-slot-clause-steps
 returns-then-store-slot-clause-steps c =

@@ -1,7 +1,7 @@
 -- `refusals::move_adjacency` meets its contract: the tests in document 01's order, then the store's move.
 use Rattle.std.specs.Prelude.{◌≢◌, []}
 use Rattle.plain.specs.Plain.{list_of}
-use Rattle.plain.proofs.Laws.Untold.{refused_exit}
+use Rattle.plain.proofs.Laws.Exits.{refused_exit}
 use Rattle.shape.specs.Shape.{lists}
 use Rattle.shape.specs.Stores.{words_mut}
 use Rattle.refusals.proofs.Told.{told_node}
@@ -29,7 +29,7 @@ pub returns-in_err-live_node-clause-steps : goal.returns-in_err-live_node-clause
 returns-in_err-live_node-clause-steps c =
     rw (refused_exit _ c.from_residual.ensures.1)
     (new_fault c.requires c.args.direction c.args.old c.args.new c.if-old-new.false c.if-store-old.false
-    (some (goal.at.returns-in_err-live_node-clause-steps c).Else-degree-eq0) c.as_store-read.ensures _ c.in_err-live_node.ensures)
+    (some (goal.at.returns-in_err-live_node-clause-steps c).Else-degree-eq0) c.as_store-read.ensures c.in_err-live_node.ensures)
 
 pub move_adjacency-requires : goal.move_adjacency-requires
 move_adjacency-requires c =

@@ -1,5 +1,5 @@
 -- `refusals::set_payload` meets its contract: refused for a low above its high and at or above the bound, else the store's.
-use Rattle.plain.proofs.Laws.Untold.{refused_exit}
+use Rattle.plain.proofs.Laws.Exits.{refused_exit}
 use Rattle.refusals.proofs.Additions.{payload_inverted, payload_absent, payload_set}
 use Rattle.refusals.proofs.set_payload.Goals as goal
 
