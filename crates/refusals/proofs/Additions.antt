@@ -4,7 +4,8 @@ use mir.Val.{bool_byte}
 use Rattle.plain.specs.Library.{sym, subst, ◌∙◌, ⊎_elim}
 use Rattle.plain.specs.declared.EdgePayload.{EdgePayload}
 use Rattle.plain.specs.declared.refusals.Refusal.{Refusal}
-use Rattle.plain.specs.declared.refusals.Refusal.TheVariants.{OutOfRangeNode, RemovedNode}
+use Rattle.plain.specs.declared.refusals.Refusal.TheVariants.{OutOfRangeNode}
+use Rattle.plain.specs.declared.refusals.Refusal.TheVariants as refusals
 use Rattle.plain.specs.declared.Operation.{Operation}
 use Rattle.plain.specs.declared.Operation.TheVariants.{AddNode, AddEdge, RemoveEdge, RemoveNode, SetPayload}
 use Rattle.plain.specs.Numbers.{NONE}
@@ -42,15 +43,15 @@ module _ {w : Words} (c : Checked w) where
     edge_inverted order = stays c (add_edge_inverted order) refl
 
   module _ (source target : ℕ) {payload : EdgePayload} (order : payload.low ≤ payload.high) where
-    pub source_fault : {v : Words} → v ≡ w → {refusal : Refusal} → Err refusal ≡ slot_refused OutOfRangeNode RemovedNode (node_live v) v.counts.nodes.bound source
+    pub source_fault : {v : Words} → v ≡ w → {refusal : Refusal} → Err refusal ≡ slot_refused OutOfRangeNode refusals.RemovedNode (node_live v) v.counts.nodes.bound source
         → StepOf (AddEdge source target payload) w w (number_of refusal) (value_of refusal)
     source_fault same =
         node_fault same (AddEdge source target payload) source
         (λ h. stays c (add_edge_source_absent order (absent_slot (nodes_told w) source h)) refl)
         (λ l h. stays c (add_edge_source_removed order (removed_slot (nodes_told w) source l h)) refl)
 
-    pub target_fault : get_or (node_live w) source false ≡ true → {v : Words} → v ≡ w → (refusal : Refusal)
-        → Err refusal ≡ slot_refused OutOfRangeNode RemovedNode (node_live v) v.counts.nodes.bound target
+    pub target_fault : get_or (node_live w) source false ≡ true → {v : Words} → v ≡ w → {refusal : Refusal}
+        → Err refusal ≡ slot_refused OutOfRangeNode refusals.RemovedNode (node_live v) v.counts.nodes.bound target
         → StepOf (AddEdge source target payload) w w (number_of refusal) (value_of refusal)
     target_fault s same =
         node_fault same (AddEdge source target payload) target
