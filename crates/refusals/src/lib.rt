@@ -116,19 +116,7 @@ pub fn move_adjacency(
         return Err(Refusal::OutOfRangeNode);
     }
     let read = store.as_store();
-    if reads::degree(
-        read.counts,
-        read.nodes,
-        read.lows,
-        read.highs,
-        read.live_nodes,
-        read.live_edges,
-        read.outgoing,
-        read.incoming,
-        direction,
-        old,
-    ) == 0
-    {
+    if reads::degree(&read, direction, old) == 0 {
         return Ok(0);
     }
     read.live_node(new)?;
