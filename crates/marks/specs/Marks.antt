@@ -18,6 +18,11 @@ pub record Entered (listed passing : Bool) (entry : List ℕ) (edge : ℕ) (answ
   pub failing : listed ≡ true → passing ≡ false → answer ≡ false
   pub marking : listed ≡ true → passing ≡ true → Marked entry edge answer exit
 
+-- An entry is looked at, and marked where it passes a test.
+pub record Passed (passing : Bool) (entry : List ℕ) (edge : ℕ) (answer : Bool) (exit : List ℕ) : Type 0 where
+  pub failing : passing ≡ false → answer ≡ false
+  pub marking : passing ≡ true → Marked entry edge answer exit
+
 -- no entry is marked, and none comes twice
 unfoldable pub fresh : (ℕ → Bool) → List ℕ → Bool
 fresh marks l = distinct l && all (λ e. not (marks e)) l

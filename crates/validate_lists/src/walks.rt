@@ -116,14 +116,12 @@ fn walk_right(
 }
 
 // A slot is marked if it is live.
+#[tactic(auto, unfolding(crate::specs::Walks::marked_if_live))]
 fn marked_if_live(words: &[u64], seen: &[u64], slots: usize, slot: usize) -> bool
     requires { (slots ≤ 64 * length words.now) × (slots ≤ 64 * length seen.now) }
     ensures { result ≡ marked_if_live (live_flags words.now slots) (live_flags seen.now slots) slot }
 {
-    if is_live(words, slots, slot) {
-        return is_live(seen, slots, slot);
-    }
-    true
+    !is_live(words, slots, slot) || is_live(seen, slots, slot)
 }
 
 // Whether the bits of the first words of one map are set in those of another; only the yes is promised.
@@ -131,12 +129,10 @@ fn words_within(words: &[u64], seen: &[u64], count: usize) -> bool
     requires { (count ≤ length words.now) × (count ≤ length seen.now) }
     ensures { result ≡ true → (i : ℕ) → i < count → Within (get_or words.now i 0) (get_or seen.now i 0) }
 {
-    let mut i: usize = 0;
-    while i < count {
+    for i in 0..count {
         if words[i] & seen[i] != words[i] {
             return false;
         }
-        i += 1;
     }
     true
 }
@@ -146,26 +142,18 @@ pub fn live_marked(words: &[u64], seen: &[u64], slots: usize) -> bool
     requires { (slots ≤ 64 * length words.now) × (slots ≤ 64 * length seen.now) }
     ensures { result ≡ all (marked_if_live (live_flags words.now slots) (live_flags seen.now slots)) (from 0 slots) }
 {
-    let full = slots / 64;
-    if words_within(words, seen, full) {
-        if slots % 64 == 0 {
-            return true;
-        }
-        if words[full] & seen[full] == words[full] {
-            return true;
-        }
+    if words_within(words, seen, slots.div_ceil(64)) {
+        return true;
     }
-    let mut e: usize = 0;
-    while e < slots {
+    for e in 0..slots {
         if !marked_if_live(words, seen, slots, e) {
             return false;
         }
-        e += 1;
     }
     true
 }
 
-// Rule 7: the walks of all nodes list each live edge once, at its end, and nothing else. They are not followed where a quick test has told that they are right.
+// Rule 7: the walks of all nodes list each live edge once, at its end, and nothing else.
 pub fn walks_right(
     axis: &[u32],
     edge_capacity: usize,
@@ -173,19 +161,13 @@ pub fn walks_right(
     counts: Counts,
     live_nodes: &[u64],
     live_edges: &[u64],
-    known: bool,
 ) -> bool
-    requires { WalksReadable axis.now edge_capacity node_capacity counts live_nodes.now live_edges.now × (known ≡ true → walks_test axis.now edge_capacity node_capacity counts live_nodes.now live_edges.now ≡ true) }
+    requires { WalksReadable axis.now edge_capacity node_capacity counts live_nodes.now live_edges.now }
     ensures { result ≡ walks_test axis.now edge_capacity node_capacity counts live_nodes.now live_edges.now }
 {
-    let slots = counts.edges.bound as usize;
     let node_bound = counts.nodes.bound;
-    if known {
-        return true;
-    }
     let mut seen = [0u64; 512];
-    let mut x: u32 = 0;
-    while x < node_bound {
+    for x in 0..node_bound {
         let live = is_live(live_nodes, node_bound as usize, x as usize);
         if !walk_right(
             axis,
@@ -199,7 +181,6 @@ pub fn walks_right(
         ) {
             return false;
         }
-        x += 1;
     }
-    live_marked(live_edges, &seen, slots)
+    live_marked(live_edges, &seen, counts.edges.bound as usize)
 }

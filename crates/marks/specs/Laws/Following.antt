@@ -5,7 +5,7 @@ use Rattle.std.proofs.lemmas.Bool.{false≢true}
 use Rattle.plain.specs.Lists.{member, distinct, all, keep}
 use Rattle.plain.proofs.Laws.Booleans.{by_test, true_false, refuted, and_left, and_right, both_true, or_other, or_false, or_true}
 use Rattle.plain.proofs.Laws.ListLaws.{all_of, all_member, member_append, distinct_append}
-use Rattle.marks.specs.Marks.{marked, Marked, Entered, fresh, passes, Followed, Adds}
+use Rattle.marks.specs.Marks.{marked, Marked, Entered, Passed, fresh, passes, Followed, Adds}
 use Rattle.marks.specs.Laws.Fresh.{or_swap, passes_none, passes_fails, passes_marked, passes_more}
 
 -- Of a list of entries the rest is still to be followed; those before are marked.
@@ -54,6 +54,17 @@ module _ {test : ℕ → Bool} {l seen₀ seen rest : List ℕ} (f : Following t
         ∙ ap (λ (r : List ℕ). marked seen i || member i r) (sym q) ∙ f.marks i;
     long = long ∙ f.long;
   }
+
+-- an entry that is looked at, and marked where it passes
+module _ {test : ℕ → Bool} {l seen₀ seen rest exit later : List ℕ} {e : ℕ} {answer : Bool}
+    (f : Following test l seen₀ seen rest) (q : rest ≡ e ∷ later) (p : Passed (test e) seen e answer exit) where
+  -- it does not pass
+  pub pass_fails : (final : Bool) → answer ≡ false → Followed test final l seen₀ false exit
+  pass_fails final a = by_test (test e) (λ t. follow_marked f q final (p.marking t) a) (λ t. follow_fails f q final exit t)
+
+  -- it passes
+  pub pass_more : answer ≡ true → length exit ≡ length seen → Following test l seen₀ exit later
+  pass_more a long = by_test (test e) (λ t. follow_more f q t (p.marking t) a long) (λ t. absurd (false≢true (sym (p.failing t) ∙ a)))
 
 -- passing an entry: one that is not listed, one that does not pass, and one that is marked
 module _ {listed passing : Bool} {seen : List ℕ} {e : ℕ} where

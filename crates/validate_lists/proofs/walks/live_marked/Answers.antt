@@ -23,16 +23,8 @@ within_marked words seen slots within =
     (eq-eqb (bit (get_or seen (e / 64) 0) (e % 64)) 1 ((within e l).bits (e % 64) (eqb-true (bit (get_or words (e / 64) 0) (e % 64)) 1 q))))
     (λ q. rw (flag_at words slots e l, q))))
 
-pub returns-then-slots-eq0 : goal.returns-then-slots-eq0
-returns-then-slots-eq0 c =
-    within_marked _ _ _ (λ e l. c.words_within.ensures c.if-words_within.true (e / 64) (omega (arith, c.if-slots-eq0.true)))
-
-pub returns-then-words-full : goal.returns-then-words-full
-returns-then-words-full c =
-    let slots = c.args.slots in
-    within_marked _ _ _
-    (λ e l. ⊎_elim (λ b. c.words_within.ensures c.if-words_within.true (e / 64) b)
-    (λ (b : slots / 64 ≤ e / 64). let at : e / 64 ≡ slots / 64 = omega arith in rw at (within_and _ _ c.if-words-full.true)) (below_or_not (e / 64) (slots / 64)))
+pub returns-then-words_within : goal.returns-then-words_within
+returns-then-words_within c = within_marked _ _ _ (λ e l. c.words_within.ensures c.if-words_within.true (e / 64) (omega arith))
 
 pub loop-e-init : goal.loop-e-init
 loop-e-init c = rest_first _ _

@@ -9,6 +9,3 @@ use Rattle.validate_lists.proofs.walks.live_marked.Given as goal
 abbrev pub invariant-loop-e : goal.invariant-loop-e
 invariant-loop-e l =
     all (marked_if_live (live_flags l.words l.slots) (live_flags l.seen l.slots)) (from 0 l.slots) ≡ rest (marked_if_live (live_flags l.words l.slots) (live_flags l.seen l.slots)) l.e l.slots
-
-abbrev pub decreases-loop-e : goal.decreases-loop-e
-decreases-loop-e l = l.slots - l.e

@@ -6,6 +6,3 @@ use Rattle.validate_lists.proofs.walks.walks_right.Given as goal
 
 abbrev pub invariant-loop-x : goal.invariant-loop-x
 invariant-loop-x l = Walking l.axis l.edge_capacity l.node_capacity l.counts l.live_nodes l.live_edges l.x l.seen
-
-abbrev pub decreases-loop-x : goal.decreases-loop-x
-decreases-loop-x l = l.node_bound - l.x

@@ -6,6 +6,3 @@ use Rattle.validate_lists.proofs.walks.words_within.Given as goal
 
 abbrev pub invariant-loop-i : goal.invariant-loop-i
 invariant-loop-i l = (k : ℕ) → k < l.i → Within (get_or l.words k 0) (get_or l.seen k 0)
-
-abbrev pub decreases-loop-i : goal.decreases-loop-i
-decreases-loop-i l = l.count - l.i
