@@ -5,7 +5,7 @@ ghost use Rattle.memory.specs.Lengths.{Few};
 ghost use Rattle.shape.specs.Rules.{both_axes, slots_right as slots_test, live_agrees as Live_test, rule_1};
 ghost use Rattle.shape.specs.Stores.{words};
 
-use liveness::{Counted, count_live};
+use liveness::count_live;
 use plain::{LIMIT, Slots};
 use shape::Store;
 
@@ -48,9 +48,5 @@ pub fn live_right(words: &[u64], slots: Slots) -> bool
     requires { slots.bound ≤ 64 * length words.now }
     ensures { result ≡ Live_test words.now slots }
 {
-    let counted = count_live(words, slots.bound as usize);
-    match counted {
-        Counted::Live(live) => slots.live as usize == live,
-        Counted::Unpacked => false,
-    }
+    count_live(words, slots.bound as usize) == Some(slots.live as usize)
 }
