@@ -1,6 +1,6 @@
 -- Nodes with a run, one after the other, where their rings are followed too: that no entry comes twice, each ends at its node, and what is marked is in the list of
 -- its end.
-use Rattle.std.specs.Prelude.{ℕ, zero, suc, ◌+◌, ◌-◌, ◌*◌, ◌≤◌, ◌<◌, ◌≡◌, refl, Bool, true, false, cond, ◌||◌, not, List, [], ◌∷◌, ◌++◌, length, get_or, eqb, ltb}
+use Rattle.std.specs.Prelude.{ℕ, suc, ◌+◌, ◌-◌, ◌*◌, ◌≤◌, ◌<◌, ◌≡◌, refl, Bool, true, false, cond, ◌||◌, not, List, [], ◌∷◌, ◌++◌, length, get_or, eqb, ltb}
 use Rattle.plain.specs.Library.{sym, ap, subst, ◌∙◌, ⊎_elim, arith, eq-eqb, eqb-true, ne_eqb}
 use Rattle.plain.specs.Numbers.{NONE}
 use Rattle.plain.specs.declared.Counts.{Counts}
@@ -10,10 +10,8 @@ use Rattle.plain.proofs.Laws.ListLaws.{member_append, all_of, all_member}
 use Rattle.shape.specs.Columns.{cell, end_at, last_at, tail_at, mark_at}
 use Rattle.shape.specs.Chains.{In, until, ring}
 use Rattle.shape.specs.Shape.{run_list, ring_of}
-use Rattle.shape.specs.Rules.{runs_right}
 use Rattle.shape.proofs.Laws.Chains.{in_none}
-use Rattle.shape.proofs.Laws.Frames.{run_list_unmarked}
-use Rattle.shape.proofs.Laws.Checking.{run_complete, runs_complete}
+use Rattle.shape.proofs.Laws.Checking.{run_complete}
 use Rattle.marks.specs.Marks.{marked, Passed, Followed, Adds}
 use Rattle.validate_lists.specs.Runs.{entry_test, run_test, ends_in, taken, NodeOnce, RunsOnce}
 use Rattle.marks.specs.Laws.Following.{Following, follow_start, follow_done, pass_fails, pass_more, followed_all, followed_final, both_once, both_adds, adds_none}

@@ -1,11 +1,11 @@
 -- Runs: the chain of one, and the runs of all nodes, one after the other: what the nodes from one on decide, where the entries before are marked.
-use Rattle.std.specs.Prelude.{ℕ, zero, suc, ◌+◌, ◌-◌, ◌*◌, ◌≤◌, ◌<◌, ◌≡◌, refl, Bool, true, false, ◌&&◌, ◌||◌, not, List, [], ◌∷◌, map, length, get_or, eqb, ltb}
-use Rattle.plain.specs.Library.{sym, ap, subst, ◌∙◌, arith, eq-eqb, ne_eqb, ltb-true}
+use Rattle.std.specs.Prelude.{ℕ, suc, ◌+◌, ◌-◌, ◌*◌, ◌≤◌, ◌<◌, ◌≡◌, refl, Bool, true, false, ◌&&◌, ◌||◌, not, List, [], ◌∷◌, map, length, get_or, eqb, ltb}
+use Rattle.plain.specs.Library.{sym, ap, ◌∙◌, arith, eq-eqb, ne_eqb}
 use Rattle.plain.specs.Numbers.{LIMIT}
 use Rattle.plain.specs.declared.Counts.{Counts}
 use Rattle.plain.specs.Lists.{member, distinct, all, from, joined}
-use Rattle.plain.proofs.Laws.Booleans.{true_false, refuted, and_left, and_right, and_false, both_true}
-use Rattle.shape.specs.Columns.{cell, end_at, tail_at, mark_at, count_at, first_at}
+use Rattle.plain.proofs.Laws.Booleans.{true_false, refuted, and_left, and_right, both_true}
+use Rattle.shape.specs.Columns.{cell, tail_at, mark_at, count_at, first_at}
 use Rattle.shape.specs.Chains.{chain}
 use Rattle.shape.specs.Shape.{run_list}
 use Rattle.shape.specs.Rules.{last_of, run_right}

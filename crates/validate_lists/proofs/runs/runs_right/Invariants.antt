@@ -1,5 +1,5 @@
 -- `validate_lists::runs::runs_right` meets its contract. The loop's invariant: the runs of the nodes from x on decide, the entries of those before are marked.
-use Rattle.std.specs.Prelude.{◌≡◌, length}
+use Rattle.std.specs.Prelude.{◌≡◌}
 use Rattle.plain.specs.Lists.{distinct, from}
 use Rattle.liveness.specs.Flags.{live_flags}
 use Rattle.marks.specs.Marks.{marked}

@@ -1,14 +1,13 @@
 -- `validate_lists::walks::live_marked` meets its contract. The loop's invariant: the slots from e on decide. The measure is the number of slots left.
-use Rattle.std.specs.Prelude.{ℕ, ◌/◌, ◌%◌, ◌≤◌, ◌<◌, ◌≡◌, true, List, get_or}
-use Rattle.plain.specs.Library.{sym, ◌∙◌, ⊎_elim, arith, ltb-true, eq-eqb, eqb-true}
-use Rattle.plain.proofs.Laws.Booleans.{by_test, below_or_not}
+use Rattle.std.specs.Prelude.{ℕ, ◌/◌, ◌%◌, ◌<◌, ◌≡◌, true, List, get_or}
+use Rattle.plain.specs.Library.{sym, ◌∙◌, arith, ltb-true, eq-eqb, eqb-true}
+use Rattle.plain.proofs.Laws.Booleans.{by_test}
 use Rattle.plain.proofs.Laws.ListLaws.{all_of, member_below}
 use Rattle.liveness.specs.Flags.{bit, live_bit, live_flags}
 use Rattle.liveness.specs.Laws.Flags.{flag_at}
 use Rattle.plain.specs.Lists.{all, from}
 use Rattle.validate_words.specs.Laws.Passing.{rest_first, rest_more, rest_fails, rest_none}
 use Rattle.validate_lists.specs.Walks.{Within, marked_if_live}
-use Rattle.validate_lists.proofs.Within.{within_and}
 use Rattle.validate_lists.proofs.walks.live_marked.Goals as goal
 
 -- where the words that hold the slots are within those of the other map, every live slot is marked

@@ -1,5 +1,5 @@
 -- `validate_lists::walks::live_marked` meets its contract. The loop's invariant: the slots from e on decide. The measure is the number of slots left.
-use Rattle.std.specs.Prelude.{◌-◌, ◌≡◌}
+use Rattle.std.specs.Prelude.{◌≡◌}
 use Rattle.liveness.specs.Flags.{live_flags}
 use Rattle.plain.specs.Lists.{all, from}
 use Rattle.validate_words.specs.Laws.Passing.{rest}

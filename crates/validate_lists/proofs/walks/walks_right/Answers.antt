@@ -1,7 +1,7 @@
 -- `validate_lists::walks::walks_right` meets its contract. The loop's invariant: the walks of the nodes from x on decide, the entries of those before are marked. The measure
 -- is the number of nodes left.
 use Rattle.std.specs.Prelude.{refl, replicate}
-use Rattle.plain.specs.Library.{sym, ◌∙◌, arith}
+use Rattle.plain.specs.Library.{◌∙◌, arith}
 use Rattle.marks.specs.Laws.Fresh.{clear_map}
 use Rattle.validate_lists.proofs.Walking.{walking_start, walking_on, walking_fails, walking_done}
 use Rattle.validate_lists.proofs.walks.walks_right.Goals as goal

@@ -1,6 +1,5 @@
 -- `validate_lists::walks::walks_right` meets its contract. The loop's invariant: the walks of the nodes from x on decide, the entries of those before are marked. The measure
 -- is the number of nodes left.
-use Rattle.std.specs.Prelude.{◌-◌}
 use Rattle.validate_lists.proofs.Walking.{Walking}
 use Rattle.validate_lists.proofs.walks.walks_right.Given as goal
 
