@@ -1,0 +1,21 @@
+-- `bits::pen::Writer::put` meets its contract: the value waits with what waited, or four bytes are written.
+use Rattle.plain.specs.Library.{arith}
+use native.Mathlib.Nat.{div-one}
+use Rattle.bits.proofs.Putting.{all_fits, front_fits, put_waits, put_writes}
+use Rattle.bits.proofs.pen.Writer.put.Goals as goal
+
+pub raise-requires : goal.raise-requires
+raise-requires c = omega (arith, all_fits c.requires)
+
+pub overflow_add-pending : goal.overflow_add-pending
+overflow_add-pending c = omega (arith, all_fits c.requires)
+
+pub overflow_cast-pending : goal.overflow_cast-pending
+overflow_cast-pending c = rw c.raise.ensures (record { fits = front_fits c.requires (omega arith) })
+
+pub returns-then-count-lt32-clause-penned : goal.returns-then-count-lt32-clause-penned
+returns-then-count-lt32-clause-penned c = rw c.raise.ensures (put_waits c.requires c.if-count-lt32.true)
+
+pub returns-clause-penned : goal.returns-clause-penned
+returns-clause-penned c =
+    put_writes c.requires (omega arith) (rw (c.cut.ensures, c.raise.ensures, div-one)) (rw c.raise.ensures at c.write_low.ensures)
