@@ -23,6 +23,8 @@ pub mod Width
 pub mod Cutting
 pub mod ImageBits
 pub mod Refusals
+pub mod Untold
+pub mod Lending
 pub mod ImageLaws
 pub mod Devices
 pub mod Ascending
