@@ -1,6 +1,7 @@
 -- What `reset_all_live` leaves: whole words of set bits, and a last word where the slots do not fill their words.
-use Rattle.std.specs.Prelude.{ℕ, suc, ◌-◌, ◌*◌, ◌/◌, ◌%◌, ◌^◌, ◌≤◌, ◌<◌, ◌≡◌, true, false, List, ◌∷◌, ◌++◌, length, get_or, set, drop, replicate}
-use Rattle.plain.specs.Library.{sym, ◌∙◌, append-nil, append_assoc, length-append, length-replicate, get_or-append, ext_get_or, add-one, arith, eq-eqb, ne_eqb}
+use Rattle.std.specs.Prelude.{ℕ, suc, ◌-◌, ◌*◌, ◌/◌, ◌%◌, ◌^◌, ◌≤◌, ◌<◌, ◌≡◌, true, false, List, ◌∷◌, ◌++◌, length, get_or, set, take, drop, replicate}
+use Rattle.std.proofs.lemmas.List.{length-take-le}
+use Rattle.plain.specs.Library.{sym, ap, ◌∙◌, append-nil, append_assoc, length-append, length-replicate, get_or-append, ext_get_or, add-one, arith, eq-eqb, ne_eqb}
 use native.Mathlib.Decide.{ℕ_discrete}
 use lib.Pow.{ones_lt}
 use lib.ListN.{get_or-replicate}
@@ -13,6 +14,13 @@ use Rattle.liveness.specs.Laws.Flags.{length_flags, flag_at, packed_full, packed
 -- the whole words of the slots, and what follows them
 abbrev pub filled : ℕ → List ℕ → List ℕ
 filled slots rest = replicate (slots / 64) (2 ^ 64 - 1) ++ rest
+
+-- the words that `fill` leaves at the start
+pub filled_by : (entry : List ℕ) {front : List ℕ} (slots : ℕ) → slots ≤ 64 * length entry → front ≡ replicate (length (take (slots / 64) entry)) (2 ^ 64 - 1)
+    → front ++ drop (slots / 64) entry ≡ filled slots (drop (slots / 64) entry)
+filled_by entry slots h is =
+    ap (λ (l : List ℕ). l ++ drop (slots / 64) entry)
+    (is ∙ ap (λ (n : ℕ). replicate n (2 ^ 64 - 1)) (length-take-le (slots / 64) entry (omega arith)))
 
 -- the word after them, where the slots do not fill their words
 abbrev pub last : ℕ → ℕ

@@ -1,8 +1,7 @@
 -- Worked examples of the definitions.
-use Rattle.std.specs.Prelude.{◌≡◌, refl, true, false, [], ◌∷◌}
+use Rattle.std.specs.Prelude.{◌≡◌, refl, true, false, [], ◌∷◌, Some, None}
 use Rattle.plain.specs.Lists.{from, count}
 use Rattle.plain.specs.Reads.{live_from}
-use Rattle.liveness.specs.declared.Counted.TheVariants.{Live, Unpacked}
 use Rattle.liveness.specs.Flags.{bit, live_bit, live_flags, packed, counted, next_live}
 use Rattle.liveness.specs.Calls.{all_live}
 
@@ -17,12 +16,12 @@ unfolding live_bit bit
 next_word = refl
 
 -- of three slots two are live
-two_live : counted (5 ∷ []) 3 ≡ Live 2
+two_live : counted (5 ∷ []) 3 ≡ Some 2
 unfolding counted packed live_flags live_bit bit from count
 two_live = refl
 
 -- of two slots the third bit is none
-unused_set : counted (5 ∷ []) 2 ≡ Unpacked
+unused_set : counted (5 ∷ []) 2 ≡ None
 unfolding counted packed
 unused_set = refl
 

@@ -1,9 +1,7 @@
 -- What liveness words mean: a list of live flags, a bit a slot, 64 slots a word, the lowest bit first.
-use Rattle.std.specs.Prelude.{ℕ, ◌/◌, ◌%◌, ◌^◌, Bool, true, cond, List, map, length, get_or, drop, eqb}
+use Rattle.std.specs.Prelude.{ℕ, ◌/◌, ◌%◌, ◌^◌, Bool, true, cond, List, map, length, get_or, drop, eqb, Option, Some, None}
 use Rattle.plain.specs.Lists.{from}
 use Rattle.plain.specs.Reads.{live_count, live_from}
-use Rattle.liveness.specs.declared.Counted.{Counted}
-use Rattle.liveness.specs.declared.Counted.TheVariants.{Live, Unpacked}
 
 -- bit k of a word
 unfoldable pub bit : ℕ → ℕ → ℕ
@@ -21,9 +19,9 @@ live_flags words slots = map (live_bit words) (from 0 slots)
 unfoldable pub packed : List ℕ → ℕ → Bool
 packed words slots = cond (eqb (slots % 64) 0) true (eqb (get_or words (slots / 64) 0 / 2 ^ (slots % 64)) 0)
 
--- What counting answers: the number of live flags where the words are packed, and else that they are not.
-unfoldable pub counted : List ℕ → ℕ → Counted
-counted words slots = cond (packed words slots) (Live (live_count (live_flags words slots))) Unpacked
+-- What counting answers: the number of live flags where the words are packed, and else none.
+unfoldable pub counted : List ℕ → ℕ → Option ℕ
+counted words slots = cond (packed words slots) (Some (live_count (live_flags words slots))) None
 
 -- The first live slot at or after a slot, and the number of slots where there is none.
 unfoldable pub next_live : List Bool → ℕ → ℕ

@@ -11,15 +11,6 @@ ghost use Rattle.liveness.specs.Calls.{Pushed, Cleared, Reset};
 ghost use Rattle.liveness.specs.Ranks.{RanksFit, Ranked};
 ghost use Rattle.liveness.specs.Faults.{fault_of};
 
-// What counting the live slots answers.
-#[derive(Clone, Copy)]
-pub enum Counted {
-    // The words have the packed shape, and this many slots are live.
-    Live(usize),
-    // A bit past the last slot is set.
-    Unpacked,
-}
-
 // Appends a live slot: where it is the first of its word, the whole word is written, whatever stood there.
 pub fn push_live(words: &mut [u64], slots: usize)
     requires { slots < 64 * length words.old }
@@ -38,6 +29,7 @@ pub fn push_live(words: &mut [u64], slots: usize)
 }
 
 // Whether a slot is live; one out of range is not.
+#[tactic(auto, unfolding(crate::specs::Flags::live_bit, crate::specs::Flags::bit), using(crate::specs::Laws::Flags::flag_at, crate::specs::Laws::Flags::flag_past))]
 pub fn is_live(words: &[u64], slots: usize, slot: usize) -> bool
     requires { slots ≤ 64 * length words.now }
     ensures { result ≡ get_or (live_flags words.now slots) slot false }
@@ -49,6 +41,7 @@ pub fn is_live(words: &[u64], slots: usize, slot: usize) -> bool
 }
 
 // A slot's fault: `absent` at or above the bound, `removed` where it is dead, 0 where it is live. For operations and for the search for the nearest lot.
+#[tactic(auto, unfolding(crate::specs::Faults::fault_of))]
 pub fn fault(live: &[u64], bound: u32, slot: u32, absent: u32, removed: u32) -> u32
     requires { bound ≤ 64 * length live.now }
     ensures { result ≡ fault_of (live_flags live.now bound) bound slot absent removed }
@@ -83,18 +76,17 @@ fn count_before(words: &[u64], slots: usize) -> usize
     let full = slots / 64;
     let rest = slots % 64;
     let mut live: usize = 0;
-    let mut i: usize = 0;
-    while i < full {
-        live += u64::count_ones(words[i]) as usize;
-        i += 1;
+    for word in &words[..full] {
+        live += word.count_ones() as usize;
     }
     if rest == 0 {
         return live;
     }
-    live + u64::count_ones(words[full] % (1u64 << rest)) as usize
+    live + (words[full] % (1u64 << rest)).count_ones() as usize
 }
 
 // Whether the last word's unused bits are 0.
+#[tactic(auto, unfolding(crate::specs::Flags::packed))]
 fn is_packed(words: &[u64], slots: usize) -> bool
     requires { slots ≤ 64 * length words.now }
     ensures { result ≡ packed words.now slots }
@@ -106,15 +98,17 @@ fn is_packed(words: &[u64], slots: usize) -> bool
     words[slots / 64] >> rest == 0
 }
 
-// The number of live slots where the words have the packed shape.
-pub fn count_live(words: &[u64], slots: usize) -> Counted
+// The number of live slots where the words have the packed shape, and none where a bit past the last slot is set.
+#[tactic(auto, unfolding(crate::specs::Flags::counted))]
+pub fn count_live(words: &[u64], slots: usize) -> Option<usize>
     requires { slots ≤ 64 * length words.now }
     ensures { result ≡ counted words.now slots }
 {
     if is_packed(words, slots) {
-        return Counted::Live(count_before(words, slots));
+        Some(count_before(words, slots))
+    } else {
+        None
     }
-    Counted::Unpacked
 }
 
 // Writes how many live slots stand before each word to the start of `ranks`, for `rank_by`.
@@ -124,11 +118,9 @@ pub fn write_ranks(words: &[u64], slots: usize, ranks: &mut [u32])
 {
     let count = (slots + 63) / 64;
     let mut live: u32 = 0;
-    let mut i: usize = 0;
-    while i < count {
+    for i in 0..count {
         ranks[i] = live;
-        live += u64::count_ones(words[i]);
-        i += 1;
+        live += words[i].count_ones();
     }
 }
 
@@ -138,7 +130,7 @@ pub fn rank_by(words: &[u64], slots: usize, ranks: &[u32], slot: usize) -> u32
     ensures { result ≡ rank_of (live_flags words.now slots) slot }
 {
     let at = slot / 64;
-    ranks[at] + u64::count_ones(words[at] % (1u64 << (slot % 64)))
+    ranks[at] + (words[at] % (1u64 << (slot % 64))).count_ones()
 }
 
 // Makes the first slots live, with the packed shape; words past those needed are as they were.
@@ -148,21 +140,10 @@ pub fn reset_all_live(words: &mut [u64], slots: usize)
 {
     let full = slots / 64;
     let rest = slots % 64;
-    let mut i: usize = 0;
-    while i < full {
-        words[i] = 18446744073709551615;
-        i += 1;
-    }
+    words[..full].fill(u64::MAX);
     if rest != 0 {
         words[full] = (1u64 << rest) - 1;
     }
-}
-
-// The lesser of two numbers.
-fn least(a: usize, b: usize) -> usize
-    ensures { result ≡ min a b }
-{
-    if a < b { a } else { b }
 }
 
 // The first live slot from word `start` on, and `slots` where there is none, a word at a time.
@@ -171,13 +152,11 @@ fn next_in_words(words: &[u64], slots: usize, start: usize) -> usize
     ensures { result ≡ next_live (live_flags words.now slots) (64 * start) }
 {
     let last = (slots - 1) / 64;
-    let mut i = start;
-    while i <= last {
+    for i in start..=last {
         let word = words[i];
         if word != 0 {
-            return least(64 * i + u64::trailing_zeros(word) as usize, slots);
+            return (64 * i + word.trailing_zeros() as usize).min(slots);
         }
-        i += 1;
     }
     slots
 }
@@ -192,7 +171,7 @@ pub fn next_live(words: &[u64], slots: usize, from: usize) -> usize
     }
     let word = words[from / 64] >> (from % 64);
     if word != 0 {
-        return least(from + u64::trailing_zeros(word) as usize, slots);
+        return (from + word.trailing_zeros() as usize).min(slots);
     }
     next_in_words(words, slots, from / 64 + 1)
 }

@@ -2,29 +2,29 @@
 
 #![tactic(auto)]
 
-ghost use Rattle.std.specs.Prelude.{◌≡◌};
+ghost use Rattle.std.specs.Prelude.{◌≡◌, slice_index};
 ghost use Rattle.plain.specs.Operations.{decoded, unused as unused_of};
 
-use plain::{EdgePayload, Operation, TraversalDirection};
+use plain::{EdgePayload, OPERATION_WORDS, Operation, TraversalDirection};
 
 // The operation, unless one of its unused words `a`, `b` and `c` is not 0.
+#[tactic(auto, unfolding(plain::specs::Operations::unused))]
 fn unused(a: u32, b: u32, c: u32, operation: Operation) -> Operation
     ensures { result ≡ unused_of a b c operation }
 {
-    if a == 0 {
-        if b == 0 {
-            if c == 0 {
-                return operation;
-            }
-        }
+    if a == 0 && b == 0 && c == 0 {
+        operation
+    } else {
+        Operation::Unknown
     }
-    Operation::Unknown
 }
 
-// The operation that the words of a strip stand for.
-pub fn decode(code: u32, first: u32, second: u32, low: u32, high: u32) -> Operation
-    ensures { result ≡ decoded code first second low high }
+// The operation that five words of a strip stand for.
+#[tactic(auto, unfolding(plain::specs::Operations::decoded))]
+pub fn decode(words: [u32; OPERATION_WORDS]) -> Operation
+    ensures { result ≡ decoded (slice_index words 0) (slice_index words 1) (slice_index words 2) (slice_index words 3) (slice_index words 4) }
 {
+    let [code, first, second, low, high] = words;
     match code {
         1 => unused(first, second, high, Operation::AddNode { payload: low }),
         2 => Operation::AddEdge {

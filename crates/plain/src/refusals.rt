@@ -147,8 +147,8 @@ impl From<Rule> for Refusal {
 
     ghost from_gives = { λ rule refusal. refusal ≡ NoStore rule };
 
-    fn from(rule: Rule) -> Refusal {
-        Refusal::NoStore(rule)
+    fn from(broken: Rule) -> Refusal {
+        Refusal::NoStore(broken)
     }
 }
 

@@ -19,3 +19,4 @@ pub mod Running
 pub mod Fields
 pub mod NoFields
 pub mod Agreeing
+pub mod Refused

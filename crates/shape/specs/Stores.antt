@@ -1,8 +1,9 @@
--- The words of a store that is lent as one value.
+-- The words of a store that is lent as one value, and what refuses a slot of it.
+use Rattle.std.specs.Prelude.{ℕ, ◌≡◌, Bool, false, cond, List, Result, Ok, Err, get_or, leb}
+use Rattle.plain.specs.declared.refusals.Refusal.{Refusal}
 use Rattle.shape.specs.declared.Store.{Store}
 use Rattle.shape.specs.declared.StoreMut.{StoreMut}
 use Rattle.shape.specs.Shape.{Words, store}
-use Rattle.std.specs.Prelude.{◌≡◌}
 
 -- of a store that is lent to be read
 abbrev pub words : Store → Words
@@ -21,3 +22,7 @@ pub record SameSlices (a b : StoreMut) : Type 0 where
   pub live_edges : b.live_edges.ghost_name ≡ a.live_edges.ghost_name
   pub outgoing : b.outgoing.ghost_name ≡ a.outgoing.ghost_name
   pub incoming : b.incoming.ghost_name ≡ a.incoming.ghost_name
+
+-- a slot is refused at or above the bound, and where it is removed
+unfoldable pub slot_refused : Refusal → Refusal → List Bool → ℕ → ℕ → Result Unit Refusal
+slot_refused absent removed flags bound slot = cond (leb bound slot) (Err absent) (cond (get_or flags slot false) (Ok tt) (Err removed))

@@ -4,11 +4,9 @@
 #![tactic(auto)]
 
 ghost use Rattle.std.specs.Prelude.{◌*◌, ◌≤◌, ◌≡◌, false, length, get_or};
-ghost use Rattle.plain.specs.Numbers.{out_of_range_node, removed_node, out_of_range_edge, removed_edge};
-ghost use Rattle.plain.specs.Refusals.{fault_number};
-ghost use Rattle.liveness.specs.Faults.{fault_of};
+ghost use Rattle.plain.specs.declared.refusals.Refusal.TheVariants.{OutOfRangeNode, RemovedNode, OutOfRangeEdge, RemovedEdge};
 ghost use Rattle.shape.specs.Shape.{axis_words, node_live, edge_live};
-ghost use Rattle.shape.specs.Stores.{words, words_mut};
+ghost use Rattle.shape.specs.Stores.{words, words_mut, slot_refused};
 
 use liveness::is_live;
 use plain::refusals::Refusal;
@@ -63,10 +61,10 @@ impl<'a> Store<'a> {
     }
 
     // Refuses a node at or above the bound, and one that is removed.
-    #[tactic(auto, unfolding(liveness::specs::Faults::fault_of))]
+    #[tactic(auto, unfolding(crate::specs::Stores::slot_refused))]
     pub fn live_node(&self, node: u32) -> Result<(), Refusal>
         requires { self.now.counts.nodes.bound ≤ 64 * length self.now.live_nodes.now }
-        ensures { fault_number result ≡ fault_of (node_live (words self.now)) self.now.counts.nodes.bound node out_of_range_node removed_node }
+        ensures { result ≡ slot_refused OutOfRangeNode RemovedNode (node_live (words self.now)) self.now.counts.nodes.bound node }
     {
         if self.counts.nodes.bound <= node {
             return Err(Refusal::OutOfRangeNode);
@@ -79,10 +77,10 @@ impl<'a> Store<'a> {
     }
 
     // Refuses an edge at or above the bound, and one that is removed.
-    #[tactic(auto, unfolding(liveness::specs::Faults::fault_of))]
+    #[tactic(auto, unfolding(crate::specs::Stores::slot_refused))]
     pub fn live_edge(&self, edge: u32) -> Result<(), Refusal>
         requires { self.now.counts.edges.bound ≤ 64 * length self.now.live_edges.now }
-        ensures { fault_number result ≡ fault_of (edge_live (words self.now)) self.now.counts.edges.bound edge out_of_range_edge removed_edge }
+        ensures { result ≡ slot_refused OutOfRangeEdge RemovedEdge (edge_live (words self.now)) self.now.counts.edges.bound edge }
     {
         if self.counts.edges.bound <= edge {
             return Err(Refusal::OutOfRangeEdge);

@@ -20,7 +20,7 @@ use Rattle.adjacency.specs.Walk.{Walkable}
 use Rattle.adjacency.specs.Laws.Walk.{walk_below}
 use Rattle.adjacency.specs.Laws.StoreWalks.{list_is_walk}
 use Rattle.validate_words.specs.Laws.Passing.{entries_agree, slots_agree}
-use Rattle.validate_words.specs.Sizes.{sizes_test, AxisSized}
+use Rattle.validate_words.specs.Sizes.{AxisSized}
 use Rattle.validate.specs.Broken.{Threaded, broken_lists, broken_axes}
 use Rattle.validate.specs.Judging.{Judged}
 use Rattle.validate_lists.specs.Runs.{RunsReadable}
@@ -28,12 +28,6 @@ use Rattle.validate.specs.Flat.{ListsReadable}
 use Rattle.validate_lists.specs.Walks.{WalksReadable, node_walk, walk_test, listed_test, walks_test}
 
 -- ---- rule 1
-
-pub sizes_rule : (w : Words)
-    → sizes_test w.counts (node_capacity w) (edge_capacity w) (length w.highs) (length w.live_nodes) (length w.live_edges) (length w.outgoing) (length w.incoming)
-    ≡ rule_1 w
-unfolding sizes_test rule_1
-sizes_rule w = refl
 
 -- the live bits of every slot below the bound are there
 pub live_there : {capacity words : ℕ} {s : Slots} → SlotsRight capacity words s → s.bound ≤ 64 * words

@@ -34,13 +34,13 @@ module _ {ws : List ℕ} {ce be eb nb e : ℕ} (low : end_at ws e < nb) where
   -- an edge whose end has no ring
   pub step_free : e < LIMIT → last_at ws ce (end_at ws e) ≡ NONE → Stepped ws ce be eb nb e 0
   step_free few none = record {
-    climbs = λ _. record { end_below = low; linked = λ some. absurd (some none) };
-    counts = λ _. rw (ne_eqb (last_at ws ce (end_at ws e)) e (λ q. omega arith));
+    climbs = record { end_below = low; linked = λ some. absurd (some none) };
+    counts = rw (ne_eqb (last_at ws ce (end_at ws e)) e (λ q. omega arith));
   }
 
   -- an edge that is linked
   pub step_linked : {answer : ℕ} → Linked ws ce be eb e → Picked (last_at ws ce (end_at ws e)) e 1 0 answer → Stepped ws ce be eb nb e answer
-  step_linked k a = record { climbs = λ _. record { end_below = low; linked = λ _. k }; counts = λ _. a.is }
+  step_linked k a = record { climbs = record { end_below = low; linked = λ _. k }; counts = a.is }
 
 module _ (ws : List ℕ) (ce be eb nb : ℕ) where
   abbrev last : ℕ → Bool
@@ -57,15 +57,15 @@ module _ (ws : List ℕ) (ce be eb nb : ℕ) where
   climbing_start = record { least = omega arith; climbs = λ k l m. absurd (omega arith); counted = omega arith; few = omega arith }
 
   -- an edge climbs
-  pub climbing_on : {e lasts step : ℕ} → Climbing e lasts → e < eb → Stepped ws ce be eb nb e step → step ≤ 1 → Climbing (e + 1) (lasts + step)
+  pub climbing_on : {e lasts step : ℕ} → Climbing e lasts → e < eb → Stepped ws ce be eb nb e step → Climbing (e + 1) (lasts + step)
   unfolding count
-  climbing_on {e} {lasts} {step} c l s fine = record {
+  climbing_on {e} {lasts} {step} c l s = record {
     least = omega arith;
-    climbs = λ k low m. ⊎_elim (λ b. c.climbs k low b) (λ (b : e ≤ k). let at : k ≡ e = omega arith in rw at (s.climbs fine)) (below_or_not k e);
+    climbs = λ k low m. ⊎_elim (λ b. c.climbs k low b) (λ (b : e ≤ k). let at : k ≡ e = omega arith in rw at s.climbs) (below_or_not k e);
     counted =
         let more : count last (slots_from e eb) ≡ cond (last e) 1 0 + count last (slots_from (e + 1) eb) = rw (slots_more e eb l) in
-        omega (arith, c.counted, s.counts fine);
-    few = omega arith;
+        omega (arith, c.counted, s.counts);
+    few = let one : cond (last e) 1 0 ≤ 1 = by_test (last e) (λ t. rw t (omega arith)) (λ t. rw t (omega arith)) in omega (arith, s.counts);
   }
 
   -- What the test has found when it passes.

@@ -1,4 +1,2 @@
-pub mod Counting
-pub mod Indexing
 pub mod Ringing
 pub mod Climbing

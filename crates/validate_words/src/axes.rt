@@ -1,6 +1,6 @@
 // Rules 3 and 4 for one direction: the ends of the edges and the compressed index.
 
-ghost use Rattle.std.specs.Prelude.{suc, ◌+◌, ◌≤◌, ◌<◌, ◌≡◌, length, leb, ltb};
+ghost use Rattle.std.specs.Prelude.{suc, ◌+◌, ◌≤◌, ◌<◌, ◌≡◌, length, get_or, leb, ltb};
 ghost use Rattle.plain.specs.Lists.{all, from};
 ghost use Rattle.shape.specs.Columns.{cell};
 ghost use Rattle.shape.specs.Rules.{ends_right as ends_test, index_right as index_test};
@@ -8,18 +8,26 @@ ghost use Rattle.validate_words.specs.Sizes.{AxisSized};
 
 use plain::Counts;
 
-// The words of a column, `count` of them from `at` on, are below a bound. Internal.
+// The words of a column, `count` of them from `at` on, are below a bound. No early exit, so that it is a pass over vectors. Internal.
 pub fn words_below(axis: &[u32], at: usize, count: usize, bound: u32) -> bool
     requires { at + count ≤ length axis.now }
     ensures { result ≡ all (λ i. ltb (cell axis.now at i) bound) (from 0 count) }
 {
     let mut right = true;
-    let mut i: usize = 0;
-    while i < count {
-        if axis[at + i] >= bound {
-            right = false;
-        }
-        i += 1;
+    for word in &axis[at..at + count] {
+        right &= *word < bound;
+    }
+    right
+}
+
+// None of the first words of one slice is above the word at its place in another. No early exit either. Internal.
+pub fn none_above(lows: &[u32], highs: &[u32], count: usize) -> bool
+    requires { (count ≤ length lows.now) × (count ≤ length highs.now) }
+    ensures { result ≡ all (λ i. leb (get_or lows.now i 0) (get_or highs.now i 0)) (from 0 count) }
+{
+    let mut right = true;
+    for i in 0..count {
+        right &= lows[i] <= highs[i];
     }
     right
 }
@@ -37,37 +45,21 @@ fn offsets_ascend(axis: &[u32], at: usize, base: usize) -> bool
     requires { at + base < length axis.now }
     ensures { result ≡ all (λ x. leb (cell axis.now at x) (cell axis.now at (suc x))) (from 0 base) }
 {
-    let mut right = true;
-    let mut x: usize = 0;
-    while x < base {
-        if axis[at + x] > axis[at + (x + 1)] {
-            right = false;
-        }
-        x += 1;
-    }
-    right
+    none_above(&axis[at..], &axis[at + 1..], base)
 }
 
 // Rule 4: the compressed index. No index word is read where both base counts are 0.
+#[tactic(auto, unfolding(shape::specs::Rules::index_right))]
 pub fn index_right(axis: &[u32], edge_capacity: usize, node_capacity: usize, counts: Counts) -> bool
     requires { AxisSized axis.now edge_capacity node_capacity counts }
     ensures { result ≡ index_test edge_capacity node_capacity counts.nodes.base counts.edges.base axis.now }
 {
     let base_nodes = counts.nodes.base as usize;
     let base_edges = counts.edges.base;
-    if base_nodes == 0 {
-        if base_edges == 0 {
-            return true;
-        }
-    }
     let at = 4 * edge_capacity + 5 * node_capacity;
-    if axis[at] != 0 {
-        return false;
-    }
-    if offsets_ascend(axis, at, base_nodes) {
-        if axis[at + base_nodes] == base_edges {
-            return words_below(axis, edge_capacity, base_edges as usize, base_edges);
-        }
-    }
-    false
+    (base_nodes == 0 && base_edges == 0)
+        || (axis[at] == 0
+            && offsets_ascend(axis, at, base_nodes)
+            && axis[at + base_nodes] == base_edges
+            && words_below(axis, edge_capacity, base_edges as usize, base_edges))
 }

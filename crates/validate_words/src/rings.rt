@@ -2,7 +2,7 @@
 // rings that pass cost a step an edge together, and the first that does not ends the check. Rings that climb, as all do that edges are only added to, are not
 // followed: one pass over the edges of the delta in their order tells that they close.
 
-ghost use Rattle.std.specs.Prelude.{◌+◌, ◌≤◌, ◌<◌, ◌≡◌, true, length};
+ghost use Rattle.std.specs.Prelude.{◌+◌, ◌≤◌, ◌<◌, ◌≡◌, true, length, IfSome};
 ghost use Rattle.plain.specs.Lists.{all, from, count as count_of};
 ghost use Rattle.shape.specs.Rules.{ring_right as ring_test};
 ghost use Rattle.validate_words.specs.Sizes.{AxisSized};
@@ -12,16 +12,12 @@ ghost use Rattle.validate_words.specs.Climbs.{Picked, some_at, Linked, Stepped, 
 use plain::{Counts, NONE};
 
 // Whether an edge may be in the ring of a node: it is of the delta, and the node is its end.
+#[tactic(auto, unfolding(crate::specs::Rings::own_test))]
 fn own_edge(axis: &[u32], base: u32, bound: u32, node: u32, edge: u32) -> bool
     requires { bound ≤ length axis.now }
     ensures { result ≡ own_test base bound axis.now node edge }
 {
-    if base <= edge {
-        if edge < bound {
-            return axis[edge as usize] == node;
-        }
-    }
-    false
+    base <= edge && edge < bound && axis[edge as usize] == node
 }
 
 // The ring of one node: none, or the links from its last edge come back to it.
@@ -37,8 +33,7 @@ fn ring_right(axis: &[u32], edge_capacity: usize, base: u32, bound: u32, node: u
         return false;
     }
     let mut e = axis[2 * edge_capacity + last as usize];
-    let mut left = bound - base;
-    while left > 0 {
+    for _ in base..bound {
         if !own_edge(axis, base, bound, node, e) {
             return false;
         }
@@ -46,7 +41,6 @@ fn ring_right(axis: &[u32], edge_capacity: usize, base: u32, bound: u32, node: u
             return true;
         }
         e = axis[2 * edge_capacity + e as usize];
-        left -= 1;
     }
     false
 }
@@ -55,10 +49,7 @@ fn ring_right(axis: &[u32], edge_capacity: usize, base: u32, bound: u32, node: u
 pub fn pick(a: u32, b: u32, same: u32, other: u32) -> u32
     ensures { Picked a b same other result }
 {
-    if a == b {
-        return same;
-    }
-    other
+    if a == b { same } else { other }
 }
 
 // Whether an edge's link is an edge of the delta of the same end, and further up unless the edge is the last of its end's ring; only the yes is promised.
@@ -76,19 +67,14 @@ pub fn edge_linked(
     let node = axis[edge as usize];
     let last = axis[4 * edge_capacity + node as usize];
     let next = axis[2 * edge_capacity + edge as usize];
-    if next < base {
-        return false;
-    }
-    if next >= bound {
-        return false;
-    }
-    if axis[next as usize] != node {
-        return false;
-    }
-    pick(last, edge, bound, next) > edge
+    base <= next
+        && next < bound
+        && axis[next as usize] == node
+        && pick(last, edge, bound, next) > edge
 }
 
-// A step past an edge of the delta: 2 where its end has a ring and the edge is not linked; else 1 where it is the ring's last, and 0 where it is not.
+// A step past an edge of the delta: none where its end is no node, or has a ring and the edge is not linked; else how many rings it is the last of, 1 or 0. The number is
+// added up with no branch on what the words hold.
 fn edge_climbs(
     axis: &[u32],
     edge_capacity: usize,
@@ -97,22 +83,22 @@ fn edge_climbs(
     bound: u32,
     ends: u32,
     edge: u32,
-) -> u32
+) -> Option<u32>
     requires { StepReadable axis.now edge_capacity node_capacity bound ends edge }
-    ensures { Stepped axis.now edge_capacity base bound ends edge result }
+    ensures { IfSome result (Stepped axis.now edge_capacity base bound ends edge) }
 {
     let node = axis[edge as usize];
     if node >= ends {
-        return 2;
+        return None;
     }
     let last = axis[4 * edge_capacity + node as usize];
     if last == NONE {
-        return 0;
+        return Some(0);
     }
     if !edge_linked(axis, edge_capacity, node_capacity, base, bound, edge) {
-        return 2;
+        return None;
     }
-    pick(last, edge, 1, 0)
+    Some(pick(last, edge, 1, 0))
 }
 
 // How many nodes have a ring: the words of a column, `count` of them from `at` on, that are not NONE.
@@ -120,11 +106,9 @@ fn ring_count(axis: &[u32], at: usize, count: u32) -> u32
     requires { at + count ≤ length axis.now }
     ensures { result ≡ count_of (some_at axis.now at) (from 0 count) }
 {
-    let mut rings: u32 = 0;
-    let mut x: u32 = 0;
-    while x < count {
-        rings += pick(axis[at + x as usize], NONE, 0, 1);
-        x += 1;
+    let mut rings = 0;
+    for word in &axis[at..at + count as usize] {
+        rings += pick(*word, NONE, 0, 1);
     }
     rings
 }
@@ -137,15 +121,13 @@ fn rings_climb(axis: &[u32], edge_capacity: usize, node_capacity: usize, counts:
     let base = counts.edges.base;
     let bound = counts.edges.bound;
     let ends = counts.nodes.bound;
-    let mut lasts: u32 = 0;
-    let mut e = base;
-    while e < bound {
-        let step = edge_climbs(axis, edge_capacity, node_capacity, base, bound, ends, e);
-        if step > 1 {
+    let mut lasts = 0;
+    for e in base..bound {
+        let Some(step) = edge_climbs(axis, edge_capacity, node_capacity, base, bound, ends, e)
+        else {
             return false;
-        }
+        };
         lasts += step;
-        e += 1;
     }
     ring_count(axis, 4 * edge_capacity, ends) == lasts
 }
@@ -161,12 +143,10 @@ pub fn rings_right(axis: &[u32], edge_capacity: usize, node_capacity: usize, cou
     if rings_climb(axis, edge_capacity, node_capacity, counts) {
         return true;
     }
-    let mut x: u32 = 0;
-    while x < node_bound {
+    for x in 0..node_bound {
         if !ring_right(axis, edge_capacity, base, bound, x) {
             return false;
         }
-        x += 1;
     }
     true
 }

@@ -1,5 +1,5 @@
 -- `liveness::push_live` meets its contract: the three ways are `push_first`, `push_bit` and `push_set` of proofs/Words.antt.
-use Rattle.std.specs.Prelude.{◌/◌, ◌%◌}
+use Rattle.std.specs.Prelude.{◌%◌}
 use Rattle.plain.specs.Library.{arith}
 use Rattle.liveness.specs.Flags.{bit}
 use Rattle.liveness.specs.Laws.Bits.{power, mark_below}
@@ -13,7 +13,7 @@ pub overflow_add-words : goal.overflow_add-words
 unfolding bit
 overflow_add-words c =
     let slots = c.args.slots in
-    rw power (record { fits = mark_below 64 (slots % 64) _ (omega arith) (c.slice_known-1.given (slots / 64)).fits c.if-word-bit-eq0.true })
+    rw power (record { fits = mark_below 64 (slots % 64) _ (omega arith) (omega arith) c.if-word-bit-eq0.true })
 
 pub returns-then-word-bit-eq0 : goal.returns-then-word-bit-eq0
 unfolding bit

@@ -14,7 +14,7 @@ pub overflow_add-seen : goal.overflow_add-seen
 unfolding bit
 overflow_add-seen c =
     let edge = c.args.edge in
-    rw power (record { fits = mark_below 64 (edge % 64) _ (omega arith) (c.slice_known-1.given (edge / 64)).fits (omega arith) })
+    rw power (record { fits = mark_below 64 (edge % 64) _ (omega arith) (omega arith) (omega arith) })
 
 pub returns : goal.returns
 unfolding bit

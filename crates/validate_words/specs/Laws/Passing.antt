@@ -1,6 +1,7 @@
 -- Tests one after the other, and a loop over slots that stops at the first that fails a test: what is still to be answered from each place on.
-use Rattle.std.specs.Prelude.{ℕ, suc, ◌+◌, ◌-◌, ◌≤◌, ◌<◌, ◌≡◌, Bool, true, false, cond, ◌&&◌, not, List, ◌∷◌, []}
+use Rattle.std.specs.Prelude.{ℕ, zero, suc, ◌+◌, ◌-◌, ◌≤◌, ◌<◌, ◌≡◌, refl, Bool, true, false, cond, ◌&&◌, not, List, ◌∷◌, [], length, take, drop, get_or}
 use Rattle.plain.specs.Library.{sym, ap, ◌∙◌, arith, not-true, not-false, ltb-true}
+use Rattle.std.proofs.lemmas.Grind.{common_steps}
 use Rattle.plain.specs.Lists.{member, all, from, count}
 use Rattle.plain.proofs.Laws.Booleans.{by_test, same_truth}
 use Rattle.plain.proofs.Laws.ListLaws.{all_of, all_member, member_below}
@@ -56,6 +57,27 @@ module _ (test : ℕ → Bool) where
   pub rest_none : (i n : ℕ) → n ≤ i → rest i n ≡ true
   unfolding all
   rest_none i n l = rw (slots_none i n l)
+
+-- the first slots, one after the other: none, and one more, which passes as `step` says
+module _ (test : ℕ → Bool) where
+  pub first_none : true ≡ all test (from 0 0)
+  unfolding all from
+  first_none = refl
+
+  all_next : (a n : ℕ) → all test (from a (suc n)) ≡ (all test (from a n) && test (a + n))
+  unfolding all from
+  all_next a zero = grind arith
+  all_next a (suc n) = grind (arith, all_next (suc a) n)
+
+  pub first_more : {right step : Bool} (i : ℕ) → right ≡ all test (from 0 i) → step ≡ test i → (right && step) ≡ all test (from 0 (i + 1))
+  first_more i h k =
+      let s : suc i ≡ i + 1 = omega arith in
+      let z : 0 + i ≡ i = omega arith in
+      rw (h, k) (ap (λ (j : ℕ). all test (from 0 i) && test j) (sym z) ∙ sym (all_next 0 i) ∙ ap (λ (j : ℕ). all test (from 0 j)) s)
+
+-- a word of a part of a slice
+pub part_word : (ws : List ℕ) (at n i : ℕ) → i < length (take n (drop at ws)) → get_or (take n (drop at ws)) i 0 ≡ get_or ws (at + i) 0
+part_word ws at n i l = grind (arith, common_steps)
 
 -- tests that agree on the entries of a list, and on all slots
 module _ (f g : ℕ → Bool) where

@@ -9,7 +9,7 @@ use Rattle.shape.specs.Rules.{broken, rule_1, live_agrees, rule_2}
 use Rattle.shape.proofs.Laws.Judging.{sizes_sound}
 use Rattle.validate.specs.Broken.{Counted}
 use Rattle.validate.specs.Judging.{Judged}
-use Rattle.validate.proofs.Deciding.{sizes_rule, live_there, broken_parts, judges}
+use Rattle.validate.proofs.Deciding.{live_there, broken_parts, judges}
 use Rattle.validate.proofs.judging.check_store.Goals.{Start}
 use Rattle.validate.proofs.judging.check_store.Goals as goal
 
@@ -29,33 +29,33 @@ counted w one nodes edges = record { r1 = one; r2 = both_true nodes edges }
 pub returns-then-not-sizes_right : goal.returns-then-not-sizes_right
 returns-then-not-sizes_right c =
     let w = lent (goal.at.returns-then-not-sizes_right c).Start in
-    judged w c.words_fit.ensures c.words_fit-2.ensures (rw (sym (sizes_rule w) ∙ sym c.sizes_right.ensures ∙ c.if-not-sizes_right.true) at (broken_parts w))
+    judged w c.words_fit.ensures c.words_fit-2.ensures (rw (sym c.sizes_right.ensures ∙ c.if-not-sizes_right.true) at (broken_parts w))
 
 pub live_right-requires : goal.live_right-requires
 live_right-requires c =
     let w = lent (goal.at.live_right-requires c).Start in
-    live_there (sizes_sound w (sym (sizes_rule w) ∙ sym c.sizes_right.ensures ∙ c.if-not-sizes_right.false)).nodes
+    live_there (sizes_sound w (sym c.sizes_right.ensures ∙ c.if-not-sizes_right.false)).nodes
 
 pub returns-then-not-live_right : goal.returns-then-not-live_right
 unfolding rule_2
 returns-then-not-live_right c =
     let w = lent (goal.at.returns-then-not-live_right c).Start in
     judged w c.words_fit.ensures c.words_fit-2.ensures (rw (
-      sym (sizes_rule w) ∙ sym c.sizes_right.ensures ∙ c.if-not-sizes_right.false,
+      sym c.sizes_right.ensures ∙ c.if-not-sizes_right.false,
       sym c.live_right.ensures ∙ c.if-not-live_right.true,
     ) at (broken_parts w))
 
 pub live_right-requires-2 : goal.live_right-requires-2
 live_right-requires-2 c =
     let w = lent (goal.at.live_right-requires-2 c).Start in
-    live_there (sizes_sound w (sym (sizes_rule w) ∙ sym c.sizes_right.ensures ∙ c.if-not-sizes_right.false)).edges
+    live_there (sizes_sound w (sym c.sizes_right.ensures ∙ c.if-not-sizes_right.false)).edges
 
 pub returns-then-not-live_right-2 : goal.returns-then-not-live_right-2
 unfolding rule_2
 returns-then-not-live_right-2 c =
     let w = lent (goal.at.returns-then-not-live_right-2 c).Start in
     judged w c.words_fit.ensures c.words_fit-2.ensures (rw (
-      sym (sizes_rule w) ∙ sym c.sizes_right.ensures ∙ c.if-not-sizes_right.false,
+      sym c.sizes_right.ensures ∙ c.if-not-sizes_right.false,
       sym c.live_right.ensures ∙ c.if-not-live_right.false,
       sym c.live_right-2.ensures ∙ c.if-not-live_right-2.true,
     ) at (broken_parts w))
@@ -63,10 +63,10 @@ returns-then-not-live_right-2 c =
 pub check_axes-requires : goal.check_axes-requires
 check_axes-requires c =
     let w = lent (goal.at.check_axes-requires c).Start in
-    counted w (sym (sizes_rule w) ∙ sym c.sizes_right.ensures ∙ c.if-not-sizes_right.false) (sym c.live_right.ensures ∙ c.if-not-live_right.false) (sym c.live_right-2.ensures ∙ c.if-not-live_right-2.false)
+    counted w (sym c.sizes_right.ensures ∙ c.if-not-sizes_right.false) (sym c.live_right.ensures ∙ c.if-not-live_right.false) (sym c.live_right-2.ensures ∙ c.if-not-live_right-2.false)
 
 pub returns : goal.returns
 returns c =
     let w = lent (goal.at.returns c).Start in
-    let k = counted w (sym (sizes_rule w) ∙ sym c.sizes_right.ensures ∙ c.if-not-sizes_right.false) (sym c.live_right.ensures ∙ c.if-not-live_right.false) (sym c.live_right-2.ensures ∙ c.if-not-live_right-2.false) in
+    let k = counted w (sym c.sizes_right.ensures ∙ c.if-not-sizes_right.false) (sym c.live_right.ensures ∙ c.if-not-live_right.false) (sym c.live_right-2.ensures ∙ c.if-not-live_right-2.false) in
     judged w c.words_fit.ensures c.words_fit-2.ensures (c.check_axes.ensures ∙ (rw (k.r1, k.r2) at (broken_parts w)))

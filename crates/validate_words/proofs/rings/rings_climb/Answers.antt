@@ -1,20 +1,13 @@
--- `validate_words::rings::rings_climb` meets its contract. The loop's invariant: the edges of the delta before e climb, and the lasts among them are counted. The measure
--- is the number of edges left.
-use Rattle.std.specs.Prelude.{refl}
+-- `validate_words::rings::rings_climb` meets its contract.
 use Rattle.plain.specs.Library.{sym, ◌∙◌, arith, eqb-true}
-use Rattle.plain.proofs.Laws.Booleans.{true_false}
 use Rattle.validate_words.proofs.Climbing.{climbing_start, climbing_on, climbing_done, rings_close}
 use Rattle.validate_words.proofs.rings.rings_climb.Goals as goal
 
 pub loop-e-init : goal.loop-e-init
 loop-e-init c = climbing_start _ _ _ _ _
 
-pub returns-then-step-gt1 : goal.returns-then-step-gt1
-returns-then-step-gt1 c = λ h. true_false h refl
-
 pub loop-e-preserved : goal.loop-e-preserved
-loop-e-preserved c =
-    climbing_on _ _ _ _ _ c.loop-e.invariant c.loop-e-test.true c.edge_climbs-step.ensures c.if-step-gt1.false
+loop-e-preserved c = climbing_on _ _ _ _ _ c.loop-e.invariant c.loop-e-test.true c.in-Some.ensures
 
 pub returns : goal.returns
 returns c =

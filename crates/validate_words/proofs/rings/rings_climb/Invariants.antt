@@ -1,11 +1,6 @@
--- `validate_words::rings::rings_climb` meets its contract. The loop's invariant: the edges of the delta before e climb, and the lasts among them are counted. The measure
--- is the number of edges left.
-use Rattle.std.specs.Prelude.{◌-◌}
+-- `validate_words::rings::rings_climb` meets its contract. The loop's invariant: the edges of the delta before e climb, and the lasts among them are counted.
 use Rattle.validate_words.proofs.Climbing.{Climbing}
 use Rattle.validate_words.proofs.rings.rings_climb.Given as goal
 
 abbrev pub invariant-loop-e : goal.invariant-loop-e
 invariant-loop-e l = Climbing l.axis l.edge_capacity l.base l.bound l.ends l.e l.lasts
-
-abbrev pub decreases-loop-e : goal.decreases-loop-e
-decreases-loop-e l = l.bound - l.e

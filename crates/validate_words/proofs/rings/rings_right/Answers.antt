@@ -1,4 +1,4 @@
--- `validate_words::rings::rings_right` meets its contract. The loop's invariant: the nodes from x on decide. The measure is the number of nodes left.
+-- `validate_words::rings::rings_right` meets its contract.
 use Rattle.plain.specs.Library.{sym, ◌∙◌}
 use Rattle.validate_words.specs.Laws.Passing.{rest_first, rest_more, rest_fails, rest_none}
 use Rattle.validate_words.proofs.rings.rings_right.Goals as goal
