@@ -23,7 +23,7 @@ pub mod Width
 pub mod Cutting
 pub mod ImageBits
 pub mod Refusals
-pub mod Untold
+pub mod Exits
 pub mod Lending
 pub mod ImageLaws
 pub mod Devices

@@ -1,27 +1,11 @@
 -- One turn of each loop over a map, and what `compose` answers where the result slice is too short and where it is not.
-use Rattle.std.specs.Prelude.{ℕ, zero, suc, ◌+◌, ◌-◌, ◌≤◌, ◌<◌, ◌≡◌, refl, Bool, true, false, ◌&&◌, List, [], ◌∷◌, ◌++◌, length, get_or, set, take, drop, eqb}
-use Rattle.plain.specs.Library.{sym, ap, ◌∙◌, length-map, get_or-eq_default, zero-add, add-one, arith, eq-eqb, ne_eqb, le-leb, lt-leb}
-use native.Mathlib.Nat.{sub-zero}
-use lib.ListN.{drop_of_length-le}
-use lib.Seq.{paste-suc, drop-cons, take-length}
-use Rattle.plain.specs.Numbers.{NONE}
+use Rattle.std.specs.Prelude.{ℕ, zero, suc, ◌+◌, ◌≤◌, ◌<◌, ◌≡◌, refl, ◌↔◌, Bool, true, IsTrue, EachIndex, slice_index, List, [], ◌∷◌, ◌++◌, length, get_or, set, take, drop, eqb}
+use Rattle.plain.specs.Library.{length-map, zero-add, add-one, arith, eq-eqb, eqb-true, le-leb, lt-leb}
+use lib.Seq.{paste-suc, take-length}
+use Rattle.plain.proofs.Laws.Booleans.{same_truth, and_left, and_right, both_true}
 use Rattle.plain.specs.Lists.{same, from}
-use Rattle.plain.specs.Renumbering.{lookup, composed, compose, is_identity_map}
+use Rattle.plain.specs.Renumbering.{composed, compose, is_identity_map}
 use Rattle.renumbering.specs.Calls.{through, Compose}
-
--- ---- reading
-
--- within a map the default does not matter
-pub lookup_in : (m : List ℕ) (slot : ℕ) → slot < length m → get_or m slot 0 ≡ lookup m slot
-unfolding lookup
-lookup_in [] slot h = absurd (omega arith)
-lookup_in (x ∷ m) zero h = refl
-lookup_in (x ∷ m) (suc slot) h = lookup_in m slot (omega arith)
-
--- past it there is NONE
-pub lookup_out : (m : List ℕ) (slot : ℕ) → length m ≤ slot → NONE ≡ lookup m slot
-unfolding lookup
-lookup_out m slot h = sym (get_or-eq_default m NONE h)
 
 -- ---- composing
 
@@ -65,32 +49,24 @@ compose_done first second result h =
 
 -- ---- the identity
 
--- the slots from i on hold their own numbers
-abbrev pub rest_same : List ℕ → ℕ → Bool
-rest_same m i = same (drop i m) (from i (length m - i))
-
--- at the start that is the whole test
-pub rest_all : (m : List ℕ) → is_identity_map m ≡ rest_same m 0
-unfolding is_identity_map
-rest_all m = rw sub-zero
-
-module _ (m : List ℕ) (i : ℕ) (h : i < length m) where
-  -- it goes on where the slot holds its number
-  rest_step : rest_same m i ≡ (eqb (get_or m i 0) i && rest_same m (suc i))
-  unfolding same from
-  rest_step =
-      let e : length m - i ≡ suc (length m - suc i) = omega arith in
-      rw (e, drop-cons m i 0 h)
-
-  pub rest_more : get_or m i 0 ≡ i → rest_same m i ≡ rest_same m (i + 1)
-  rest_more q = rw add-one (rest_step ∙ ap (λ (b : Bool). b && rest_same m (suc i)) (eq-eqb (get_or m i 0) i q))
-
-  pub rest_fails : (get_or m i 0 ≡ i → ⊥) → rest_same m i ≡ false
-  rest_fails n = rest_step ∙ ap (λ (b : Bool). b && rest_same m (suc i)) (ne_eqb (get_or m i 0) i n)
-
--- past the end nothing is left to test
-pub rest_end : (m : List ℕ) (i : ℕ) → length m ≤ i → rest_same m i ≡ true
+-- slots that each hold the number of their place, from a on
+counted_each : (m : List ℕ) (a : ℕ) → same m (from a (length m)) ≡ true → (k : ℕ) → k < length m → get_or m k 0 ≡ a + k
 unfolding same from
-rest_end m i h =
-    let e : length m - i ≡ 0 = omega arith in
-    rw (e, drop_of_length-le m h)
+counted_each [] a e k h = absurd (omega arith)
+counted_each (x ∷ m) a e zero h = let first = eqb-true x a (and_left (eqb x a) (same m (from (suc a) (length m))) e) in omega arith
+counted_each (x ∷ m) a e (suc k) h =
+    let rest = counted_each m (suc a) (and_right (eqb x a) (same m (from (suc a) (length m))) e) k (omega arith) in omega arith
+
+counted_all : (m : List ℕ) (a : ℕ) → ((k : ℕ) → k < length m → get_or m k 0 ≡ a + k) → same m (from a (length m)) ≡ true
+unfolding same from
+counted_all [] a h = refl
+counted_all (x ∷ m) a h =
+    let first = h 0 (omega arith) in
+    both_true (eq-eqb x a (omega arith)) (counted_all m (suc a) (λ k l. let rest = h (suc k) (omega arith) in omega arith))
+
+-- a test that passes where each slot holds its own number is the whole test
+pub identity_each : (m : List ℕ) (b : Bool) → (IsTrue b ↔ EachIndex m (λ k. slice_index m k ≡ k)) → b ≡ is_identity_map m
+unfolding is_identity_map
+identity_each m b is =
+    same_truth b (same m (from 0 (length m))) (λ t. counted_all m 0 (λ k h. let own = is.0 t k h in omega arith))
+    (λ t. is.1 (λ k h. let own = counted_each m 0 t k h in omega arith))

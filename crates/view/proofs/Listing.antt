@@ -18,7 +18,7 @@ use Rattle.cursor.specs.Laws.Reading.{write_one}
 use Rattle.validate.specs.Judging.{Judged}
 use Rattle.view.specs.Calls.{Listed, Replied}
 use Rattle.view.specs.Laws.Calls.{list_replies}
-use Rattle.view.specs.Ids.{LiveFits, LiveTold}
+use Rattle.view.specs.Ids.{LiveTold}
 
 -- The live slots before `slot`, which is the next or past the end, are written, n of them.
 pub record Listing (flags : List Bool) (out₀ out : List ℕ) (n slot : ℕ) : Type 0 where
@@ -75,10 +75,6 @@ checked_told k few = record {
 }
 
 module _ {words : List ℕ} {s : Slots} (t : LiveTold words s) where
-  -- there is room for as many as are live
-  pub told_fits : {entry : List ℕ} → s.live ≤ length entry → LiveFits words s.bound entry
-  told_fits room = record { long = t.long; few = t.few; fits = omega (arith, t.right) }
-
   -- as many are listed
   pub told_size : s.live ≡ length (live_slots (live_flags words s.bound))
   told_size = t.right ∙ sym (length_live_slots (live_flags words s.bound))

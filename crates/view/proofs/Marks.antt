@@ -1,7 +1,6 @@
 -- Whether a checked store is compact, by its counts and the marks of its runs.
 use Rattle.std.specs.Prelude.{ℕ, suc, ◌+◌, ◌≡◌, refl, Bool, true, false, ◌&&◌, not, List, [], ◌∷◌, map, length, eqb, ltb}
 use Rattle.plain.specs.Library.{sym, ap, ◌∙◌, arith, eqb-true, eqb-false, lt-ltb, le-ltb}
-use Rattle.plain.specs.declared.TraversalDirection.{TraversalDirection}
 use Rattle.plain.specs.declared.TraversalDirection.TheVariants.{Outgoing, Incoming}
 use Rattle.plain.specs.declared.Counts.{Counts}
 use Rattle.plain.specs.Lists.{all, from, count}
@@ -10,11 +9,11 @@ use Rattle.plain.proofs.Laws.Booleans.{by_test, eqb_same, refuted}
 use Rattle.plain.proofs.Laws.ListLaws.{count_length}
 use Rattle.liveness.specs.Laws.Flags.{length_flags}
 use Rattle.shape.specs.Columns.{mark_at}
-use Rattle.shape.specs.Shape.{Words, node_capacity, edge_capacity, axis_words, adjacency_in, axis_of, run_of, has_run, shape_of, is_compact}
+use Rattle.shape.specs.Shape.{Words, node_capacity, edge_capacity, adjacency_in, axis_of, run_of, has_run, shape_of, is_compact}
 use Rattle.shape.specs.Checked.{Checked}
 use Rattle.shape.proofs.Laws.Reading.{node_bound_is, edge_bound_is, node_flags_are, edge_flags_are, axis_is}
 use Rattle.validate_words.specs.Laws.Passing.{slots_agree}
-use Rattle.view.specs.Compact.{unmarked, MarksThere}
+use Rattle.view.specs.Compact.{unmarked}
 
 -- ---- flags: all are live where as many are live as there are
 
@@ -62,12 +61,6 @@ base_edges_are w = refl
 -- ---- all of it
 
 module _ {w : Words} (k : Checked w) where
-  -- an axis has a mark of each node
-  pub marks_there : (d : TraversalDirection) → MarksThere (axis_words d w) (edge_capacity w) (node_capacity w) w.counts.nodes.bound
-  marks_there d =
-      let sized = (k.axis d).sized in
-      record { edges_within = sized.edges_within; nodes_within = sized.nodes_within; room = omega (arith, sized.room, k.nodes.bounded.bound_within) }
-
   pub compact_parts : is_compact (shape_of w)
       ≡ (eqb w.counts.nodes.base w.counts.nodes.bound && (eqb w.counts.edges.base w.counts.edges.bound
       && (eqb w.counts.nodes.live w.counts.nodes.bound && (eqb w.counts.edges.live w.counts.edges.bound

@@ -1,10 +1,17 @@
 -- What the reads of a slot answer on the plain lists of a store, by the words that they read.
-use Rattle.std.specs.Prelude.{ℕ, ◌≤◌, ◌<◌, ◌≡◌, Bool, true, false, List, get_or}
+use Rattle.std.specs.Prelude.{ℕ, ◌≤◌, ◌<◌, ◌≡◌, Bool, true, false, List, get_or, Ok, Err}
 use Rattle.plain.specs.Library.{sym, ap, ◌∙◌, arith}
+use Rattle.plain.specs.declared.refusals.Refusal.{Refusal}
+use Rattle.plain.specs.declared.refusals.Refusal.TheVariants.{OutOfRangeEdge, RemovedEdge}
+use Rattle.plain.specs.Answers.{edge_record_of}
+use Rattle.plain.proofs.Laws.Rank.{live_below}
+use Rattle.liveness.specs.Laws.Flags.{length_flags}
 use Rattle.plain.specs.declared.TraversalDirection.TheVariants.{Outgoing, Incoming}
 use Rattle.plain.specs.Numbers.{NONE}
 use Rattle.plain.specs.Reads.{answered, yes_or_no, no_record, node_payload, edge_record, live_edge_record, contains_node, contains_edge}
 use Rattle.plain.proofs.Laws.CallCases.{node_payload_absent, node_payload_there, edge_record_absent, edge_record_there, live_edge_record_absent, live_edge_record_removed, live_edge_record_there, contains_node_is, contains_edge_is}
+use Rattle.shape.specs.Stores.{slot_refused}
+use Rattle.shape.proofs.Laws.Refused.{by_refused, not_refused}
 use Rattle.shape.specs.Shape.{Words, node_live, edge_live, plain_of, lists}
 use Rattle.shape.proofs.Laws.Reading.{node_at, edge_at, plain_end}
 use Rattle.shape.specs.Checked.{Checked}
@@ -66,3 +73,27 @@ module _ (w : Words) where
   pub edge_there : (e : ℕ) → contains_edge (lists w) e ≡ yes_or_no (get_or (edge_live w) e false)
   unfolding plain_of
   edge_there e = contains_edge_is (lists w) e ∙ ap (λ (fs : List Bool). yes_or_no (get_or fs e false)) (edges_told w).same
+
+  -- what a live record is refused with
+  pub live_record_refused : (e : ℕ) {r : Refusal} → Err r ≡ slot_refused OutOfRangeEdge RemovedEdge (edge_live w) w.counts.edges.bound e
+      → live_edge_record (lists w) e ≡ edge_record_of (Err r)
+  live_record_refused e =
+      by_refused (edge_live w) w.counts.edges.bound e (λ (r : Refusal). live_edge_record (lists w) e ≡ edge_record_of (Err r))
+      (λ past. live_record_past e past)
+      (λ below dead. live_record_removed e below dead)
+
+-- an edge that is not refused is live, and below the bound
+module _ {w : Words} (k : Checked w) (e : ℕ) {done : Unit} (passed : Ok done ≡ slot_refused OutOfRangeEdge RemovedEdge (edge_live w) w.counts.edges.bound e) where
+  edge_passed : get_or (edge_live w) e false ≡ true
+  edge_passed = not_refused OutOfRangeEdge RemovedEdge (edge_live w) w.counts.edges.bound e passed
+
+  edge_below : e < w.counts.edges.bound
+  edge_below = rw (length_flags w.live_edges w.counts.edges.bound) at (live_below (edge_live w) e edge_passed)
+
+  -- so its words are there
+  pub live_record_there : RecordThere w.lows w.highs w.outgoing w.incoming e
+  live_record_there = record_there k e edge_below
+
+  -- and are the live record
+  pub live_record_passed : live_edge_record (lists w) e ≡ record_words w.lows w.highs w.outgoing w.incoming e
+  live_record_passed = live_record_read w e edge_below edge_passed

@@ -3,7 +3,7 @@ use Rattle.std.specs.Prelude.{Result}
 use Rattle.plain.specs.Library.{subst}
 use Rattle.plain.specs.declared.refusals.Rule.{Rule}
 use Rattle.plain.specs.Refusals.{rule_of}
-use Rattle.plain.proofs.Laws.Untold.{refused_exit}
+use Rattle.plain.proofs.Laws.Exits.{refused_exit}
 use Rattle.shape.specs.Shape.{Words}
 use Rattle.shape.specs.Stores.{words, words_mut}
 use Rattle.validate.specs.Judging.{Judged}

@@ -1,5 +1,5 @@
 -- `marks::mark` meets its contract: the two ways are `mark_again` and `mark_new` of proofs/Marking.antt.
-use Rattle.std.specs.Prelude.{◌/◌, ◌%◌}
+use Rattle.std.specs.Prelude.{◌%◌}
 use Rattle.plain.specs.Library.{arith}
 use Rattle.liveness.specs.Flags.{bit}
 use Rattle.liveness.specs.Laws.Bits.{power, mark_below}

@@ -9,6 +9,7 @@ use Rattle.plain.specs.Lists.{written}
 use Rattle.plain.specs.Reads.{Reply, no_record, no_total, listing}
 use Rattle.plain.proofs.Laws.CallCases.{lent_short, lent_done}
 use Rattle.shape.specs.Shape.{Words}
+use Rattle.shape.specs.Checked.{Checked}
 use Rattle.validate.specs.Judging.{Judged, refusal}
 use Rattle.validate.specs.Laws.Judging.{answer_counts, answer_refused, reply_counts, reply_refused, record_counts, record_refused, total_counts, total_refused}
 use Rattle.view.specs.Calls.{Answered, Recorded, Totalled, Replied, Listed}
@@ -59,6 +60,10 @@ module _ {w : Words} {rule : ℕ} (j : Judged w rule) where
   -- none is, and the read itself counts
   pub answer_done : {read : Words → Answer} {r : Answer} → rule ≡ 0 → r ≡ read w → Answered w read r
   answer_done {read} h is = record { answers = is ∙ answer_counts j h (read w) }
+
+  -- where it counts since the store is checked
+  pub checked_done : {read : Words → Answer} {r : Answer} → rule ≡ 0 → (Checked w → r ≡ read w) → Answered w read r
+  checked_done h is = answer_done h (is (j.checked h))
 
   pub record_done : {read : Words → Record} {r : Record} → rule ≡ 0 → r ≡ read w → Recorded w read r
   record_done {read} h is = record { answers = is ∙ record_counts j h (read w) }

@@ -1,30 +1,22 @@
--- `view::slots::live_edge_record` meets its contract: the check, and then the laws of the live record past the bound, of a live edge and of a removed one.
-use Rattle.plain.specs.Library.{sym, ◌∙◌}
-use Rattle.view.specs.Laws.Calls.{record_refuses, record_done}
-use Rattle.view.proofs.Reading.{record_there, live_record_past, live_record_read, live_record_removed}
-use Rattle.plain.specs.Library.{rules}
+-- `view::slots::live_edge_record` meets its contract: the check, what the slot is refused with, and then the law of the record of a live edge.
+use Rattle.plain.specs.Library.{sym, ap, ◌∙◌}
+use Rattle.plain.specs.Refusals.{rule_of}
+use Rattle.plain.proofs.Laws.Exits.{refused_exit}
+use Rattle.view.specs.Laws.Calls.{record_done}
+use Rattle.view.proofs.Reading.{live_record_refused, live_record_there, live_record_passed}
 use Rattle.view.proofs.slots.live_edge_record.Goals as goal
 
-pub returns-then-rule-ne0 : goal.returns-then-rule-ne0
-returns-then-rule-ne0 c = record_refuses c.judge-rule.ensures c.if-rule-ne0.true c.no_store_record.ensures
-
-pub returns-then-bound-edge : goal.returns-then-bound-edge
-returns-then-bound-edge c =
-    record_done c.judge-rule.ensures c.if-rule-ne0.false (c.no_record.ensures ∙ sym (live_record_past _ _ c.if-bound-edge.true))
-
-pub is_live-requires : goal.is_live-requires
-is_live-requires c = let checked = c.judge-rule.ensures.checked c.if-rule-ne0.false in search rules
+pub returns-in_err-live_edge : goal.returns-in_err-live_edge
+returns-in_err-live_edge c =
+    rw (refused_exit _ c.from_residual-in_err-live_edge.ensures.1)
+    (record_done c.check_store.ensures (ap rule_of c.in_ok-check_store.was) (sym (live_record_refused _ _ c.in_err-live_edge.ensures)))
 
 pub record_at-requires : goal.record_at-requires
 record_at-requires c =
-    record_there (c.judge-rule.ensures.checked c.if-rule-ne0.false) _ c.if-bound-edge.false
-
-pub returns-then-is_live : goal.returns-then-is_live
-returns-then-is_live c =
-    record_done c.judge-rule.ensures c.if-rule-ne0.false
-    (c.record_at.ensures ∙ sym (live_record_read _ _ c.if-bound-edge.false (sym c.is_live.ensures ∙ c.if-is_live.true)))
+    live_record_there (c.check_store.ensures.checked (ap rule_of c.in_ok-check_store.was)) _ c.in_ok-live_edge.ensures
 
 pub returns : goal.returns
 returns c =
-    record_done c.judge-rule.ensures c.if-rule-ne0.false
-    (c.no_record-2.ensures ∙ sym (live_record_removed _ _ c.if-bound-edge.false (sym c.is_live.ensures ∙ c.if-is_live.false)))
+    let none = ap rule_of c.in_ok-check_store.was in
+    record_done c.check_store.ensures none
+    (c.record_at.ensures ∙ sym (live_record_passed (c.check_store.ensures.checked none) _ c.in_ok-live_edge.ensures))

@@ -1,7 +1,9 @@
--- `view::whole::edge_bound` meets its contract: what the counts of a checked store tell, behind the check.
-use Rattle.plain.specs.Library.{◌∙◌}
-use Rattle.view.proofs.Counting.{judged_read, edge_bound_read}
+-- `view::whole::edge_bound` meets its contract: the check, and then the counts of a checked store.
+use Rattle.plain.specs.Library.{ap}
+use Rattle.plain.specs.Refusals.{rule_of}
+use Rattle.view.specs.Laws.Calls.{checked_done}
+use Rattle.view.proofs.Counting.{edge_bound_read}
 use Rattle.view.proofs.whole.edge_bound.Goals as goal
 
 pub returns : goal.returns
-returns c = judged_read c.judge-rule.ensures c.judged.ensures (λ k. c.answered.ensures ∙ edge_bound_read k)
+returns c = checked_done c.check_store.ensures (ap rule_of c.in_ok-check_store.was) (λ k. edge_bound_read k)
