@@ -1,16 +1,11 @@
--- The three columns that an `Axis` holds, as parts of the packed words: what is there to be read, and that reading them is reading the words.
-use Rattle.std.specs.Prelude.{ℕ, suc, ◌+◌, ◌*◌, ◌≤◌, ◌<◌, ◌≡◌, Bool, List, length, ltb}
+-- Columns as parts of the packed words: what is there to be read, and that reading them is reading the words.
+use Rattle.std.specs.Prelude.{ℕ, suc, ◌+◌, ◌*◌, ◌≤◌, ◌<◌, ◌≡◌, List, length, ltb}
 use Rattle.plain.specs.Library.{arith, ltb-true}
 use Rattle.plain.proofs.Laws.Booleans.{by_test}
 use Rattle.shape.specs.Columns.{Sized}
-use Rattle.adjacency.specs.declared.axis.Axis.{Axis}
-use Rattle.cursor.specs.declared.AdjacencyCursor.{AdjacencyCursor}
-use Rattle.cursor.specs.declared.Step.{Step}
-use Rattle.cursor.specs.Cursor.{Seekable, Sought}
-use Rattle.adjacency.specs.Index.{Based, base_bounds, bounds_at}
-use Rattle.adjacency.specs.Walk.{entries_column, next_column, ColumnsThere}
+use Rattle.adjacency.specs.Index.{Based, offsets_column, base_bounds, bounds_at}
+use Rattle.adjacency.specs.Walk.{ColumnsThere}
 use Rattle.adjacency.specs.Laws.Walk.{column_length, column_word}
-use Rattle.adjacency.specs.Axis.{offsets_column, Columns, Advanceable}
 
 -- words that hold the columns of an axis hold those that a walk reads
 pub columns_there : {ws : List ℕ} {ce cn : ℕ} → Sized ws ce cn → ColumnsThere ws ce
@@ -33,13 +28,3 @@ module _ (ws : List ℕ) (ce cn bn : ℕ) where
       let below : x < bn = ltb-true x bn h in
       rw (h, column_word ws (4 * ce + 5 * cn) (cn + 1) x (omega arith), column_word ws (4 * ce + 5 * cn) (cn + 1) (suc x) (omega arith)))
       (λ h. rw h)
-
-module _ {ws : List ℕ} {ce cn : ℕ} {linked : Bool} {x : Axis} (columns : Columns ws ce cn linked x) where
-  -- what it takes along the words is what it takes along their axis, and what is found there is found along the words
-  pub seekable_along : {live : List ℕ} {slots : ℕ} {c : AdjacencyCursor} → Advanceable ws ce cn linked live slots c
-      → Seekable linked x.entries.now x.next.now live slots c
-  seekable_along a = rw (columns.entries_are, columns.next_are) a.seekable
-
-  pub sought_along : {test : ℕ → Bool} {c : AdjacencyCursor} {s : Step} → Sought test linked x.entries.now x.next.now c s
-      → Sought test linked (entries_column ws ce linked) (next_column ws ce) c s
-  sought_along sought = rw (columns.entries_are, columns.next_are) at sought

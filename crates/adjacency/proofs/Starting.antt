@@ -1,6 +1,6 @@
 -- Where a walk starts: at a run, at a base part, or nowhere; and that the cursor there has to read the node's entries.
-use Rattle.std.specs.Prelude.{ℕ, ◌≤◌, ◌-◌, ◌*◌, ◌≡◌, refl, Bool, true, false, List, length, eqb}
-use Rattle.plain.specs.Library.{sym, ◌∙◌, subst, inl, inr, arith, eqb-false, eq-eqb, ne_eqb}
+use Rattle.std.specs.Prelude.{ℕ, ◌+◌, ◌≤◌, ◌-◌, ◌*◌, ◌≡◌, refl, Bool, true, false, List, length, eqb}
+use Rattle.plain.specs.Library.{sym, ◌∙◌, subst, inl, inr, arith, eqb-true, eqb-false, eq-eqb, ne_eqb}
 use Rattle.shape.specs.Columns.{cell, last_at, first_at, count_at, mark_at}
 use Rattle.shape.specs.Shape.{between, base_of, adjacency_in, run_list, run_of, ring_of, part}
 use Rattle.shape.specs.Checked.{Index}
@@ -15,10 +15,11 @@ use Rattle.shape.proofs.Laws.Chains.{in_none, chain_agree, run_short, until_agre
 use Rattle.shape.proofs.Laws.Frames.{between_agree}
 use Rattle.shape.proofs.Laws.Walking.{between_none, until_wider, until_first}
 use Rattle.cursor.specs.declared.AdjacencyCursor.{AdjacencyCursor}
+use Rattle.cursor.specs.declared.Start.{Start}
 use Rattle.adjacency.specs.Rings.{EndsReadable, ring_ends}
 use Rattle.cursor.specs.Cursor.{word, part_left, ring_left, remaining, exhausted, PartWithin, Closed}
-use Rattle.adjacency.specs.Walk.{entries_column, next_column, Readable, Started}
-use Rattle.adjacency.specs.Laws.Walk.{column_length, column_word, next_length, read_below}
+use Rattle.adjacency.specs.Walk.{walk_in, entries_column, next_column, Readable, Walkable, Started}
+use Rattle.adjacency.specs.Laws.Walk.{column_length, column_word, next_length, read_below, walk_short}
 
 -- ---- the base part by its bounds
 
@@ -187,3 +188,15 @@ module _ {ws : List ℕ} {ce cn : ℕ} {counts : Counts} {x : ℕ} (r : Readable
         part_is = nothing;
         ring_is = refl;
       }
+
+  -- a walk starts somewhere
+  any_start : (live : Bool) → (s : Start) × Started ws ce cn counts x live s
+  any_start false = (_, none_starts)
+  any_start true =
+      by_test (eqb (mark_at ws ce cn x) 0) (λ q. (_, base_starts (eqb-true (mark_at ws ce cn x) 0 q)))
+      (λ q. (_, run_starts (eqb-false (mark_at ws ce cn x) 0 q)))
+
+-- so a walk is short
+pub walk_fits : {ws : List ℕ} {ce cn : ℕ} {counts : Counts} {live_edges : List ℕ} {x : ℕ} → Walkable ws ce cn counts live_edges x → (live : Bool)
+    → length (walk_in ws ce cn counts live_edges x live) ≤ NONE + LIMIT
+walk_fits w live = walk_short w (any_start w.readable live).1

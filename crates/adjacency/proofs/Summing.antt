@@ -11,7 +11,7 @@ use Rattle.shape.specs.Chains.{In}
 use Rattle.shape.specs.Shape.{Words, node_capacity, edge_capacity, node_live, edge_payload_at, axis_words, plain_of, lists}
 use Rattle.shape.specs.Checked.{Checked}
 use Rattle.shape.proofs.Laws.Reading.{edge_at}
-use Rattle.cursor.specs.declared.Sums.{Sums}
+use Rattle.plain.specs.declared.Sums.{Sums}
 use Rattle.cursor.specs.Summing.{sums_of}
 use Rattle.adjacency.specs.Walk.{walk_in, WalkSummable}
 use Rattle.adjacency.specs.Laws.Walk.{walk_below}

@@ -1,14 +1,12 @@
 -- Making every edge of a node's walk dead, in one direction: what the functions ask, and what they promise of the live words of the edges. The axis is read alone:
 -- a removed edge stays an entry of its lists.
-use Rattle.std.specs.Prelude.{ℕ, ◌+◌, ◌*◌, ◌/◌, ◌≤◌, ◌≡◌, Bool, true, false, ◌&&◌, not, ◌≢◌, List, length, get_or}
+use Rattle.std.specs.Prelude.{ℕ, ◌+◌, ◌*◌, ◌/◌, ◌≤◌, ◌≡◌, true, false, ◌&&◌, not, ◌≢◌, List, length, get_or}
 use Rattle.plain.specs.declared.Counts.{Counts}
 use Rattle.plain.specs.Numbers.{LIMIT}
 use Rattle.plain.specs.Lists.{member}
 use Rattle.plain.specs.Reads.{live_count}
 use Rattle.liveness.specs.Flags.{live_flags, packed}
-use Rattle.cursor.specs.declared.AdjacencyCursor.{AdjacencyCursor}
 use Rattle.adjacency.specs.Walk.{Readable}
-use Rattle.adjacency.specs.Axis.{Advanceable}
 
 -- Edges es are made dead in the live words of these slots; n of them were live. An edge may stand in es twice, or be dead already: it is counted once, or not.
 pub record Retired (slots : ℕ) (es entry exit : List ℕ) (n : ℕ) : Type 0 where
@@ -20,9 +18,9 @@ pub record Retired (slots : ℕ) (es entry exit : List ℕ) (n : ℕ) : Type 0 w
   pub others : (i : ℕ) → ((e : ℕ) → member e es ≡ true → get_or (live_flags entry slots) e false ≡ true → i ≢ e / 64) → get_or exit i 0 ≡ get_or entry i 0
   pub long : length exit ≡ length entry
 
--- What it takes to make the entries dead that a cursor has still to read.
-pub record LeftClearable (ws : List ℕ) (ce cn : ℕ) (linked : Bool) (live : List ℕ) (slots : ℕ) (c : AdjacencyCursor) : Type 0 where
-  pub advanceable : Advanceable ws ce cn linked live slots c
+-- What it takes to make entries dead.
+pub record LeftClearable (live : List ℕ) (slots : ℕ) : Type 0 where
+  pub live_long : slots ≤ 64 * length live
   pub few : slots ≤ LIMIT
 
 -- What it takes to make the edges of a node's walk dead: the live count need not be right, since the walk of one direction is cleared before it is counted off.

@@ -4,7 +4,7 @@ use Rattle.plain.specs.declared.TraversalDirection.{TraversalDirection}
 use Rattle.plain.specs.Lists.{sum}
 use Rattle.plain.specs.Plain.{low_of, high_of, Plain}
 use Rattle.plain.specs.Reads.{payloads_of}
-use Rattle.cursor.specs.declared.Sums.{Sums}
+use Rattle.plain.specs.declared.Sums.{Sums}
 
 -- both sums of a node's list
 abbrev pub sums_in : TraversalDirection → Plain → ℕ → Sums

@@ -1,5 +1,5 @@
 -- What the functions over rings ask and promise, of the words of an axis at entry, `ws`, and at exit, `vs`; a record a function.
-use Rattle.std.specs.Prelude.{ℕ, ◌+◌, ◌*◌, ◌≤◌, ◌<◌, ◌≡◌, cond, ◌≢◌, List, [], ◌∷◌, ◌++◌, length, get_or, eqb}
+use Rattle.std.specs.Prelude.{ℕ, ◌+◌, ◌*◌, ◌≤◌, ◌<◌, ◌≡◌, cond, ◌≢◌, List, [], ◌∷◌, ◌++◌, length, get_or, eqb, Option, MatchOption}
 use Rattle.plain.specs.Library.{none}
 use Rattle.plain.specs.Numbers.{NONE, LIMIT}
 use Rattle.shape.specs.Columns.{Sized, end_at, next_at, last_at}
@@ -57,6 +57,10 @@ pub record EndsReadable (ws : List ℕ) (ce x : ℕ) : Type 0 where
 -- the first and the last entry of a node's ring, NONE twice where it is empty
 unfoldable pub ring_ends : List ℕ → ℕ → ℕ → RingEnds
 ring_ends ws ce x = record { first = cond (eqb (last_at ws ce x) NONE) NONE (next_at ws ce (last_at ws ce x)); last = last_at ws ce x }
+
+-- What is read of them: nothing of an empty ring.
+abbrev pub EndsRead : List ℕ → ℕ → ℕ → Option RingEnds → Type 0
+EndsRead ws ce x r = MatchOption r (last_at ws ce x ≡ NONE) (λ ends. (last_at ws ce x ≢ NONE) × (ends ≡ ring_ends ws ce x))
 
 -- What it takes to forget a node's ring.
 pub record Detachable (ws : List ℕ) (ce node : ℕ) : Type 0 where

@@ -3,7 +3,6 @@
 
 #![tactic(auto)]
 
-pub mod axis;
 pub mod clear;
 pub mod index;
 pub mod reads;

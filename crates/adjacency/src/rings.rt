@@ -2,12 +2,11 @@
 // edge's link leads to the first. So an append takes constant time and the ring is read in the order of appending. What a call asks and promises of the words
 // is a record of specs/Rings.antt; `edge_capacity` and `node_capacity` are those of the axis.
 
-ghost use Rattle.std.specs.Prelude.{◌≡◌};
-ghost use Rattle.adjacency.specs.Rings.{Appendable, Appended, Openable, Opened, EndsReadable, ring_ends as ends_of, Detachable, Detached};
+ghost use Rattle.adjacency.specs.Rings.{Appendable, Appended, Openable, Opened, EndsReadable, EndsRead, Detachable, Detached};
 
 use plain::NONE;
 
-// The first and the last edge of a ring; both NONE where it is empty.
+// The first and the last edge of a ring that is not empty.
 #[derive(Clone, Copy)]
 pub struct RingEnds {
     pub first: u32,
@@ -51,24 +50,19 @@ pub fn open_node(axis: &mut [u32], edge_capacity: usize, node_capacity: usize, n
     axis[4 * edge_capacity + 4 * node_capacity + node] = 0;
 }
 
-// The ends of the node's ring.
-pub fn ring_ends(axis: &[u32], edge_capacity: usize, node: usize) -> RingEnds
+// The ends of the node's ring, None where it is empty.
+pub fn ring_ends(axis: &[u32], edge_capacity: usize, node: usize) -> Option<RingEnds>
     requires { EndsReadable axis.now edge_capacity node }
-    ensures { result ≡ ends_of axis.now edge_capacity node }
+    ensures { EndsRead axis.now edge_capacity node result }
 {
-    let at = 4 * edge_capacity + node;
-    let last = axis[at];
+    let last = axis[4 * edge_capacity + node];
     if last == NONE {
-        return RingEnds {
-            first: NONE,
-            last: NONE,
-        };
+        return None;
     }
-    let to = 2 * edge_capacity + last as usize;
-    RingEnds {
-        first: axis[to],
+    Some(RingEnds {
+        first: axis[2 * edge_capacity + last as usize],
         last: last,
-    }
+    })
 }
 
 // Forgets the node's ring, whose edges a run has taken over.

@@ -2,17 +2,21 @@
 // ends. Both directions use the same functions with the one axis or the other. `edge_capacity` and `node_capacity` are those of the axis; `live` says whether the node
 // is live.
 
-ghost use Rattle.std.specs.Prelude.{◌≤◌, ◌≡◌, map, length};
+ghost use Rattle.std.specs.Prelude.{◌≤◌, ◌≡◌, cond, [], map, length, unwrap_or};
+ghost use Rattle.plain.specs.Numbers.{NONE as none};
 ghost use Rattle.plain.specs.Lists.{written};
 ghost use Rattle.shape.specs.Columns.{end_at};
+ghost use Rattle.shape.specs.Shape.{adjacency_in, raw};
 ghost use Rattle.cursor.specs.Cursor.{ListWritten};
 ghost use Rattle.adjacency.specs.Walk.{walk_in, tombstoned_in, entries_column, next_column, ColumnsThere, Readable, Walkable, WalkFits, WalkSummable, Started};
 ghost use Rattle.cursor.specs.Finding.{first_of, ends_at};
 ghost use Rattle.cursor.specs.Summing.{sums_of};
 
 use crate::{index, rings};
-use cursor::{AdjacencyCursor, Start, Sums};
-use plain::Counts;
+use cursor::edges::AdjacentEdges;
+use cursor::entries::Entries;
+use cursor::{AdjacencyCursor, Start};
+use plain::{Counts, NONE, Sums};
 
 // Whether some edge is removed.
 pub fn tombstoned(counts: Counts) -> bool
@@ -36,10 +40,13 @@ pub fn start(
     if !live {
         return Start {
             linked: false,
-            cursor: AdjacencyCursor::exhausted(),
+            cursor: AdjacencyCursor::EXHAUSTED,
         };
     }
-    let ring = rings::ring_ends(axis, edge_capacity, node);
+    let (delta, delta_last) = match rings::ring_ends(axis, edge_capacity, node) {
+        Some(ring) => (ring.first, ring.last),
+        None => (NONE, NONE),
+    };
     let mark = axis[4 * edge_capacity + 4 * node_capacity + node];
     if mark != 0 {
         return Start {
@@ -47,8 +54,8 @@ pub fn start(
             cursor: AdjacencyCursor {
                 base: axis[4 * edge_capacity + node_capacity + node],
                 base_end: axis[4 * edge_capacity + 3 * node_capacity + node],
-                delta: ring.first,
-                delta_last: ring.last,
+                delta: delta,
+                delta_last: delta_last,
             },
         };
     }
@@ -64,8 +71,8 @@ pub fn start(
         cursor: AdjacencyCursor {
             base: bounds.start,
             base_end: bounds.end,
-            delta: ring.first,
-            delta_last: ring.last,
+            delta: delta,
+            delta_last: delta_last,
         },
     }
 }
@@ -94,6 +101,47 @@ pub fn next_of(axis: &[u32], edge_capacity: usize) -> &[u32]
     &axis[from..to]
 }
 
+// The entries of a live node's adjacency, dead ones included: of its run or base part, and then of its ring.
+pub fn entries(
+    axis: &[u32],
+    edge_capacity: usize,
+    node_capacity: usize,
+    counts: Counts,
+    node: usize,
+    live: bool,
+) -> Entries<'_>
+    requires { Readable axis.now edge_capacity node_capacity counts node }
+    ensures { result ≡ cond live (raw (adjacency_in axis.now edge_capacity node_capacity counts node)) [] }
+{
+    let start = start(axis, edge_capacity, node_capacity, counts, node, live);
+    Entries::of(
+        start.cursor,
+        start.linked,
+        entries_of(axis, edge_capacity, start.linked),
+        next_of(axis, edge_capacity),
+    )
+}
+
+// The walk over a node's adjacency: the listed ones of its entries.
+pub fn edges<'a>(
+    axis: &'a [u32],
+    edge_capacity: usize,
+    node_capacity: usize,
+    counts: Counts,
+    live_edges: &'a [u64],
+    node: usize,
+    live: bool,
+) -> AdjacentEdges<'a>
+    requires { Walkable axis.now edge_capacity node_capacity counts live_edges.now node }
+    ensures { result ≡ walk_in axis.now edge_capacity node_capacity counts live_edges.now node live }
+{
+    entries(axis, edge_capacity, node_capacity, counts, node, live).listed(
+        tombstoned(counts),
+        live_edges,
+        counts.edges.bound as usize,
+    )
+}
+
 // How many entries a node's walk has.
 pub fn count_walk(
     axis: &[u32],
@@ -107,12 +155,16 @@ pub fn count_walk(
     requires { Walkable axis.now edge_capacity node_capacity counts live_edges.now node }
     ensures { result ≡ length (walk_in axis.now edge_capacity node_capacity counts live_edges.now node live) }
 {
-    let start = start(axis, edge_capacity, node_capacity, counts, node, live);
-    let linked = start.linked;
-    let slots = counts.edges.bound as usize;
-    let entries = entries_of(axis, edge_capacity, linked);
-    let next = next_of(axis, edge_capacity);
-    start.cursor.count(linked, entries, next, tombstoned(counts), live_edges, slots)
+    edges(
+        axis,
+        edge_capacity,
+        node_capacity,
+        counts,
+        live_edges,
+        node,
+        live,
+    )
+    .count()
 }
 
 // Writes a node's walk to the start of `out`, and answers its length. The caller knows that it fits.
@@ -129,20 +181,16 @@ pub fn write_walk(
     requires { WalkFits axis.now edge_capacity node_capacity counts live_edges.now node live out.old }
     ensures { ListWritten (walk_in axis.now edge_capacity node_capacity counts live_edges.now node live) out.old result out.new }
 {
-    let start = start(axis, edge_capacity, node_capacity, counts, node, live);
-    let linked = start.linked;
-    let slots = counts.edges.bound as usize;
-    let entries = entries_of(axis, edge_capacity, linked);
-    let next = next_of(axis, edge_capacity);
-    start.cursor.write(
-        linked,
-        entries,
-        next,
-        tombstoned(counts),
+    edges(
+        axis,
+        edge_capacity,
+        node_capacity,
+        counts,
         live_edges,
-        slots,
-        out,
+        node,
+        live,
     )
+    .write(out)
 }
 
 // Writes the far ends of a node's walk to the start of `out`: successors, or predecessors. `far` is the axis of the other direction.
@@ -161,21 +209,16 @@ pub fn write_neighbors(
     requires edge_capacity_in_bounds { edge_capacity ≤ length far.now }
     ensures { out.new ≡ written (map (end_at far.now) (walk_in axis.now edge_capacity node_capacity counts live_edges.now node live)) out.old }
 {
-    let start = start(axis, edge_capacity, node_capacity, counts, node, live);
-    let linked = start.linked;
-    let slots = counts.edges.bound as usize;
-    let entries = entries_of(axis, edge_capacity, linked);
-    let next = next_of(axis, edge_capacity);
-    start.cursor.write_ends(
-        linked,
-        entries,
-        next,
-        tombstoned(counts),
+    edges(
+        axis,
+        edge_capacity,
+        node_capacity,
+        counts,
         live_edges,
-        slots,
-        far,
-        out,
-    );
+        node,
+        live,
+    )
+    .write_ends(far, out);
 }
 
 // The degree of a node: how many entries its walk has. Where no edge is removed, only the ring is walked.
@@ -203,12 +246,10 @@ pub fn degree(
         );
     }
     let start = start(axis, edge_capacity, node_capacity, counts, node, live);
-    let next = next_of(axis, edge_capacity);
-    let ring = start.cursor.with_base(0, 0);
-    start.cursor.part_count(start.linked) + ring.count(false, next, next, false, live_edges, 0)
+    start.cursor.part_count(start.linked) + start.cursor.ring_count(next_of(axis, edge_capacity))
 }
 
-// The first entry of a node's walk whose far end is `end`, NONE where there is none. `far` is the axis of the other direction.
+// The first entry of a node's walk whose far end is `end`. `far` is the axis of the other direction.
 pub fn find(
     axis: &[u32],
     far: &[u32],
@@ -219,26 +260,21 @@ pub fn find(
     node: usize,
     live: bool,
     end: u32,
-) -> u32
+) -> Option<u32>
     requires walkable { Walkable axis.now edge_capacity node_capacity counts live_edges.now node }
     requires edge_capacity_in_bounds { edge_capacity ≤ length far.now }
-    ensures { result ≡ first_of (ends_at far.now end) (walk_in axis.now edge_capacity node_capacity counts live_edges.now node live) }
+    ensures { unwrap_or result none ≡ first_of (ends_at far.now end) (walk_in axis.now edge_capacity node_capacity counts live_edges.now node live) }
 {
-    let start = start(axis, edge_capacity, node_capacity, counts, node, live);
-    let linked = start.linked;
-    let slots = counts.edges.bound as usize;
-    let entries = entries_of(axis, edge_capacity, linked);
-    let next = next_of(axis, edge_capacity);
-    start.cursor.find(
-        linked,
-        entries,
-        next,
-        tombstoned(counts),
+    edges(
+        axis,
+        edge_capacity,
+        node_capacity,
+        counts,
         live_edges,
-        slots,
-        far,
-        end,
+        node,
+        live,
     )
+    .find_end(far, end)
 }
 
 // The sum of the lowest and the sum of the highest weights of a node's walk.
@@ -256,19 +292,14 @@ pub fn total(
     requires { WalkSummable axis.now edge_capacity node_capacity counts live_edges.now node live lows.now highs.now }
     ensures { result ≡ sums_of lows.now highs.now (walk_in axis.now edge_capacity node_capacity counts live_edges.now node live) }
 {
-    let start = start(axis, edge_capacity, node_capacity, counts, node, live);
-    let linked = start.linked;
-    let slots = counts.edges.bound as usize;
-    let entries = entries_of(axis, edge_capacity, linked);
-    let next = next_of(axis, edge_capacity);
-    start.cursor.total(
-        linked,
-        entries,
-        next,
-        tombstoned(counts),
+    edges(
+        axis,
+        edge_capacity,
+        node_capacity,
+        counts,
         live_edges,
-        slots,
-        lows,
-        highs,
+        node,
+        live,
     )
+    .total(lows, highs)
 }

@@ -1,3 +1,3 @@
+mod Going
+mod Writing
 mod Summing
-mod Seeking
-mod Reading

@@ -1,15 +1,12 @@
--- The cursor of a walk over one node's adjacency: what it has still to read, one step of it, and the search for the next listed entry. The columns are
+-- The cursor of a walk over one node's adjacency: what it has still to read, one step of it, and which entries are listed. The columns are
 -- slices of their own: `entries` is the run links where the walk is linked, else the compressed index's edge numbers; `next` is the ring links.
-use Rattle.std.specs.Prelude.{ℕ, ◌+◌, ◌-◌, ◌*◌, ◌≤◌, ◌<◌, ◌≡◌, Bool, true, false, cond, ◌⊎◌, List, [], ◌∷◌, ◌++◌, length, get_or, eqb, ltb}
+use Rattle.std.specs.Prelude.{ℕ, ◌+◌, ◌-◌, ◌*◌, ◌≤◌, ◌<◌, ◌≡◌, Bool, true, false, cond, ◌⊎◌, List, [], ◌++◌, length, get_or, eqb, ltb, Option, None, Some}
 use Rattle.plain.specs.Numbers.{NONE, LIMIT}
 use Rattle.plain.specs.Lists.{keep, written}
 use Rattle.liveness.specs.Flags.{live_flags}
 use Rattle.shape.specs.Chains.{chain, until, In}
 use Rattle.shape.specs.Shape.{between, live_in}
 use Rattle.cursor.specs.declared.AdjacencyCursor.{AdjacencyCursor}
-use Rattle.cursor.specs.declared.Found.{Found}
-use Rattle.cursor.specs.declared.Found.TheVariants.{Edge, Done}
-use Rattle.cursor.specs.declared.Step.{Step}
 
 -- a column that is handed out as a slice of its own
 abbrev pub word : List ℕ → ℕ → ℕ
@@ -50,25 +47,16 @@ abbrev pub delta_at : AdjacencyCursor → ℕ → AdjacencyCursor
 delta_at c at = record { base = c.base; base_end = c.base_end; delta = at; delta_last = c.delta_last }
 
 -- the next entry of the ring, and the cursor behind it
-abbrev pub ring_step : List ℕ → AdjacencyCursor → Step
+abbrev pub ring_step : List ℕ → AdjacencyCursor → Option ℕ × AdjacencyCursor
 ring_step next c =
-    cond (eqb c.delta NONE)
-    (record { cursor = c; found = Done })
-    (record { cursor = delta_at c (cond (eqb c.delta c.delta_last) NONE (word next c.delta)); found = Edge c.delta })
+    cond (eqb c.delta NONE) (None, c) (Some c.delta, delta_at c (cond (eqb c.delta c.delta_last) NONE (word next c.delta)))
 
 -- the next entry of the run or the base part, else of the ring
-unfoldable pub step_of : Bool → List ℕ → List ℕ → AdjacencyCursor → Step
+unfoldable pub step_of : Bool → List ℕ → List ℕ → AdjacencyCursor → Option ℕ × AdjacencyCursor
 step_of true entries next c =
-    cond (eqb c.base_end 0) (ring_step next c)
-    (record { cursor = base_at c (word entries c.base) (c.base_end - 1); found = Edge c.base })
+    cond (eqb c.base_end 0) (ring_step next c) (Some c.base, base_at c (word entries c.base) (c.base_end - 1))
 step_of false entries next c =
-    cond (ltb c.base c.base_end) (record { cursor = base_at c (c.base + 1) c.base_end; found = Edge (word entries c.base) })
-    (ring_step next c)
-
--- what was found, with what is left behind it
-abbrev pub found_then : Found → List ℕ → List ℕ
-found_then Done rest = []
-found_then (Edge e) rest = e ∷ rest
+    cond (ltb c.base c.base_end) (Some (word entries c.base), base_at c (c.base + 1) c.base_end) (ring_step next c)
 
 -- what the columns hold of the run or the base part
 abbrev pub PartWithin : Bool → List ℕ → List ℕ → ℕ → ℕ → Type 0
@@ -97,28 +85,16 @@ listed tombstoned flags e = cond tombstoned (live_in flags e) true
 abbrev pub listed_left : Bool → List ℕ → List ℕ → Bool → List ℕ → ℕ → AdjacencyCursor → List ℕ
 listed_left linked entries next tombstoned live slots c = keep (listed tombstoned (live_flags live slots)) (remaining linked entries next c)
 
--- a list from its first entry on that passes a test
-unfoldable pub from_first : (ℕ → Bool) → List ℕ → List ℕ
-from_first test [] = []
-from_first test (x ∷ xs) = cond (test x) (x ∷ xs) (from_first test xs)
-
 -- What it takes to read the listed entries of a walk.
 pub record Seekable (linked : Bool) (entries next live : List ℕ) (slots : ℕ) (c : AdjacencyCursor) : Type 0 where
   pub ready : Ready linked entries next c
   pub live_long : slots ≤ 64 * length live
 
--- What it takes to write them to a slice: room for all.
-pub record Writable (linked : Bool) (entries next : List ℕ) (tombstoned : Bool) (live : List ℕ) (slots : ℕ) (c : AdjacencyCursor) (out : List ℕ)
-    : Type 0 where
-  pub seekable : Seekable linked entries next live slots c
-  pub fits : length (listed_left linked entries next tombstoned live slots c) ≤ length out
+-- each edge of a list has a word in a column
+abbrev pub Within : List ℕ → List ℕ → Type 0
+Within column edges = (e : ℕ) → In e edges → e < length column
 
 -- A list written to the start of a slice, and its length.
 pub record ListWritten (list entry : List ℕ) (size : ℕ) (exit : List ℕ) : Type 0 where
   pub counted : size ≡ length list
   pub wrote : exit ≡ written list entry
-
--- What a search for the next entry that passes finds: the walk from that entry on is the entry and what the cursor left has to read.
-pub record Sought (test : ℕ → Bool) (linked : Bool) (entries next : List ℕ) (c : AdjacencyCursor) (s : Step) : Type 0 where
-  pub ready : Ready linked entries next s.cursor
-  pub left : from_first test (remaining linked entries next c) ≡ found_then s.found (remaining linked entries next s.cursor)

@@ -88,7 +88,7 @@ pub enum Operation {
 
 // The counts of one kind of slot: all slots, those that the compressed base holds, those that are live.
 #[repr(C)]
-#[derive(Clone, Copy)]
+#[derive(Clone, Copy, Default)]
 pub struct Slots {
     pub bound: u32,
     pub base: u32,
@@ -110,7 +110,7 @@ impl Slots {
 
 // The counts of a store, by value beside its seven slices. Any values are legal input: the check judges them.
 #[repr(C)]
-#[derive(Clone, Copy)]
+#[derive(Clone, Copy, Default)]
 pub struct Counts {
     pub nodes: Slots,
     pub edges: Slots,

@@ -17,10 +17,9 @@ use Rattle.shape.specs.Columns.{cell}
 use Rattle.shape.specs.Chains.{In}
 use Rattle.shape.specs.Shape.{adjacency_in, part, raw, live_in}
 use Rattle.shape.proofs.Laws.Chains.{in_none}
-use Rattle.cursor.specs.declared.AdjacencyCursor.{AdjacencyCursor}
 use Rattle.cursor.specs.declared.Start.{Start}
-use Rattle.cursor.specs.Cursor.{word, part_left, part_count, ring_left, remaining, base_at, listed, listed_left, Seekable, Writable}
-use Rattle.cursor.specs.Laws.Cursor.{part_counted, ring_remaining}
+use Rattle.cursor.specs.Cursor.{word, part_left, part_count, ring_left, remaining, listed, listed_left, Within, Seekable}
+use Rattle.cursor.specs.Laws.Cursor.{part_counted}
 use Rattle.cursor.specs.Laws.Reading.{kept_short}
 use Rattle.adjacency.specs.Walk.{walk_in, tombstoned_in, column, entries_column, next_column, Readable, Walkable, Started}
 
@@ -94,24 +93,28 @@ module _ {ws : List ℕ} {ce cn : ℕ} {counts : Counts} {live_edges : List ℕ}
       (and_left (member e (raw (adjacency_in ws ce cn counts x))) (live_in flags e) (sym (member_keep (live_in flags) e (raw (adjacency_in ws ce cn counts x))) ∙ m))
   walk_below false e m = in_none e m
 
+  -- so a column with a word for each edge has one for each edge of a walk
+  pub walk_within : (live : Bool) (column : List ℕ) → ce ≤ length column → Within column (walk_in ws ce cn counts live_edges x live)
+  walk_within live column long e m = let low = walk_below live e m in let bounded = w.readable.edges in omega arith
+
+  -- the listed ones of a live node's entries are its walk
+  pub listed_walk : (live : Bool)
+      → keep (listed (tombstoned_in counts) flags) (cond live (raw (adjacency_in ws ce cn counts x)) []) ≡ walk_in ws ce cn counts live_edges x live
+  unfolding keep
+  listed_walk true =
+      keep_agree (listed (tombstoned_in counts) flags) (live_in flags) (raw (adjacency_in ws ce cn counts x))
+      (λ e m. listed_live e (read_below w.readable e m))
+  listed_walk false = refl
+
   module _ {live : Bool} {s : Start} (t : Started ws ce cn counts x live s) where
     -- the listed entries of it are the node's walk
     pub started_walk : listed_left s.linked (entries_column ws ce s.linked) (next_column ws ce) (tombstoned_in counts) live_edges
         counts.edges.bound s.cursor ≡ walk_in ws ce cn counts live_edges x live
-    unfolding keep
-    started_walk = rw (started_left t) (kept live)
-      where
-        kept : (b : Bool) → keep (listed (tombstoned_in counts) flags) (cond b (raw (adjacency_in ws ce cn counts x)) [])
-            ≡ cond b (keep (live_in flags) (raw (adjacency_in ws ce cn counts x))) []
-        kept true =
-            keep_agree (listed (tombstoned_in counts) flags) (live_in flags) (raw (adjacency_in ws ce cn counts x))
-            (λ e m. listed_live e (read_below w.readable e m))
-        kept false = refl
+    started_walk = rw (started_left t) (listed_walk live)
 
     -- where no edge is removed, the walk is as long as the run or base part and the ring together
     started_degree : tombstoned_in counts ≡ false
-        → part_count s.linked s.cursor.base s.cursor.base_end
-        + length (listed_left false (next_column ws ce) (next_column ws ce) false live_edges 0 (base_at s.cursor 0 0))
+        → part_count s.linked s.cursor.base s.cursor.base_end + length (ring_left (next_column ws ce) s.cursor.delta s.cursor.delta_last)
         ≡ length (walk_in ws ce cn counts live_edges x live)
     unfolding remaining
     started_degree whole =
@@ -121,8 +124,6 @@ module _ {ws : List ℕ} {ce cn : ℕ} {counts : Counts} {live_edges : List ℕ}
         let all : walk_in ws ce cn counts live_edges x live ≡ before ++ ring = sym started_walk ∙ rw whole (keep_all (before ++ ring)) in
         let sum = ap length all ∙ length-append before ring in
         let size = part_counted s.linked entries s.cursor.base s.cursor.base_end in
-        let counted : length (keep (listed false (live_flags live_edges 0)) (remaining false (next_column ws ce) (next_column ws ce) (base_at s.cursor 0 0))) ≡ length ring
-        = ap length (keep_all (remaining false (next_column ws ce) (next_column ws ce) (base_at s.cursor 0 0)) ∙ ring_remaining (next_column ws ce) s.cursor) in
         omega arith
 
     -- a walk is short
@@ -132,10 +133,10 @@ module _ {ws : List ℕ} {ce cn : ℕ} {counts : Counts} {live_edges : List ℕ}
     -- ---- the same with columns that were handed out
 
     -- the degree, from the two counts
-    pub given_degree : {next : List ℕ} {a b : ℕ} {ring : AdjacencyCursor} → tombstoned_in counts ≡ false → next ≡ next_column ws ce
-        → ring ≡ base_at s.cursor 0 0 → a ≡ part_count s.linked s.cursor.base s.cursor.base_end
-        → b ≡ length (listed_left false next next false live_edges 0 ring) → a + b ≡ length (walk_in ws ce cn counts live_edges x live)
-    given_degree whole is-next is-ring of_part of-ring = rw (of_part, of-ring, is-next, is-ring) (started_degree whole)
+    pub given_degree : {next : List ℕ} {a b : ℕ} → tombstoned_in counts ≡ false → next ≡ next_column ws ce
+        → a ≡ part_count s.linked s.cursor.base s.cursor.base_end
+        → b ≡ length (ring_left next s.cursor.delta s.cursor.delta_last) → a + b ≡ length (walk_in ws ce cn counts live_edges x live)
+    given_degree whole is-next of_part of-ring = rw (of_part, of-ring, is-next) (started_degree whole)
 
     module _ {entries next : List ℕ} (are-entries : entries ≡ entries_column ws ce s.linked) (is-next : next ≡ next_column ws ce) where
       -- the walk can be read
@@ -146,9 +147,3 @@ module _ {ws : List ℕ} {ce cn : ℕ} {counts : Counts} {live_edges : List ℕ}
       pub given_walk : {tombstoned : Bool} → tombstoned ≡ tombstoned_in counts
           → listed_left s.linked entries next tombstoned live_edges counts.edges.bound s.cursor ≡ walk_in ws ce cn counts live_edges x live
       given_walk q = rw (are-entries, is-next, q) started_walk
-
-      -- and it can be written where there is room
-      pub given_writable : {tombstoned : Bool} {out : List ℕ} → tombstoned ≡ tombstoned_in counts
-          → length (walk_in ws ce cn counts live_edges x live) ≤ length out
-          → Writable s.linked entries next tombstoned live_edges counts.edges.bound s.cursor out
-      given_writable q h = record { seekable = given_seekable; fits = rw (given_walk q) h }

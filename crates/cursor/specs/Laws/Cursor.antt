@@ -1,35 +1,34 @@
 -- Laws of the cursor: a step finds the head of what remains and leaves the tail, and nothing is found exactly where nothing remains.
-use Rattle.std.specs.Prelude.{ℕ, ◌+◌, ◌-◌, ◌≤◌, ◌<◌, ◌≡◌, refl, Bool, true, false, List, [], ◌∷◌, ◌++◌, length, eqb, ltb}
+use Rattle.std.specs.Prelude.{ℕ, ◌+◌, ◌-◌, ◌≤◌, ◌≡◌, refl, Bool, true, false, List, [], ◌∷◌, ◌++◌, length, eqb, ltb, Option, Some}
+use Rattle.std.specs.Iterator.{YieldsFirst}
 use Rattle.plain.specs.Library.{sym, ap, ◌∙◌, subst, inl, inr, ⊎_elim, arith, eqb-true, eqb-false, ne_eqb, ltb-true}
 use Rattle.std.proofs.Common.{ltb-false}
 use Rattle.plain.specs.Numbers.{NONE}
-use Rattle.plain.specs.Lists.{member, keep}
+use Rattle.plain.specs.Lists.{member}
 use Rattle.plain.proofs.Laws.Booleans.{by_test, or_true}
-use Rattle.plain.proofs.Laws.ListLaws.{member_first, member_later, member_append}
+use Rattle.plain.proofs.Laws.ListLaws.{member_later, member_append}
 use Rattle.shape.specs.Chains.{until, In}
 use Rattle.shape.proofs.Laws.Chains.{chain_none, chain_some, chain_length}
 use Rattle.shape.proofs.Laws.Walking.{between_none, between_some, between_length, until_first, until_end, until_on}
 use Rattle.cursor.specs.declared.AdjacencyCursor.{AdjacencyCursor}
-use Rattle.cursor.specs.declared.Found.{Found}
-use Rattle.cursor.specs.declared.Found.TheVariants.{Edge, Done}
-use Rattle.cursor.specs.declared.Step.{Step}
-use Rattle.cursor.specs.Cursor.{word, part_left, part_count, ring_left, remaining, base_at, delta_at, ring_step, step_of, found_then, PartWithin, Closed, Ready}
+use Rattle.cursor.specs.Cursor.{word, part_left, part_count, ring_left, remaining, base_at, delta_at, ring_step, step_of, PartWithin, Closed, Ready}
 
 -- as many entries of the run or base part as the cursor's numbers tell
 pub part_counted : (linked : Bool) (entries : List ℕ) (at end : ℕ) → length (part_left linked entries at end) ≡ part_count linked at end
 part_counted true entries at end = chain_length (word entries) end at
 part_counted false entries at end = between_length (word entries) at end
 
--- What a step from c leaves: the entry found stands before what the cursor left has to read, and that is ready too.
-pub record Stepped (linked : Bool) (entries next : List ℕ) (c : AdjacencyCursor) (s : Step) : Type 0 where
-  pub ready : Ready linked entries next s.cursor
-  pub left : remaining linked entries next c ≡ found_then s.found (remaining linked entries next s.cursor)
+-- What a step from c leaves: an entry found stands before what the cursor left has to read, nothing is found exactly where nothing is left, and the
+-- cursor left is ready too.
+pub record Stepped (linked : Bool) (entries next : List ℕ) (c : AdjacencyCursor) (s : Option ℕ × AdjacencyCursor) : Type 0 where
+  pub ready : Ready linked entries next s.1
+  pub left : YieldsFirst (remaining linked entries next) c s.0 s.1
 
 module _ {linked : Bool} {entries next : List ℕ} {c : AdjacencyCursor} (r : Ready linked entries next c) where
   -- an entry e found, and the cursor d behind it
   stepped : (e : ℕ) (d : AdjacencyCursor) → d.base_end ≤ NONE → PartWithin linked entries next d.base d.base_end
       → Closed next d.delta d.delta_last → remaining linked entries next c ≡ e ∷ remaining linked entries next d
-      → Stepped linked entries next c (record { cursor = d; found = Edge e })
+      → Stepped linked entries next c (Some e, d)
   stepped e d short part closed left =
       record {
         ready = record {
@@ -57,7 +56,7 @@ module _ {linked : Bool} {entries next : List ℕ} {c : AdjacencyCursor} (r : Re
       closed q = ⊎_elim (λ e. absurd (eqb-false c.delta NONE q e)) (λ m. m) r.closed
 
       at_end : eqb c.delta NONE ≡ true → Stepped linked entries next c (ring_step next c)
-      at_end q = rw q (record { ready = r; left = rw (none, q) })
+      at_end q = rw q (record { ready = r; left = (rw (none, q), rw (none, q)) })
 
       at_last : eqb c.delta NONE ≡ false → In last (ring c.delta) → eqb c.delta last ≡ true → Stepped linked entries next c (ring_step next c)
       at_last q m e =
@@ -96,34 +95,13 @@ step_stepped false {entries} {next} {c} r =
     (ap (λ (l : List ℕ). l ++ ring_left next c.delta c.delta_last) (between_some (word entries) c.base c.base_end some))))
     (λ q. rw q (ring_stepped r (between_none (word entries) c.base c.base_end (ltb-false c.base c.base_end q))))
 
--- ---- a loop that steps: what each turn finds
+-- ---- a step that was taken
 
-module _ {linked : Bool} {entries next : List ℕ} {c : AdjacencyCursor} (ready : Ready linked entries next c) {s : Step}
-    (r : s ≡ step_of linked entries next c) where
+module _ {linked : Bool} {entries next : List ℕ} {c : AdjacencyCursor} (ready : Ready linked entries next c) {found : Option ℕ} {d : AdjacencyCursor}
+    (r : (found, d) ≡ step_of linked entries next c) where
   -- what the step left
-  pub turn : Stepped linked entries next c s
-  turn = subst (λ (t : Step). Stepped linked entries next c t) (sym r) (step_stepped linked ready)
-
-  -- what was found stands before what is left
-  pub found_is : {f : Found} → s.found ≡ f → remaining linked entries next c ≡ found_then f (remaining linked entries next s.cursor)
-  found_is q = turn.left ∙ ap (λ (f : Found). found_then f (remaining linked entries next s.cursor)) q
-
-  -- less is left
-  pub turn_less : {e : ℕ} → s.found ≡ Edge e → length (remaining linked entries next s.cursor) < length (remaining linked entries next c)
-  turn_less {e} q = rw (found_is q) (omega arith)
-
-  -- an entry stands before what is left, of the entries that pass
-  pub step_edge : (test : ℕ → Bool) {e : ℕ} → s.found ≡ Edge e → keep test (remaining linked entries next c) ≡ keep test (e ∷ remaining linked entries next s.cursor)
-  step_edge test q = ap (keep test) (found_is q)
-
-  -- nothing was left
-  pub step_none : (test : ℕ → Bool) → s.found ≡ Done → keep test (remaining linked entries next c) ≡ []
-  unfolding keep
-  step_none test q = ap (keep test) (found_is q)
-
-  -- an entry is an edge of the columns
-  pub step_below : {e : ℕ} → s.found ≡ Edge e → e < length next
-  step_below {e} q = ready.below e (rw (found_is q) (member_first e (remaining linked entries next s.cursor)))
+  pub turn : Stepped linked entries next c (found, d)
+  turn = subst (λ (t : Option ℕ × AdjacencyCursor). Stepped linked entries next c t) (sym r) (step_stepped linked ready)
 
 -- ---- the search for the next entry that passes
 

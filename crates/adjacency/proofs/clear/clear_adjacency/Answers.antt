@@ -1,11 +1,13 @@
--- `adjacency::clear::clear_adjacency` meets its contract: the entries of the started walk made dead are the node's walk made dead.
-use Rattle.adjacency.proofs.Clearing.{started_clearable, started_retired}
+-- `adjacency::clear::clear_adjacency` meets its contract: the entries made dead are the node's walk made dead.
+use Rattle.std.specs.Prelude.{true}
+use Rattle.shape.specs.Shape.{adjacency_in}
+use Rattle.adjacency.specs.Laws.Clear.{retired_walk}
+use Rattle.adjacency.proofs.Clearing.{entries_clearable}
 use Rattle.adjacency.proofs.clear.clear_adjacency.Goals as goal
 
 pub clear_left-requires : goal.clear_left-requires
-clear_left-requires c =
-    started_clearable c.requires c.start-start.ensures
+clear_left-requires c = entries_clearable c.requires
 
 pub returns : goal.returns
-returns c =
-    started_retired c.requires c.start-start.ensures c.clear_left.ensures
+returns c = let a = c.args in
+    retired_walk true (adjacency_in a.axis.now a.edge_capacity a.node_capacity a.counts a.node) (rw c.entries-entries.ensures at c.clear_left.ensures)

@@ -1,31 +1,25 @@
--- `adjacency::clear::clear_left` meets its contract. The loop's invariant is `Clearing`, the measure how many entries remain.
+-- `adjacency::clear::clear_left` meets its contract. The loop's invariant is `Clearing`.
+use Rattle.std.proofs.Common.{add-zero}
 use Rattle.plain.specs.Library.{arith}
-use Rattle.cursor.specs.Laws.Reading.{sought_less}
 use Rattle.adjacency.specs.Laws.Clear.{retired_then}
-use Rattle.adjacency.proofs.Clearing.{clearing_start, clearing_next, clearing_on, clearing_end, retired_few}
+use Rattle.adjacency.proofs.Clearing.{clearing_start, clearing_on, clearing_end, retired_few}
 use Rattle.adjacency.proofs.clear.clear_left.Goals as goal
 
 pub loop-edge-init : goal.loop-edge-init
-loop-edge-init c = clearing_start c.args.slots c.args.live_edges.now c.requires.advanceable.seekable.ready
-
-pub next_listed-step-requires : goal.next_listed-step-requires
-next_listed-step-requires c = clearing_next c.requires c.loop-edge.invariant
-
-pub retire-n-requires : goal.retire-n-requires
-retire-n-requires c =
-    (clearing_next c.requires c.loop-edge.invariant).seekable.live_long
+loop-edge-init c = rw c.into_iter-edge-iterator.ensures.into_iter_gives (clearing_start c.args.entries c.args.slots c.args.live_edges.now)
 
 pub overflow_add-n : goal.overflow_add-n
 overflow_add-n c =
-    omega (arith, retired_few (retired_then c.loop-edge.invariant.retired c.retire-n.ensures), c.requires.few)
+    let gone = rw c.if-retire.true at c.retire.ensures in
+    omega (arith, retired_few (retired_then c.loop-edge.invariant.retired gone), c.requires.few)
 
-pub returns-in-Done : goal.returns-in-Done
-returns-in-Done c = clearing_end c.loop-edge.invariant c.next_listed-step.ensures c.in-Done.is
-
-pub loop-edge-smaller : goal.loop-edge-smaller
-loop-edge-smaller c =
-    sought_less c.next_listed-step.ensures c.in-Edge.is
+pub loop-edge-preserved-then-retire : goal.loop-edge-preserved-then-retire
+loop-edge-preserved-then-retire c = clearing_on c.loop-edge.invariant c.in-Some.ensures.steps (rw c.if-retire.true at c.retire.ensures)
 
 pub loop-edge-preserved : goal.loop-edge-preserved
 loop-edge-preserved c =
-    clearing_on c.loop-edge.invariant c.next_listed-step.ensures c.in-Edge.is c.retire-n.ensures
+    let next = clearing_on c.loop-edge.invariant c.in-Some.ensures.steps (rw c.if-retire.false at c.retire.ensures) in
+    rw add-zero at next
+
+pub returns : goal.returns
+returns c = clearing_end c.loop-edge.invariant c.in-None.ensures.steps.0

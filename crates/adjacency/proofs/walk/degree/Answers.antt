@@ -8,16 +8,13 @@ use Rattle.adjacency.proofs.walk.degree.Goals as goal
 pub part_count-requires : goal.part_count-requires
 part_count-requires c = λ q. (base_within c.start-start.ensures.ready q).0
 
-pub count-requires : goal.count-requires
-count-requires c =
-    rw (c.with_base-ring.ensures, c.next_of-next.ensures)
-    (record { ready = ring_ready c.start-start.ensures.ready; live_long = omega arith })
+pub ring_count-requires : goal.ring_count-requires
+ring_count-requires c = rw c.next_of.ensures (ring_ready c.start-start.ensures.ready)
 
 pub returns : goal.returns
 returns c =
     given_degree c.requires c.start-start.ensures (sym c.tombstoned.ensures ∙ c.if-tombstoned.false)
-    c.next_of-next.ensures c.with_base-ring.ensures c.part_count.ensures c.count.ensures
+    c.next_of.ensures c.part_count.ensures c.ring_count.ensures
 
 pub overflow_add-result : goal.overflow_add-result
-overflow_add-result c =
-    omega (arith, returns c, walk_short c.requires c.start-start.ensures)
+overflow_add-result c = omega (arith, returns c, walk_short c.requires c.start-start.ensures)

@@ -1,0 +1,6 @@
+-- `write` of the listed edges: the loop's invariant is `Writing`, with each edge itself.
+use Rattle.cursor.proofs.Writing.{Writing}
+use Rattle.cursor.proofs.edges.AdjacentEdges.write.Given as goal
+
+abbrev pub invariant-loop-edge : goal.invariant-loop-edge
+invariant-loop-edge l = Writing (λ e. e) l.fn.self l.yielded l.edge-iterator l.fn.out l.out l.n

@@ -1,0 +1,58 @@
+// The entries of a walk, dead ones included, as an iterator: a cursor with the two columns that it steps over.
+
+ghost use Rattle.std.specs.Prelude.{◌≡◌, ℕ, List};
+ghost use Rattle.std.specs.Iterator.{YieldsFirst, item_count};
+ghost use Rattle.cursor.specs.Cursor.{remaining as left, Ready};
+
+use crate::AdjacencyCursor;
+use std::marker::Model;
+
+// What a cursor has still to read, seen as the list of those entries.
+#[derive(Drop)]
+pub struct Entries<'a> {
+    cursor: AdjacencyCursor,
+    // Whether the node has a run. If so, `entries` is the link column, else the adjacency column.
+    linked: bool,
+    entries: &'a [u32],
+    next: &'a [u32],
+}
+
+impl<'a> Model for Entries<'a> {
+    ghost Value = { List ℕ };
+
+    ghost view = { λ s. left s.linked s.entries.now s.next.now s.cursor };
+
+    ghost invariant = { λ s. Ready s.linked s.entries.now s.next.now s.cursor };
+}
+
+impl<'a> Entries<'a> {
+    pub fn of(
+        cursor: AdjacencyCursor,
+        linked: bool,
+        entries: &'a [u32],
+        next: &'a [u32],
+    ) -> Entries<'a>
+        requires { Ready linked entries.now next.now cursor }
+        ensures { result ≡ left linked entries.now next.now cursor }
+    {
+        Entries {
+            cursor: cursor,
+            linked: linked,
+            entries: entries,
+            next: next,
+        }
+    }
+}
+
+impl<'a> Iterator for Entries<'a> {
+    type Item = u32;
+
+    ghost next_gives = { YieldsFirst (λ rest. rest) };
+
+    ghost remaining = { item_count (λ rest. rest) };
+
+    #[inline]
+    fn next(&mut self) -> Option<u32> {
+        self.cursor.step(self.linked, self.entries, self.next)
+    }
+}
