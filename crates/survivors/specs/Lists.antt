@@ -1,11 +1,10 @@
 -- The lists that compaction takes over from one direction, by the words of its axis: the walks of the live nodes, ring order included.
 use Rattle.std.specs.Prelude.{ℕ, ◌+◌, ◌*◌, ◌≤◌, ◌<◌, ◌≡◌, Bool, true, List, ◌++◌, map, length, take, drop}
 use Rattle.plain.specs.declared.Counts.{Counts}
-use Rattle.plain.specs.Lists.{joined}
+use Rattle.plain.specs.Lists.{joined, keep}
 use Rattle.plain.specs.Reads.{live_slots}
 use Rattle.liveness.specs.Flags.{live_flags}
-use Rattle.cursor.specs.declared.AdjacencyCursor.{AdjacencyCursor}
-use Rattle.cursor.specs.Cursor.{listed_left, Seekable}
+use Rattle.cursor.specs.Cursor.{listed}
 use Rattle.adjacency.specs.Walk.{walk_in, Walkable}
 
 -- the walks of the live nodes in slot order, one behind the other
@@ -22,11 +21,10 @@ pub record ListsFit (ws : List ℕ) (ce cn : ℕ) (counts : Counts) (live_nodes 
 
 -- ---- one walk behind what stands in a slice
 
--- What it takes to put a walk there: it can be read, and together with the first `from` words it is no longer than `total` words of the slice.
-pub record PutFits (linked : Bool) (entries next : List ℕ) (tombstoned : Bool) (live : List ℕ) (slots : ℕ) (c : AdjacencyCursor) (out : List ℕ) (total from : ℕ)
-    : Type 0 where
-  pub seekable : Seekable linked entries next live slots c
-  pub room : from + length (listed_left linked entries next tombstoned live slots c) ≤ total
+-- What it takes to put the listed ones of a walk's entries there: together with the first `from` words they are no more than `total` words of the slice.
+pub record PutFits (entries : List ℕ) (tombstoned : Bool) (live : List ℕ) (slots : ℕ) (out : List ℕ) (total from : ℕ) : Type 0 where
+  pub live_long : slots ≤ 64 * length live
+  pub room : from + length (keep (listed tombstoned (live_flags live slots)) entries) ≤ total
   pub within : total ≤ length out
 
 -- A list put behind the first `from` words of a slice, so that the first `end` are those and the list. Words from there up to `total` may have changed, others not.
