@@ -1,9 +1,11 @@
 -- The lists that compaction takes over from one direction, by the words of its axis: the walks of the live nodes, ring order included.
 use Rattle.std.specs.Prelude.{ℕ, ◌+◌, ◌*◌, ◌≤◌, ◌<◌, ◌≡◌, Bool, true, List, ◌++◌, map, length, take, drop}
 use Rattle.plain.specs.declared.Counts.{Counts}
+use Rattle.plain.specs.declared.TraversalDirection.{TraversalDirection}
 use Rattle.plain.specs.Lists.{joined, keep}
 use Rattle.plain.specs.Reads.{live_slots}
 use Rattle.liveness.specs.Flags.{live_flags}
+use Rattle.shape.specs.Shape.{Words, axis_words, edge_capacity, node_capacity}
 use Rattle.cursor.specs.Cursor.{listed}
 use Rattle.adjacency.specs.Walk.{walk_in, Walkable}
 
@@ -12,12 +14,16 @@ unfoldable pub live_walks : List ℕ → ℕ → ℕ → Counts → List ℕ →
 live_walks ws ce cn counts live_nodes live_edges =
     joined (map (λ x. walk_in ws ce cn counts live_edges x true) (live_slots (live_flags live_nodes counts.nodes.bound)))
 
+-- of a store in a direction, by the edges' old numbers
+abbrev pub walks_in : TraversalDirection → Words → List ℕ
+walks_in d w = live_walks (axis_words d w) (edge_capacity w) (node_capacity w) w.counts w.live_nodes w.live_edges
+
 -- What it takes to write them: each node can be walked, they have an entry a live edge, and there is room for all.
-pub record ListsFit (ws : List ℕ) (ce cn : ℕ) (counts : Counts) (live_nodes live_edges out : List ℕ) : Type 0 where
-  pub walkable : (x : ℕ) → x < counts.nodes.bound → Walkable ws ce cn counts live_edges x
-  pub live_long : counts.nodes.bound ≤ 64 * length live_nodes
-  pub counted : length (live_walks ws ce cn counts live_nodes live_edges) ≡ counts.edges.live
-  pub fits : counts.edges.live ≤ length out
+pub record ListsFit (d : TraversalDirection) (w : Words) (out : List ℕ) : Type 0 where
+  pub walkable : (x : ℕ) → x < w.counts.nodes.bound → Walkable (axis_words d w) (edge_capacity w) (node_capacity w) w.counts w.live_edges x
+  pub live_long : w.counts.nodes.bound ≤ 64 * length w.live_nodes
+  pub counted : length (walks_in d w) ≡ w.counts.edges.live
+  pub fits : w.counts.edges.live ≤ length out
 
 -- ---- one walk behind what stands in a slice
 
