@@ -4,7 +4,7 @@
 ghost use Rattle.std.specs.Prelude.{◌+◌, ◌*◌, ◌<◌, ◌≤◌, ◌≡◌, ◌++◌, length};
 ghost use Rattle.plain.specs.Bits.{bits_of, padding};
 ghost use Rattle.bits.specs.Wrote.{Wrote};
-ghost use Rattle.bits.specs.Penned.{Ready, Puts, Penned, fresh, reach, waiting};
+ghost use Rattle.bits.specs.Penned.{Ready, Puts, Penned, Written, fresh, reach, waiting};
 
 use crate::{cut, raise};
 
@@ -106,8 +106,7 @@ impl<'a> Writer<'a> {
     // Puts a value behind what was put, in `width` bits.
     pub fn put(&mut self, width: u32, value: u64)
         requires { Puts self.old.bytes.now self.old.pen width value }
-        ensures same { self.new.bytes.ghost_name ≡ self.old.bytes.ghost_name }
-        ensures penned { Penned self.old.bytes.now self.old.pen (bits_of width value) self.new.bytes.now self.new.pen }
+        ensures { Written self.old (bits_of width value) self.new }
     {
         let bytes = &mut *self.bytes;
         self.pen = put(bytes, self.pen, width, value);
