@@ -10,7 +10,8 @@ ghost use Rattle.plain.specs.Numbers.{LIMIT};
 ghost use Rattle.plain.specs.Bits.{field_at, least_width};
 ghost use Rattle.bits.specs.Fields.{Room};
 
-// The width of a lot number, or of a transfer number, by how many there are: the weighing inspector's sheet, line by line.
+// The width of a lot number, or of a transfer number, by how many there are: the weighing inspector's sheet, line by line. It stays a table, as the documents ask for it
+// in the sheet's form.
 pub fn least_width(n: u32) -> u32
     requires { n ≤ LIMIT }
     ensures { result ≡ least_width n }
