@@ -3,6 +3,7 @@
 
 #![tactic(auto)]
 
+pub mod axis;
 pub mod clear;
 pub mod index;
 pub mod reads;

@@ -61,7 +61,7 @@ pub fn ring_ends(axis: &[u32], edge_capacity: usize, node: usize) -> Option<Ring
     }
     Some(RingEnds {
         first: axis[2 * edge_capacity + last as usize],
-        last: last,
+        last,
     })
 }
 

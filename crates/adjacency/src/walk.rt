@@ -1,6 +1,7 @@
 // Walks over one node's adjacency in one direction, from the packed axis: where a walk starts, the walk into a lent slice with its length, degrees, and far
 // ends. Both directions use the same functions with the one axis or the other. `edge_capacity` and `node_capacity` are those of the axis; `live` says whether the node
-// is live.
+// is live. The parameters of an axis stay apart: a store is one value where it is lent whole (`shape::Store`), and a struct of one axis would be taken apart again by
+// every call that lends an axis to be written beside live words that are read.
 
 ghost use Rattle.std.specs.Prelude.{◌≤◌, ◌≡◌, cond, [], map, length, unwrap_or};
 ghost use Rattle.plain.specs.Numbers.{NONE as none};
@@ -12,6 +13,7 @@ ghost use Rattle.adjacency.specs.Walk.{walk_in, tombstoned_in, entries_column, n
 ghost use Rattle.cursor.specs.Finding.{first_of, ends_at};
 ghost use Rattle.cursor.specs.Summing.{sums_of};
 
+use crate::axis::Axis;
 use crate::{index, rings};
 use cursor::edges::AdjacentEdges;
 use cursor::entries::Entries;
@@ -40,7 +42,7 @@ pub fn start(
     if !live {
         return Start {
             linked: false,
-            cursor: AdjacencyCursor::EXHAUSTED,
+            cursor: AdjacencyCursor::exhausted(),
         };
     }
     let (delta, delta_last) = match rings::ring_ends(axis, edge_capacity, node) {
@@ -54,8 +56,8 @@ pub fn start(
             cursor: AdjacencyCursor {
                 base: axis[4 * edge_capacity + node_capacity + node],
                 base_end: axis[4 * edge_capacity + 3 * node_capacity + node],
-                delta: delta,
-                delta_last: delta_last,
+                delta,
+                delta_last,
             },
         };
     }
@@ -71,8 +73,8 @@ pub fn start(
         cursor: AdjacencyCursor {
             base: bounds.start,
             base_end: bounds.end,
-            delta: delta,
-            delta_last: delta_last,
+            delta,
+            delta_last,
         },
     }
 }
@@ -114,12 +116,8 @@ pub fn entries(
     ensures { result ≡ cond live (raw (adjacency_in axis.now edge_capacity node_capacity counts node)) [] }
 {
     let start = start(axis, edge_capacity, node_capacity, counts, node, live);
-    Entries::of(
-        start.cursor,
-        start.linked,
-        entries_of(axis, edge_capacity, start.linked),
-        next_of(axis, edge_capacity),
-    )
+    let columns = Axis::of(axis, edge_capacity, node_capacity, start.linked);
+    Entries::of(start.cursor, start.linked, columns.entries, columns.next)
 }
 
 // The walk over a node's adjacency: the listed ones of its entries.
@@ -265,16 +263,13 @@ pub fn find(
     requires edge_capacity_in_bounds { edge_capacity ≤ length far.now }
     ensures { unwrap_or result none ≡ first_of (ends_at far.now end) (walk_in axis.now edge_capacity node_capacity counts live_edges.now node live) }
 {
-    edges(
-        axis,
-        edge_capacity,
-        node_capacity,
-        counts,
+    entries(axis, edge_capacity, node_capacity, counts, node, live).find_end(
+        far,
+        end,
+        tombstoned(counts),
         live_edges,
-        node,
-        live,
+        counts.edges.bound as usize,
     )
-    .find_end(far, end)
 }
 
 // The sum of the lowest and the sum of the highest weights of a node's walk.

@@ -1,16 +1,15 @@
 -- How a field is read in parts, and out of a window of whole bytes.
-use Rattle.std.specs.Prelude.{ℕ, zero, suc, ◌+◌, ◌-◌, ◌*◌, ◌/◌, ◌%◌, ◌^◌, ◌≤◌, ◌<◌, ◌≡◌, List, ◌∷◌, ◌++◌, length, take, drop, get_or}
+use Rattle.std.specs.Prelude.{ℕ, suc, ◌+◌, ◌-◌, ◌*◌, ◌/◌, ◌%◌, ◌^◌, ◌≤◌, ◌<◌, ◌≡◌, List, ◌∷◌, ◌++◌, length, take, drop, get_or}
 use Rattle.plain.specs.Library.{sym, ap, ap₂, ◌∙◌, length-drop, take_at, lt_of_lt_of_le, arith}
-use Prim.Native.Nat.{min}
 use native.Mathlib.Nat.{mod-eq_of_lt, one-mul}
 use lib.ListN.{length-take}
+use Rattle.std.proofs.Common.{get_or-take, get_or-drop}
 use lib.Seq.{drop_at, take-add, drop-drop, split_at}
 use lib.Pow.{pow_mono, shl_exact, shr-shr, high, low}
 use lib.Bits.{bit_or, or_shifted}
 use lib.Dec.{lit<}
 use Rattle.plain.specs.Bits.{bits_of, value_of, bits, field_at}
 use Rattle.plain.proofs.Laws.Bits.{length_bits_of, value_of_append, value_of_bits_of, length_bits, bits_append, field_at_lt}
-use Rattle.bits.specs.Fields.{Part}
 
 -- `1 << k` at a width of w bits
 pub one_shl : (k w : ℕ) → k < w → 1 * 2 ^ k % 2 ^ w ≡ 2 ^ k
@@ -102,30 +101,26 @@ window_past s p w h l =
     ap (λ (z : ℕ). z % 2 ^ w) (shr-shr (field_at s (8 * (p / 8)) 64) 1 (63 - p % 8 - w) ∙ ap (λ (k : ℕ). field_at s (8 * (p / 8)) 64 / 2 ^ k) e)
     ∙ window_at s p w 64 (omega arith) l
 
--- ---- a field in parts
+-- ---- a window byte by byte
 
--- a turn of a loop over a field's parts: left of its bits are left, bit at is next, and k of them come now
-pub record Turn (s : List ℕ) (position width at left k : ℕ) : Type 0 where
-  pub narrow : width ≤ 32
-  pub within : position + width ≤ 8 * length s
-  pub most : left ≤ width
-  pub place : at + left ≡ position + width
-  pub some : zero < left
-  pub bits_now : k ≡ min left (8 - at % 8)
+-- a byte of the window is one of all
+pub window_item : (s : List ℕ) (i n j : ℕ) → j < n → get_or (take n (drop i s)) j 0 ≡ get_or s (i + j) 0
+window_item s i n j h = rw (get_or-take, get_or-drop)
 
--- the part is in one byte, and what was read and the part are the field's front
-pub record Turned (s : List ℕ) (position width value at left k : ℕ) : Type 0 where
-  pub part : Part s at k
-  pub sum : value * 2 ^ k + field_at s at k ≡ field_at s position (width - (left - k))
-  pub small : field_at s position (width - (left - k)) < 2 ^ 32
+-- one byte more
+pub window_more : (s : List ℕ) (i j : ℕ) {v b : ℕ} → i + j < length s → get_or s (i + j) 0 < 256 → v ≡ field_at s (8 * i) (8 * j) → b ≡ get_or s (i + j) 0
+    → v * 2 ^ 8 + b ≡ field_at s (8 * i) (8 * (j + 1))
+window_more s i j {v} {b} h l ev eb =
+    let e : 8 * (j + 1) ≡ 8 * j + 8 = omega arith in
+    rw (ev, eb, e, window_byte s (i + j) h l) (window_join s i j 8 (omega arith))
 
-pub turned : {s : List ℕ} {position width at left k : ℕ} (value : ℕ) → Turn s position width at left k
-    → value ≡ field_at s position (width - left) → Turned s position width value at left k
-turned {s} {position} {width} {at} {left} {k} value t e =
-    record {
-      part = record { small = omega arith; inside = omega arith };
-      sum = rw e
-          (sym (ap (field_at s position) (omega arith) ∙ field_at_add s position (width - left) k (omega arith)
-          ∙ ap (λ (q : ℕ). field_at s position (width - left) * 2 ^ k + field_at s q k) (omega arith)));
-      small = field_at_fits s position (width - (left - k)) (omega arith);
-    }
+-- a window of up to four bytes has room for one more in a number of 64 bits
+pub window_room : (s : List ℕ) (i j : ℕ) {v : ℕ} → j ≤ 4 → v ≡ field_at s (8 * i) (8 * j) → v < 2 ^ 32
+window_room s i j h e = rw e (lt_of_lt_of_le (field_at_lt s (8 * i) (8 * j)) (pow_mono {j = 32} (omega arith)))
+
+-- the field in a window of n bytes, which ends with the byte that the field ends in
+pub window_end : (s : List ℕ) (p w n r : ℕ) {v : ℕ} → p % 8 + w + r ≡ 8 * n → 8 * (p / 8) + 8 * n ≤ 8 * length s → v ≡ field_at s (8 * (p / 8)) (8 * n)
+    → v / 2 ^ r % 2 ^ w ≡ field_at s p w
+window_end s p w n r e h is =
+    let first : 8 * (p / 8) + p % 8 ≡ p = omega arith in
+    rw (is, window_field s (8 * (p / 8)) (p % 8) w r (8 * n) e h, first)

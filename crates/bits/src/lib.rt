@@ -5,10 +5,10 @@
 
 pub mod pen;
 
-ghost use Rattle.std.specs.Prelude.{◌+◌, ◌*◌, ◌/◌, ◌%◌, ◌^◌, ◌<◌, ◌≤◌, ◌≡◌, length, min};
+ghost use Rattle.std.specs.Prelude.{◌+◌, ◌*◌, ◌/◌, ◌%◌, ◌^◌, ◌<◌, ◌≤◌, ◌≡◌, length};
 ghost use Rattle.plain.specs.Numbers.{LIMIT};
 ghost use Rattle.plain.specs.Bits.{field_at, least_width};
-ghost use Rattle.bits.specs.Fields.{Room, Part};
+ghost use Rattle.bits.specs.Fields.{Room};
 
 // The width of a lot number, or of a transfer number, by how many there are: the weighing inspector's sheet, line by line.
 pub fn least_width(n: u32) -> u32
@@ -35,13 +35,6 @@ pub fn least_width(n: u32) -> u32
     }
 }
 
-// The lesser of two numbers.
-fn lesser(a: u32, b: u32) -> u32
-    ensures { result ≡ min a b }
-{
-    if a < b { a } else { b }
-}
-
 // The bits of x from bit `below` up, `width` of them.
 pub fn cut(x: u64, below: u32, width: u32) -> u64
     requires { (below < 64) × (width < 64) }
@@ -59,6 +52,7 @@ pub fn raise(x: u64, zeros: u32) -> u64
 }
 
 // The byte at i, as a field.
+#[tactic(auto, using(crate::proofs::Fields::window_byte))]
 fn byte(bytes: &[u8], i: usize) -> u64
     requires { i < length bytes.now }
     ensures { result ≡ field_at bytes.now (8 * i) 8 }
@@ -67,6 +61,7 @@ fn byte(bytes: &[u8], i: usize) -> u64
 }
 
 // The four bytes from i on: one expression of shifts and ors, which the compiler makes one load.
+#[tactic(auto, using(crate::proofs::Fields::window_four))]
 fn four_bytes(bytes: &[u8], i: usize) -> u64
     requires { i + 4 ≤ length bytes.now }
     ensures { result ≡ field_at bytes.now (8 * i) 32 }
@@ -78,6 +73,7 @@ fn four_bytes(bytes: &[u8], i: usize) -> u64
 }
 
 // The eight bytes from i on: a window that holds a field of up to 32 bits, wherever in its first byte the field starts.
+#[tactic(auto, using(crate::proofs::Fields::window_eight))]
 fn eight_bytes(bytes: &[u8], i: usize) -> u64
     requires { i + 8 ≤ length bytes.now }
     ensures { result ≡ field_at bytes.now (8 * i) 64 }
@@ -85,30 +81,19 @@ fn eight_bytes(bytes: &[u8], i: usize) -> u64
     (four_bytes(bytes, i) << 32) | four_bytes(bytes, i + 4)
 }
 
-// A field that lies in one byte.
-fn read_part(bytes: &[u8], position: usize, width: u32) -> u64
-    requires { Part bytes.now position width }
-    ensures { result ≡ field_at bytes.now position width }
-{
-    let offset = (position % 8) as u32;
-    cut(byte(bytes, position / 8), 8 - offset - width, width)
-}
-
-// A field, byte by byte: for the last bytes, where a window of eight does not fit.
+// A field out of the bytes that it lies in: for the last bytes, where a window of eight does not fit.
 fn read_bytewise(bytes: &[u8], position: usize, width: u32) -> u32
     requires { Room bytes.now position width }
     ensures { result ≡ field_at bytes.now position width }
 {
-    let mut value: u64 = 0;
-    let mut at = position;
-    let mut left = width;
-    while left > 0 {
-        let part = lesser(left, 8 - (at % 8) as u32);
-        value = raise(value, part) + read_part(bytes, at, part);
-        at += part as usize;
-        left -= part;
+    let start = position / 8;
+    let end = position + width as usize;
+    let mut window: u64 = 0;
+    for byte in &bytes[start..end.div_ceil(8)] {
+        window = raise(window, 8) + u64::from(*byte);
     }
-    value as u32
+    let behind = (8 - end % 8) % 8;
+    cut(window, behind as u32, width) as u32
 }
 
 // The field of `width` bits at bit `position`.

@@ -36,9 +36,9 @@ impl<'a> Entries<'a> {
     {
         AdjacentEdges {
             entries: self,
-            tombstoned: tombstoned,
-            live: live,
-            slots: slots,
+            tombstoned,
+            live,
+            slots,
         }
     }
 }

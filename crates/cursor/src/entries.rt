@@ -36,10 +36,10 @@ impl<'a> Entries<'a> {
         ensures { result ≡ left linked entries.now next.now cursor }
     {
         Entries {
-            cursor: cursor,
-            linked: linked,
-            entries: entries,
-            next: next,
+            cursor,
+            linked,
+            entries,
+            next,
         }
     }
 }
@@ -53,6 +53,6 @@ impl<'a> Iterator for Entries<'a> {
 
     #[inline]
     fn next(&mut self) -> Option<u32> {
-        self.cursor.step(self.linked, self.entries, self.next)
+        self.cursor.advance(self.linked, self.entries, self.next)
     }
 }

@@ -6,7 +6,7 @@
 ghost use Rattle.std.specs.Prelude.{◌*◌, ◌<◌, ◌≤◌, ◌≡◌, false, length};
 ghost use Rattle.plain.specs.Numbers.{NONE as none};
 ghost use Rattle.liveness.specs.Flags.{live_flags};
-ghost use Rattle.cursor.specs.Cursor.{part_count, ring_left, base_at, step_of, ring_step, listed, Ready};
+ghost use Rattle.cursor.specs.Cursor.{part_count, exhausted as exhausted_cursor, ring_left, base_at, step_of, ring_step, listed, Ready};
 
 pub mod edges;
 pub mod entries;
@@ -43,13 +43,19 @@ pub fn is_listed(tombstoned: bool, live: &[u64], slots: usize, edge: u32) -> boo
 }
 
 impl AdjacencyCursor {
-    // A walk with nothing left, over any columns.
+    // A walk with nothing left, over any columns: a constant of the type and a constructor beside it, the form that the scope of the build names.
     pub const EXHAUSTED: AdjacencyCursor = AdjacencyCursor {
         base: 0,
         base_end: 0,
         delta: NONE,
         delta_last: NONE,
     };
+
+    pub fn exhausted() -> Self
+        ensures { result ≡ exhausted_cursor }
+    {
+        AdjacencyCursor::EXHAUSTED
+    }
 
     // How many entries of the run or base part are left, in constant time.
     pub fn part_count(self, linked: bool) -> usize
@@ -75,44 +81,62 @@ impl AdjacencyCursor {
         Entries::of(ring, false, next, next).count()
     }
 
-    // The next entry of the ring. NONE is the ring's end, since a cursor is four numbers in the layout for C.
+    // The next entry of the ring, and the cursor behind it. NONE is the ring's end, since a cursor is four numbers in the layout for C.
     #[inline]
-    fn step_ring(&mut self, next: &[u32]) -> Option<u32>
-        requires { (self.old.delta ≡ none → ⊥) → self.old.delta < length next.now }
-        ensures { (result, self.new) ≡ ring_step next.now self.old }
+    fn step_ring(self, next: &[u32]) -> (Option<u32>, Self)
+        requires { (self.delta ≡ none → ⊥) → self.delta < length next.now }
+        ensures { result ≡ ring_step next.now self }
     {
-        let delta = self.delta;
-        if delta == NONE {
-            return None;
+        let edge = self.delta;
+        if edge == NONE {
+            return (None, self);
         }
-        self.delta = if delta == self.delta_last {
+        let delta = if edge == self.delta_last {
             NONE
         } else {
-            next[delta as usize]
+            next[edge as usize]
         };
-        Some(delta)
+        (Some(edge), AdjacencyCursor { delta, ..self })
     }
 
-    // The next entry, dead or not. Linked: the node has a run, and `entries` is the link column. Not linked: `entries` is the adjacency column.
+    // The next entry, dead or not, and the cursor behind it. Linked: the node has a run, and `entries` is the link column. Not linked: `entries` is the
+    // adjacency column.
     #[inline]
     #[tactic(auto, unfolding(crate::specs::Cursor::step_of), using(crate::specs::Laws::Stepping::ring_within, crate::specs::Laws::Stepping::base_within, crate::specs::Laws::Stepping::run_within))]
-    pub fn step(&mut self, linked: bool, entries: &[u32], next: &[u32]) -> Option<u32>
-        requires { Ready linked entries.now next.now self.old }
-        ensures { (result, self.new) ≡ step_of linked entries.now next.now self.old }
+    pub fn step(self, linked: bool, entries: &[u32], next: &[u32]) -> (Option<u32>, Self)
+        requires { Ready linked entries.now next.now self }
+        ensures { result ≡ step_of linked entries.now next.now self }
     {
         let base = self.base;
         if linked {
             if self.base_end == 0 {
                 return self.step_ring(next);
             }
-            self.base = entries[base as usize];
-            self.base_end -= 1;
-            return Some(base);
+            let behind = AdjacencyCursor {
+                base: entries[base as usize],
+                base_end: self.base_end - 1,
+                ..self
+            };
+            return (Some(base), behind);
         }
         if self.base_end <= base {
             return self.step_ring(next);
         }
-        self.base = base + 1;
-        Some(entries[base as usize])
+        let behind = AdjacencyCursor {
+            base: base + 1,
+            ..self
+        };
+        (Some(entries[base as usize]), behind)
+    }
+
+    // Moves the lent cursor behind the next entry, and answers that: the lent form stands over the step by value, as the scope of the build names both.
+    #[inline]
+    pub fn advance(&mut self, linked: bool, entries: &[u32], next: &[u32]) -> Option<u32>
+        requires { Ready linked entries.now next.now self.old }
+        ensures { (result, self.new) ≡ step_of linked entries.now next.now self.old }
+    {
+        let (edge, behind) = self.step(linked, entries, next);
+        *self = behind;
+        edge
     }
 }

@@ -1,13 +1,16 @@
-// What is read of the listed edges of a walk: the edges or their ends written to a slice, the first that ends at a node, and the sums of their weights.
+// What is read of the listed edges of a walk: the edges or their ends written to a slice, the sums of their weights, and the first that ends at a node.
 
-ghost use Rattle.std.specs.Prelude.{◌≤◌, ◌≡◌, map, length, unwrap_or};
+ghost use Rattle.std.specs.Prelude.{◌*◌, ◌≤◌, ◌≡◌, map, length, unwrap_or};
 ghost use Rattle.plain.specs.Numbers.{NONE as none};
-ghost use Rattle.plain.specs.Lists.{written};
-ghost use Rattle.cursor.specs.Cursor.{word, Within, ListWritten};
+ghost use Rattle.plain.specs.Lists.{keep, written};
+ghost use Rattle.liveness.specs.Flags.{live_flags};
+ghost use Rattle.cursor.specs.Cursor.{word, listed, Within, ListWritten};
 ghost use Rattle.cursor.specs.Finding.{first_of, ends_at};
 ghost use Rattle.cursor.specs.Summing.{sums_of, Summable};
 
 use crate::edges::AdjacentEdges;
+use crate::entries::Entries;
+use crate::is_listed;
 use plain::Sums;
 
 impl<'a> AdjacentEdges<'a> {
@@ -35,19 +38,6 @@ impl<'a> AdjacentEdges<'a> {
         }
     }
 
-    // The first edge whose end, by the column `ends`, is `end`.
-    pub fn find_end(self, ends: &[u32], end: u32) -> Option<u32>
-        requires { Within ends.now self }
-        ensures { unwrap_or result none ≡ first_of (ends_at ends.now end) self.entry }
-    {
-        for edge in self {
-            if ends[edge as usize] == end {
-                return Some(edge);
-            }
-        }
-        None
-    }
-
     // The sums over the edges of what two columns have at each.
     pub fn total(self, lows: &[u32], highs: &[u32]) -> Sums
         requires { Summable lows.now highs.now self }
@@ -60,5 +50,28 @@ impl<'a> AdjacentEdges<'a> {
             sums.high += u64::from(highs[at]);
         }
         sums
+    }
+}
+
+impl<'a> Entries<'a> {
+    // The first listed entry whose end, by the column `ends`, is `end`. It looks at the end before the live bit, since most entries end elsewhere.
+    pub fn find_end(
+        self,
+        ends: &[u32],
+        end: u32,
+        tombstoned: bool,
+        live: &[u64],
+        slots: usize,
+    ) -> Option<u32>
+        requires within { Within ends.now self }
+        requires live_long { slots ≤ 64 * length live.now }
+        ensures { unwrap_or result none ≡ first_of (ends_at ends.now end) (keep (listed tombstoned (live_flags live.now slots)) self.entry) }
+    {
+        for edge in self {
+            if ends[edge as usize] == end && is_listed(tombstoned, live, slots, edge) {
+                return Some(edge);
+            }
+        }
+        None
     }
 }

@@ -79,8 +79,8 @@ pub record Ordering (bytes : List ℕ) (ends w list v m : ℕ) (seen : List ℕ)
 
 module _ (bytes : List ℕ) (ends w list v m : ℕ) where
   -- at the start
-  pub order_start : list + v * m ≤ 8 * length bytes → Ordering bytes ends w list v m (replicate 512 0) 0 list 0
-  order_start room = record {
+  pub order_start : list + v * m ≤ 8 * length bytes → Ordering bytes ends w list v m (replicate 512 0) 0 (list + v * 0) 0
+  order_start room = let first : list + v * 0 ≡ list = omega arith in rw first record {
     answers = right_first (end_in bytes ends w) m (marked (replicate 512 0)) (fields_at bytes list v m) (clear_map 512)
         ∙ ap (λ (z : ℕ). right_from (end_in bytes ends w) m (marked (replicate 512 0)) 0 (fields_at bytes list v z)) (omega arith);
     long = refl;

@@ -5,6 +5,7 @@
 ghost use Rattle.std.specs.Prelude.{◌+◌, ◌-◌, ◌*◌, ◌≡◌, length, eqb};
 ghost use Rattle.plain.specs.Bits.{field_at, fields_at};
 ghost use Rattle.plain.specs.Image.{broken_image};
+ghost use Rattle.plain.specs.Refusals.{image_rule_of};
 ghost use Rattle.image_check.specs.Checks.{Filled, Column, Ends, Weights, Entries, Whole, field_in, end_in, ends_within, weights_ordered, ordered};
 
 use crate::places::{
@@ -14,6 +15,7 @@ use crate::places::{
 use bits::{least_width, read_field};
 use marks::mark;
 use plain::LIMIT;
+use plain::refusals::ImageRule;
 
 // Rule 4: the bits after the last field are 0.
 fn padding_clear(bytes: &[u8], size: usize) -> bool
@@ -40,12 +42,10 @@ fn ends_below(bytes: &[u8], at: usize, w: u32, n: u32, m: u32) -> bool
     requires { Ends bytes.now at w m }
     ensures { result ≡ ends_within bytes.now at w n m }
 {
-    let mut edge: u32 = 0;
-    while edge < m {
+    for edge in 0..m {
         if field_of(bytes, at, w, w, edge) >= n {
             return false;
         }
-        edge += 1;
     }
     true
 }
@@ -56,14 +56,12 @@ fn weights_right(bytes: &[u8], at: usize, w: u32, m: u32) -> bool
     ensures { result ≡ weights_ordered bytes.now at w m }
 {
     let highs = at + WEIGHT_WIDTH as usize;
-    let mut edge: u32 = 0;
-    while edge < m {
+    for edge in 0..m {
         let low = field_of(bytes, at, w, WEIGHT_WIDTH, edge);
         let high = field_of(bytes, highs, w, WEIGHT_WIDTH, edge);
         if low > high {
             return false;
         }
-        edge += 1;
     }
     true
 }
@@ -75,10 +73,8 @@ fn lists_right(bytes: &[u8], ends: usize, w: u32, list: usize, v: u32, m: u32) -
 {
     let mut seen = [0u64; 512];
     let mut last: u32 = 0;
-    let mut at = list;
-    let mut i: u32 = 0;
-    while i < m {
-        let edge = read_field(bytes, at, v);
+    for i in 0..m {
+        let edge = read_field(bytes, list + v as usize * i as usize, v);
         if edge >= m {
             return false;
         }
@@ -90,16 +86,14 @@ fn lists_right(bytes: &[u8], ends: usize, w: u32, list: usize, v: u32, m: u32) -
             return false;
         }
         last = end;
-        at += v as usize;
-        i += 1;
     }
     true
 }
 
-// Rules 4 to 6, of bytes whose counts and length are right: the first broken one, or 0.
-fn broken_content(bytes: &[u8], n: u32, m: u32) -> u32
+// The first broken one of rules 4 to 6, of bytes whose counts and length are right.
+fn broken_content(bytes: &[u8], n: u32, m: u32) -> Result<(), ImageRule>
     requires { Whole bytes.now n m }
-    ensures { result ≡ broken_image bytes.now }
+    ensures { image_rule_of result ≡ broken_image bytes.now }
 {
     let w = least_width(n);
     let v = least_width(m);
@@ -110,43 +104,40 @@ fn broken_content(bytes: &[u8], n: u32, m: u32) -> u32
     let outs = outs_start(n, m);
     let ins = outs + size;
     if !padding_clear(bytes, ins + size) {
-        return 4;
+        return Err(ImageRule::Padding);
     }
     if !ends_below(bytes, sources, w, n, m) {
-        return 5;
+        return Err(ImageRule::Records);
     }
     if !ends_below(bytes, targets, w, n, m) {
-        return 5;
+        return Err(ImageRule::Records);
     }
     if !weights_right(bytes, weights, w, m) {
-        return 5;
+        return Err(ImageRule::Records);
     }
     if !lists_right(bytes, sources, w, outs, v, m) {
-        return 6;
+        return Err(ImageRule::Lists);
     }
     if !lists_right(bytes, targets, w, ins, v, m) {
-        return 6;
+        return Err(ImageRule::Lists);
     }
-    0
+    Ok(())
 }
 
-// The first broken rule of an image's bytes, 1 to 6, or 0 where they are an image. Any bytes may be handed in.
-pub fn first_broken(bytes: &[u8]) -> u32
-    ensures { result ≡ broken_image bytes.now }
+// The first broken rule of an image's bytes; where there is none they are an image. Any bytes may be handed in.
+pub fn first_broken(bytes: &[u8]) -> Result<(), ImageRule>
+    ensures { image_rule_of result ≡ broken_image bytes.now }
 {
     if bytes.len() < 4 {
-        return 1;
+        return Err(ImageRule::Counts);
     }
     let n = read_field(bytes, 0, COUNT_WIDTH);
     let m = read_field(bytes, EDGE_COUNT_START, COUNT_WIDTH);
-    if n > LIMIT {
-        return 2;
-    }
-    if m > LIMIT {
-        return 2;
+    if n > LIMIT || m > LIMIT {
+        return Err(ImageRule::Limits);
     }
     if bytes.len() != image_bytes(n, m) {
-        return 3;
+        return Err(ImageRule::Length);
     }
     broken_content(bytes, n, m)
 }

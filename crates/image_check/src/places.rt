@@ -42,6 +42,7 @@ pub fn edges_start(nodes: u32) -> usize
 }
 
 // Where the joined out-lists begin.
+#[tactic(auto, using(crate::specs::Laws::Sizes::records_small))]
 pub fn outs_start(nodes: u32, edges: u32) -> usize
     requires { nodes ≤ LIMIT }
     ensures { result ≡ outs_start nodes edges }
@@ -50,6 +51,7 @@ pub fn outs_start(nodes: u32, edges: u32) -> usize
 }
 
 // The bits of the joined lists of one direction.
+#[tactic(auto, using(crate::specs::Laws::Sizes::entries_small))]
 pub fn lists_size(edges: u32) -> usize
     requires { edges ≤ LIMIT }
     ensures { result ≡ least_width edges * edges }
@@ -58,6 +60,7 @@ pub fn lists_size(edges: u32) -> usize
 }
 
 // Where the joined in-lists begin.
+#[tactic(auto, using(crate::specs::Laws::Sizes::records_small, crate::specs::Laws::Sizes::entries_small))]
 pub fn ins_start(nodes: u32, edges: u32) -> usize
     requires { (nodes ≤ LIMIT) × (edges ≤ LIMIT) }
     ensures { result ≡ ins_start nodes edges }
@@ -66,6 +69,7 @@ pub fn ins_start(nodes: u32, edges: u32) -> usize
 }
 
 // How many bytes the image has.
+#[tactic(auto, using(crate::specs::Laws::Sizes::records_small, crate::specs::Laws::Sizes::entries_small))]
 pub fn image_bytes(nodes: u32, edges: u32) -> usize
     requires { (nodes ≤ LIMIT) × (edges ≤ LIMIT) }
     ensures { result ≡ bytes_for (image_size nodes edges) }

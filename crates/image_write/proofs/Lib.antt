@@ -1,3 +1,4 @@
+pub mod Numbering
 mod Strung
 mod Writing
 mod Surviving

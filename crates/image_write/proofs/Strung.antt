@@ -1,15 +1,17 @@
 -- Pieces of bits put one after the other by a loop: what was put after each turn, over the entries of a list or over the live slots; and that a row and the
 -- bits of the edges' records are such pieces.
-use Rattle.std.specs.Prelude.{ℕ, ◌+◌, ◌*◌, ◌≤◌, ◌<◌, ◌≡◌, refl, Bool, List, [], ◌∷◌, ◌++◌, map, length, take, get_or}
-use Rattle.plain.specs.Library.{sym, ap, subst, ◌∙◌, append_assoc, append-nil, length-append, add-one, arith}
+use Rattle.std.specs.Prelude.{ℕ, ◌+◌, ◌*◌, ◌≤◌, ◌<◌, ◌≡◌, refl, Bool, true, false, List, [], ◌∷◌, ◌++◌, map, length, take, get_or}
+use Rattle.plain.specs.Library.{sym, ap, subst, ◌∙◌, append_assoc, append_snoc, append-nil, length-append, add-one, arith}
 use native.Mathlib.Nat.{mul-le-mul_left}
 use lib.Seq.{take-suc, take-length, length-take-le}
+use Rattle.std.proofs.Math.Seq.{get_or-append_seam}
+use Rattle.plain.specs.Lists.{member}
 use Rattle.plain.specs.Reads.{live_count, live_slots}
+use Rattle.plain.proofs.Laws.ListLaws.{member_at}
+use Rattle.plain.proofs.Laws.Rank.{length_live_slots, member_live_slots}
 use Rattle.plain.specs.Compaction.{EdgeRecord}
 use Rattle.plain.specs.Bits.{bits_of, row}
 use Rattle.plain.specs.Image.{edge_bits}
-use Rattle.liveness.specs.Flags.{next_live}
-use Rattle.liveness.specs.Laws.Passed.{Passed, passed_none, passed_fewer, passed_on, passed_all}
 use Rattle.bits.specs.declared.pen.Pen.{Pen}
 use Rattle.bits.specs.Penned.{Penned, reach}
 use Rattle.bits.specs.Laws.Penned.{penned_none, penned_then}
@@ -73,28 +75,38 @@ module _ {s t : List ℕ} {p : Pen} {step : ℕ} {f : ℕ → List ℕ} {words :
   pub entries_all : i ≡ length words → Penned s p (strung f words) t q
   entries_all e = rw (e, take-length words) at h.front.penned
 
--- ---- over the live slots, in slot order
+-- ---- over the live slots, in slot order, by an iterator
 
--- the pieces of the live slots before `slot` were put, which is the next live one or past the end
-pub record StrungLive (flags : List Bool) (s : List ℕ) (p : Pen) (step : ℕ) (f : ℕ → List ℕ) (slot : ℕ) (t : List ℕ) (q : Pen) : Type 0 where
-  pub past : List ℕ
-  pub passed : Passed flags past slot
+-- the pieces of the live slots of `past` were put, and those of `rest` are left
+pub record StrungLive (flags : List Bool) (s : List ℕ) (p : Pen) (step : ℕ) (f : ℕ → List ℕ) (past rest t : List ℕ) (q : Pen) : Type 0 where
+  pub whole : past ++ rest ≡ live_slots flags
   pub written : Strung s p step f past t q
 
-pub live_none : {flags : List Bool} {slot n : ℕ} (s : List ℕ) (p : Pen) (step : ℕ) (f : ℕ → List ℕ) → slot ≡ next_live flags 0 → PiecesFit s p step n
-    → StrungLive flags s p step f slot s p
-live_none {n = n} s p step f next fits = record { past = []; passed = passed_none next; written = strung_none s p step n f fits }
+pub live_none : {flags : List Bool} {n : ℕ} {rest : List ℕ} (s : List ℕ) (p : Pen) (step : ℕ) (f : ℕ → List ℕ) → rest ≡ live_slots flags → PiecesFit s p step n
+    → StrungLive flags s p step f [] rest s p
+live_none {n = n} s p step f all fits = record { whole = all; written = strung_none s p step n f fits }
 
-module _ {flags : List Bool} {s t : List ℕ} {p : Pen} {step : ℕ} {f : ℕ → List ℕ} {slot : ℕ} {q : Pen} (h : StrungLive flags s p step f slot t q) where
-  pub live_more : ((x : ℕ) → length (f x) ≡ step) → slot < length flags → {u : List ℕ} {r : Pen} {later : ℕ} → Penned t q (f slot) u r → later ≡ next_live flags (slot + 1)
-      → StrungLive flags s p step f later u r
-  live_more long l w next = record { past = h.past ++ (slot ∷ []); passed = passed_on h.passed l next; written = strung_more h.written long slot w }
+module _ {flags : List Bool} {s t : List ℕ} {p : Pen} {step : ℕ} {f : ℕ → List ℕ} {past rest : List ℕ} {q : Pen} (h : StrungLive flags s p step f past rest t q) where
+  module _ {x : ℕ} {later : List ℕ} (next : rest ≡ x ∷ later) where
+    whole_next : past ++ (x ∷ later) ≡ live_slots flags
+    whole_next = ap (λ (l : List ℕ). past ++ l) (sym next) ∙ h.whole
 
-  pub live_room : PiecesFit s p step (live_count flags) → slot < length flags → PiecesFit t q step 1
-  live_room fits l = strung_room h.written fits (passed_fewer h.passed l)
+    -- the slot that comes next is live
+    pub live_next : get_or flags x false ≡ true
+    live_next =
+        let few : length past < length (past ++ (x ∷ later)) = simp length-append (omega arith) in
+        let there = member_at (past ++ (x ∷ later)) (length past) 0 few in
+        sym (member_live_slots flags x) ∙ ap (λ (l : List ℕ). member x l) (sym whole_next) ∙ (rw (get_or-append_seam past x later 0) at there)
 
-  pub live_all : length flags ≤ slot → Penned s p (strung f (live_slots flags)) t q
-  live_all past_end = rw (passed_all h.passed past_end) h.written.penned
+    pub live_more : ((x : ℕ) → length (f x) ≡ step) → {u : List ℕ} {r : Pen} → Penned t q (f x) u r → StrungLive flags s p step f (past ++ (x ∷ [])) later u r
+    live_more long w = record { whole = append_snoc past x later ∙ whole_next; written = strung_more h.written long x w }
+
+    pub live_room : PiecesFit s p step (live_count flags) → PiecesFit t q step 1
+    live_room fits =
+        strung_room h.written fits (omega (arith, length_live_slots flags, simp length-append at (ap length whole_next)))
+
+  pub live_all : rest ≡ [] → Penned s p (strung f (live_slots flags)) t q
+  live_all none = rw (sym (append-nil past) ∙ ap (λ (l : List ℕ). past ++ l) (sym none) ∙ h.whole) at h.written.penned
 
 -- ---- rows and records
 

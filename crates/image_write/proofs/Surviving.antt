@@ -23,7 +23,7 @@ use Rattle.plain.proofs.Laws.ImageBits.{length_edge_bits, below_image_bits, leng
 use Rattle.plain.proofs.Laws.ImageLaws.{fitted_joined, image_length}
 use Rattle.plain.proofs.Laws.Width.{width_holds, width_least}
 use Rattle.liveness.specs.Laws.Flags.{length_flags, count_le}
-use Rattle.liveness.specs.Ranks.{RanksFit, Ranked}
+use Rattle.liveness.specs.Ranks.{RanksFit}
 use Rattle.shape.specs.Shape.{Words, capacities, node_live, edge_live, axis_words, plain_of, lists}
 use Rattle.shape.specs.Checked.{SlotsChecked, Checked}
 use Rattle.shape.proofs.Laws.Reading.{plain_node_flags, plain_edge_flags, plain_end, node_at, edge_at}
@@ -79,7 +79,7 @@ module _ {w : Words} (k : Checked w) where
 
   -- the record of a live edge
   left_edge : (e : ℕ) → get_or (edge_live w) e false ≡ true
-      → surviving_edge (lists w) e ≡ record_at w.live_nodes w.counts.nodes.bound w.outgoing w.incoming w.lows w.highs e
+      → surviving_edge (lists w) e ≡ record_at w.live_nodes w.counts.nodes.bound w e
   unfolding plain_of
   left_edge e live =
       let l : e < w.counts.edges.bound = (let low = live_below (edge_live w) e live in omega (arith, length_flags w.live_edges w.counts.edges.bound)) in
@@ -93,11 +93,11 @@ module _ {w : Words} (k : Checked w) where
 
   -- and of all
   left_edges : left.edges
-      ≡ live_records w.live_nodes w.counts.nodes.bound w.live_edges w.counts.edges.bound w.outgoing w.incoming w.lows w.highs
+      ≡ live_records w.live_nodes w.counts.nodes.bound w
   unfolding survivors
   left_edges =
       ap (λ (f : List Bool). map (surviving_edge (lists w)) (live_slots f)) (plain_edge_flags w)
-      ∙ map_same (surviving_edge (lists w)) (record_at w.live_nodes w.counts.nodes.bound w.outgoing w.incoming w.lows w.highs)
+      ∙ map_same (surviving_edge (lists w)) (record_at w.live_nodes w.counts.nodes.bound w)
       (live_slots (edge_live w)) (λ e h. left_edge e (sym (member_live_slots (edge_live w) e) ∙ h))
 
 -- a number of at most LIMIT slots has a width of at most 16 bits
@@ -138,11 +138,10 @@ module _ {w : Words} {width : ℕ} {s : List ℕ} (h : SlotsFit w width s) where
       }
 
   -- after the nodes the edges have room
-  pub edges_fit : {t u ranks : List ℕ} {all : Bool} {q r : Pen} → Penned s fresh (count_bits w.counts.nodes.live w.counts.edges.live) t q
+  pub edges_fit : {t u : List ℕ} {q r : Pen} → Penned s fresh (count_bits w.counts.nodes.live w.counts.edges.live) t q
       → Penned t q (row node_payload_width (live_payloads w.nodes w.live_nodes w.counts.nodes.bound)) u r
-      → Ranked w.live_nodes w.counts.nodes.bound ranks → (all ≡ true → w.counts.nodes.live ≡ w.counts.nodes.bound)
-      → EdgesFit u r width w.live_nodes w.counts.nodes.bound ranks all w.live_edges w.counts.edges.bound w.outgoing w.incoming w.lows w.highs
-  edges_fit {u = u} {q = q} {r} counted a ranked none-removed =
+      → EdgesFit u r width w.live_nodes w.counts.nodes.bound w
+  edges_fit {u = u} {q = q} {r} counted a =
       let k = h.checked in
       let n = w.counts.nodes.live in
       let m = w.counts.edges.live in
@@ -153,9 +152,8 @@ module _ {w : Words} {width : ℕ} {s : List ℕ} (h : SlotsFit w width s) where
       let room : PiecesFit u r (record_width (least_width n)) m =
       record { ready = a.ready; within = omega (arith, h.room, a.long, counted.long) } in
       record {
-        ranks_there = record {
+        ranks_fit = record {
           narrow = rw h.holds (width_few n (nodes_limit k));
-          numbered = record { ranked = ranked; whole = λ set. sym k.nodes.live.live_right ∙ none-removed set };
           wide = rw h.holds (let few = nodes_limit k in omega (arith, width_holds n (omega arith), k.nodes.live.live_right));
         };
         long = omega (arith, k.edges.live_long, k.edges.bounded.bound_within);
@@ -172,7 +170,7 @@ module _ {w : Words} {width : ℕ} {s : List ℕ} (h : SlotsFit w width s) where
   pub penned_slots : {t u v : List ℕ} {q r z : Pen} → Penned s fresh (count_bits w.counts.nodes.live w.counts.edges.live) t q
       → Penned t q (row node_payload_width (live_payloads w.nodes w.live_nodes w.counts.nodes.bound)) u r
       → Penned u r (edge_bits width
-      (live_records w.live_nodes w.counts.nodes.bound w.live_edges w.counts.edges.bound w.outgoing w.incoming w.lows w.highs)) v z
+      (live_records w.live_nodes w.counts.nodes.bound w)) v z
       → Penned s fresh (slot_bits width (survivors (lists w))) v z
   penned_slots a b c = let k = h.checked in rw (many_nodes k, many_edges k, left_nodes k, left_edges k) (penned_then a (penned_then b c))
 
@@ -195,9 +193,8 @@ module _ {w : Words} {work s : List ℕ} (h : ImageFits w work s) where
         (rw (many_nodes h.checked, many_edges h.checked, node-holds) (omega arith))
 
     -- after the slots the lists have room, and the width holds every entry
-    pub lists_fit : {t : List ℕ} {all : Bool} {q : Pen} → Penned s fresh (slot_bits width here) t q → (all ≡ true → w.counts.edges.live ≡ w.counts.edges.bound)
-        → ListsFit t q entry-width w.live_edges w.counts.edges.bound all (take (2 * w.counts.edges.live) work)
-    lists_fit {t} {q = q} a none-removed =
+    pub lists_fit : {t : List ℕ} {q : Pen} → Penned s fresh (slot_bits width here) t q → ListsFit t q entry-width w (take (2 * w.counts.edges.live) work)
+    lists_fit {t} {q = q} a =
         let k = h.checked in
         let n = w.counts.nodes.live in
         let m = w.counts.edges.live in
@@ -209,7 +206,7 @@ module _ {w : Words} {work s : List ℕ} (h : ImageFits w work s) where
           narrow = rw edge-holds (width_few m few_edges);
           long = omega (arith, k.edges.live_long, k.edges.bounded.bound_within);
           few = omega (arith, k.edges.bounded.bound_within, (k.axis Outgoing).sized.edges_within);
-          whole = λ set. sym k.edges.live.live_right ∙ none-removed set;
+          right = k.edges.live.live_right;
           wide = rw edge-holds (omega (arith, width_holds m (omega arith), k.edges.live.live_right));
           entries_live = λ i l. subst (λ (entries : List ℕ). get_or (edge_live w) (get_or entries i 0) false ≡ true) (sym h.listed)
               (both_live k (get_or (both_walks w) i 0) (member_at (both_walks w) i 0 (omega (arith, size, both_length k))));

@@ -12,8 +12,8 @@ use Rattle.plain.proofs.Laws.CallCases.{write_short, write_lent}
 use Rattle.shape.specs.Shape.{Words, lists}
 use Rattle.shape.specs.Checked.{Checked}
 use Rattle.shape.proofs.Laws.Reading.{plain_edge_flags}
-use Rattle.validate.specs.Judging.{Judged, refusal}
-use Rattle.view.specs.Laws.Calls.{replies, reply_refuses, list_short, list_done}
+use Rattle.validate.specs.Judging.{Judged}
+use Rattle.view.specs.Laws.Calls.{replies, list_short, list_done}
 use Rattle.survivors.specs.Working.{both_walks}
 use Rattle.survivors.proofs.Laws.Working.{both_length}
 use Rattle.image_write.specs.Calls.{written_image, WorkFree, WriteOf}
@@ -37,10 +37,6 @@ image_lent : {w : Words} → Checked w → (work room : ℕ) → 2 * w.counts.ed
 image_lent {w} k work room fits = write_lent (lists w) work room (omega (arith, edges_live k))
 
 module _ {w : Words} {rule : ℕ} (j : Judged w rule) {work bytes : List ℕ} where
-  -- a rule is broken
-  pub write_refuses : {r : Answer} → (rule ≡ 0 → ⊥) → r ≡ refusal rule → WriteOf w work bytes r work bytes
-  write_refuses {r} broken is = record { replied = reply_refuses j broken is; work_free = work_kept (2 * live_edges (lists w)) work r }
-
   -- the work slice is too short
   pub work_short : rule ≡ 0 → length work < 2 * w.counts.edges.live → WriteOf w work bytes (record { number = 2; value = 2 * w.counts.edges.live }) work bytes
   work_short zero short =

@@ -1,28 +1,25 @@
 -- A turn of each writer's loop has what it needs: the piece that comes next has room, and its value fits its width.
-use Rattle.std.specs.Prelude.{ℕ, zero, suc, ◌+◌, ◌*◌, ◌^◌, ◌≤◌, ◌<◌, ◌≡◌, refl, Bool, true, false, List, [], ◌∷◌, ◌++◌, length, get_or}
-use Rattle.plain.specs.Library.{sym, ◌∙◌, append-nil, append_assoc, lt_of_lt_of_le, arith}
+use Rattle.std.specs.Prelude.{ℕ, ◌+◌, ◌*◌, ◌^◌, ◌≤◌, ◌<◌, ◌≡◌, true, false, List, [], ◌∷◌, ◌++◌, length, get_or}
+use Rattle.plain.specs.Library.{◌∙◌, append-nil, append_assoc, lt_of_lt_of_le, arith}
 use native.Mathlib.Nat.{mul-one}
 use lib.Pow.{pow_mono, pow-add}
 use lib.Arith.{digits_lt}
 use Rattle.plain.specs.declared.EdgePayload.{EdgePayload}
 use Rattle.plain.specs.Compaction.{EdgeRecord, rank}
 use Rattle.plain.specs.Numbers.{LIMIT}
-use Rattle.plain.specs.Lists.{count}
-use Rattle.plain.specs.Reads.{live_count}
 use Rattle.plain.specs.Bits.{bits_of}
 use Rattle.plain.specs.Image.{edge_bits, record_width, node_payload_width, weight_width, count_width}
 use Rattle.plain.proofs.Laws.Bits.{length_bits_of}
 use Rattle.plain.proofs.Laws.ImageBits.{length_edge_bits}
-use Rattle.plain.proofs.Laws.ListLaws.{count_length}
 use Rattle.plain.proofs.Laws.Rank.{rank_live, live_below}
 use Rattle.liveness.specs.Flags.{live_flags}
 use Rattle.liveness.specs.Laws.Flags.{length_flags}
-use Rattle.liveness.specs.Laws.Passed.{passed_live}
+use Rattle.shape.specs.Shape.{Words, edge_live}
 use Rattle.bits.specs.declared.pen.Pen.{Pen}
 use Rattle.bits.specs.Penned.{Puts, Penned, fresh}
 use Rattle.bits.specs.Laws.Penned.{penned_then, bits_behind}
-use Rattle.image_write.specs.Writing.{PiecesFit, NodesFit, RecordFits, RanksThere, EdgeFits, EdgesFit, EntriesFit, Numbered, record_bits, record_at, count_bits}
-use Rattle.image_write.proofs.Strung.{StrungTo, StrungLive, entry_room, live_room}
+use Rattle.image_write.specs.Writing.{PiecesFit, NodesFit, RecordFits, RanksFit, EdgeFits, EdgesFit, EdgeThere, EntriesFit, record_bits, record_at, count_bits}
+use Rattle.image_write.proofs.Strung.{StrungTo, StrungLive, entry_room, live_next, live_room}
 
 -- a piece of at most 32 bits that has room
 piece_room : {s : List ℕ} {p : Pen} {w v : ℕ} → w ≤ 32 → v < 2 ^ w → PiecesFit s p w 1 → Puts s p w v
@@ -56,9 +53,14 @@ abbrev pub node_bits : List ℕ → ℕ → List ℕ
 node_bits nodes x = bits_of node_payload_width (get_or nodes x 0)
 
 -- the payload that comes next has room
-pub node_room : {s : List ℕ} {p : Pen} {nodes live : List ℕ} {bound x v : ℕ} {q : Pen} {t : List ℕ} → NodesFit s p nodes live bound
-    → StrungLive (live_flags live bound) s p node_payload_width (node_bits nodes) x t q → x < bound → v < 2 ^ 32 → Puts t q node_payload_width v
-node_room {live = live} {bound} h a l fits = piece_room (omega arith) fits (live_room a h.room (rw (length_flags live bound) l))
+pub node_room : {s : List ℕ} {p : Pen} {nodes live : List ℕ} {bound x v : ℕ} {past rest later : List ℕ} {q : Pen} {t : List ℕ} → NodesFit s p nodes live bound
+    → StrungLive (live_flags live bound) s p node_payload_width (node_bits nodes) past rest t q → rest ≡ x ∷ later → v < 2 ^ 32 → Puts t q node_payload_width v
+node_room h a next fits = piece_room (omega arith) fits (live_room a next h.room)
+
+-- it is a node
+pub node_there : {s : List ℕ} {p : Pen} {nodes live : List ℕ} {bound x : ℕ} {past rest later : List ℕ} {q : Pen} {t : List ℕ} → NodesFit s p nodes live bound
+    → StrungLive (live_flags live bound) s p node_payload_width (node_bits nodes) past rest t q → rest ≡ x ∷ later → x < length nodes
+node_there {live = live} {bound} {x} h a next = omega (arith, live_below (live_flags live bound) x (live_next a next), length_flags live bound, h.there)
 
 -- ---- the live edges' records
 
@@ -101,28 +103,15 @@ module _ {s : List ℕ} {p : Pen} {w source target : ℕ} (h : RecordFits s p w 
     penned_record payload b c = rw (append-nil, ← append_assoc, ← pair_bits w source target h.small_target) (penned_then a (penned_then b c))
 
 -- the bits of the record of edge e
-abbrev pub piece : ℕ → List ℕ → ℕ → List ℕ → List ℕ → List ℕ → List ℕ → ℕ → List ℕ
-piece width live slots outgoing incoming lows highs e = record_bits width (record_at live slots outgoing incoming lows highs e)
+abbrev pub piece : ℕ → List ℕ → ℕ → Words → ℕ → List ℕ
+piece width live slots v e = record_bits width (record_at live slots v e)
 
 -- as many bits as a record takes
 pub length_record_bits : (w : ℕ) (e : EdgeRecord) → length (record_bits w e) ≡ record_width w
 length_record_bits w e = length_edge_bits w (e ∷ []) ∙ mul-one (record_width w)
 
--- a slot is its own rank where none is removed
-own_rank : (flags : List Bool) (x : ℕ) → length flags ≤ live_count flags → x ≤ length flags → rank flags x ≡ x
-unfolding count rank
-own_rank flags zero full l = refl
-own_rank [] (suc x) full l = absurd (omega arith)
-own_rank (true ∷ flags) (suc x) full l = omega (arith, own_rank flags x (omega arith) (omega arith))
-own_rank (false ∷ flags) (suc x) full l = absurd (omega (arith, count_length (λ (f : Bool). f) flags))
-
-pub whole_number : {live : List ℕ} {slots : ℕ} {ranks : List ℕ} {all : Bool} (x : ℕ) → Numbered live slots ranks all → all ≡ true → x < slots
-    → x ≡ rank (live_flags live slots) x
-whole_number {live} {slots} x h set l =
-    sym (own_rank (live_flags live slots) x (omega (arith, length_flags live slots, h.whole set)) (omega (arith, length_flags live slots)))
-
 -- a live slot is below the bound, and its rank is below 2 ^ w
-pub rank_there : {live : List ℕ} {slots : ℕ} {ranks : List ℕ} {all : Bool} {w : ℕ} → RanksThere live slots ranks all w → (x : ℕ) → get_or (live_flags live slots) x false ≡ true
+pub rank_there : {live : List ℕ} {slots : ℕ} {w : ℕ} → RanksFit live slots w → (x : ℕ) → get_or (live_flags live slots) x false ≡ true
     → (x < slots) × (rank (live_flags live slots) x < 2 ^ w)
 rank_there {live} {slots} h x l = (
   omega (arith, live_below (live_flags live slots) x l, length_flags live slots),
@@ -130,28 +119,37 @@ rank_there {live} {slots} h x l = (
 )
 
 -- ranks that were computed fit a record
-pub ranks_fit : {s : List ℕ} {p : Pen} {w : ℕ} {live : List ℕ} {slots : ℕ} {ranks : List ℕ} {all : Bool} {source target a b : ℕ} → EdgeFits s p w live slots ranks all source target
+pub record_fits : {s : List ℕ} {p : Pen} {w : ℕ} {live : List ℕ} {slots source target a b : ℕ} → EdgeFits s p w live slots source target
     → a ≡ rank (live_flags live slots) source → b ≡ rank (live_flags live slots) target → RecordFits s p w a b
-ranks_fit {source = source} {target} h p q = record {
-  narrow = h.ranks_there.narrow;
-  small_source = rw p (rank_there h.ranks_there source h.source_live).1;
-  small_target = rw q (rank_there h.ranks_there target h.target_live).1;
+record_fits {source = source} {target} h p q = record {
+  narrow = h.ranks_fit.narrow;
+  small_source = rw p (rank_there h.ranks_fit source h.source_live).1;
+  small_target = rw q (rank_there h.ranks_fit target h.target_live).1;
   room = h.room;
 }
 
 -- the record that comes next has room
-pub edge_room : {s : List ℕ} {p : Pen} {w : ℕ} {live : List ℕ} {slots : ℕ} {ranks : List ℕ} {all : Bool} {live_edges : List ℕ} {bound : ℕ} {outgoing incoming lows highs : List ℕ} {e : ℕ} {q : Pen} {t : List ℕ}
-    → EdgesFit s p w live slots ranks all live_edges bound outgoing incoming lows highs
-    → StrungLive (live_flags live_edges bound) s p (record_width w) (λ i. record_bits w (record_at live slots outgoing incoming lows highs i)) e t q → e < bound
-    → EdgeFits t q w live slots ranks all (get_or outgoing e 0) (get_or incoming e 0)
-edge_room {live_edges = live_edges} {bound} {e = e} h a l =
-    let low : e < length (live_flags live_edges bound) = rw (length_flags live_edges bound) l in
-    let alive = passed_live a.passed low in
+pub edge_room : {s : List ℕ} {p : Pen} {w : ℕ} {live : List ℕ} {slots : ℕ} {v : Words} {e : ℕ} {past rest later : List ℕ} {q : Pen} {t : List ℕ} → EdgesFit s p w live slots v
+    → StrungLive (edge_live v) s p (record_width w) (piece w live slots v) past rest t q → rest ≡ e ∷ later
+    → EdgeFits t q w live slots (get_or v.outgoing e 0) (get_or v.incoming e 0)
+edge_room {e = e} h a next = record {
+  ranks_fit = h.ranks_fit;
+  source_live = h.sources_live e (live_next a next);
+  target_live = h.targets_live e (live_next a next);
+  room = live_room a next h.room;
+}
+
+-- it is an edge
+pub edge_there : {s : List ℕ} {p : Pen} {w : ℕ} {live : List ℕ} {slots : ℕ} {v : Words} {e : ℕ} {past rest later : List ℕ} {q : Pen} {t : List ℕ} → EdgesFit s p w live slots v
+    → StrungLive (edge_live v) s p (record_width w) (piece w live slots v) past rest t q → rest ≡ e ∷ later → EdgeThere v e
+edge_there {v = v} {e} h a next =
+    let low = live_below (edge_live v) e (live_next a next) in
+    let size = length_flags v.live_edges v.counts.edges.bound in
     record {
-      ranks_there = h.ranks_there;
-      source_live = h.sources_live e alive;
-      target_live = h.targets_live e alive;
-      room = live_room a h.room low;
+      source_there = omega (arith, low, size, h.sources_there);
+      target_there = omega (arith, low, size, h.targets_there);
+      low_there = omega (arith, low, size, h.lows_there);
+      high_there = omega (arith, low, size, h.highs_there);
     }
 
 -- ---- the lists' entries
@@ -161,7 +159,7 @@ abbrev pub entry_bits : ℕ → List ℕ → ℕ → ℕ → List ℕ
 entry_bits w live slots e = bits_of w (rank (live_flags live slots) e)
 
 -- the entry that comes next has room, and its rank fits
-pub next_entry : {s : List ℕ} {p : Pen} {w : ℕ} {live : List ℕ} {slots : ℕ} {ranks : List ℕ} {all : Bool} {entries : List ℕ} {i r : ℕ} {q : Pen} {t : List ℕ} → EntriesFit s p w live slots ranks all entries
+pub next_entry : {s : List ℕ} {p : Pen} {w : ℕ} {live : List ℕ} {slots : ℕ} {entries : List ℕ} {i r : ℕ} {q : Pen} {t : List ℕ} → EntriesFit s p w live slots entries
     → StrungTo s p w (entry_bits w live slots) entries i t q → i < length entries → r ≡ rank (live_flags live slots) (get_or entries i 0) → Puts t q w r
 next_entry {entries = entries} {i} h a l is =
-    piece_room (omega (arith, h.ranks_there.narrow)) (rw is (rank_there h.ranks_there (get_or entries i 0) (h.entries_live i l)).1) (entry_room a h.room l)
+    piece_room (omega (arith, h.ranks_fit.narrow)) (rw is (rank_there h.ranks_fit (get_or entries i 0) (h.entries_live i l)).1) (entry_room a h.room l)

@@ -1,14 +1,14 @@
 -- What the writers of an image's parts take, and the bits that they put.
-use Rattle.std.specs.Prelude.{ℕ, ◌+◌, ◌*◌, ◌^◌, ◌≤◌, ◌<◌, ◌≡◌, Bool, true, false, List, [], ◌∷◌, ◌++◌, map, length, take, get_or}
+use Rattle.std.specs.Prelude.{ℕ, ◌+◌, ◌*◌, ◌^◌, ◌≤◌, ◌<◌, ◌≡◌, true, false, List, [], ◌∷◌, ◌++◌, map, length, take, get_or}
 use Rattle.plain.specs.declared.EdgePayload.{EdgePayload}
+use Rattle.plain.specs.declared.EdgeRecord.{EdgeRecord as DeclaredRecord}
 use Rattle.plain.specs.Numbers.{LIMIT}
 use Rattle.plain.specs.Reads.{live_count, live_slots}
 use Rattle.plain.specs.Compaction.{EdgeRecord, Survivors, rank}
 use Rattle.plain.specs.Bits.{bits_of, row, bytes_for, least_width}
 use Rattle.plain.specs.Image.{edge_bits, record_width, outs_start, image_size, count_width, node_payload_width}
 use Rattle.liveness.specs.Flags.{live_flags}
-use Rattle.liveness.specs.Ranks.{Ranked}
-use Rattle.shape.specs.Shape.{Words}
+use Rattle.shape.specs.Shape.{Words, edge_live}
 use Rattle.shape.specs.Checked.{Checked}
 use Rattle.survivors.specs.Working.{both_walks}
 use Rattle.bits.specs.declared.pen.Pen.{Pen}
@@ -40,6 +40,10 @@ pub record NodesFit (s : List ℕ) (p : Pen) (nodes live : List ℕ) (bound : �
 abbrev pub record_bits : ℕ → EdgeRecord → List ℕ
 record_bits w r = edge_bits w (r ∷ [])
 
+-- the record that a program's is
+abbrev pub written_record : DeclaredRecord → EdgeRecord
+written_record r = record { source = r.source; target = r.target; payload = r.payload }
+
 -- The ends of an edge, at width w, and a record's room. Both ends are put as one value.
 pub record RecordFits (s : List ℕ) (p : Pen) (w source target : ℕ) : Type 0 where
   pub narrow : w ≤ 16
@@ -52,43 +56,49 @@ abbrev pub ranked_record : List ℕ → ℕ → ℕ → ℕ → EdgePayload → 
 ranked_record live slots source target payload =
     record { source = rank (live_flags live slots) source; target = rank (live_flags live slots) target; payload = payload }
 
--- live slots and the counts before their words, and a flag that is set only where no slot is removed
-pub record Numbered (live : List ℕ) (slots : ℕ) (ranks : List ℕ) (all : Bool) : Type 0 where
-  pub ranked : Ranked live slots ranks
-  pub whole : all ≡ true → live_count (live_flags live slots) ≡ slots
-
--- these, and a width that holds their ranks
-pub record RanksThere (live : List ℕ) (slots : ℕ) (ranks : List ℕ) (all : Bool) (w : ℕ) : Type 0 where
+-- a width that holds the ranks of live slots
+pub record RanksFit (live : List ℕ) (slots : ℕ) (w : ℕ) : Type 0 where
   pub narrow : w ≤ 16
-  pub numbered : Numbered live slots ranks all
   pub wide : live_count (live_flags live slots) ≤ 2 ^ w
 
 -- one live edge
-pub record EdgeFits (s : List ℕ) (p : Pen) (w : ℕ) (live : List ℕ) (slots : ℕ) (ranks : List ℕ) (all : Bool) (source target : ℕ) : Type 0 where
-  pub ranks_there : RanksThere live slots ranks all w
+pub record EdgeFits (s : List ℕ) (p : Pen) (w : ℕ) (live : List ℕ) (slots source target : ℕ) : Type 0 where
+  pub ranks_fit : RanksFit live slots w
   pub source_live : get_or (live_flags live slots) source false ≡ true
   pub target_live : get_or (live_flags live slots) target false ≡ true
   pub room : PiecesFit s p (record_width w) 1
 
--- all live edges
-pub record EdgesFit (s : List ℕ) (p : Pen) (w : ℕ) (live : List ℕ) (slots : ℕ) (ranks : List ℕ) (all : Bool) (live_edges : List ℕ) (bound : ℕ) (outgoing incoming lows highs : List ℕ) : Type 0 where
-  pub ranks_there : RanksThere live slots ranks all w
-  pub long : bound ≤ 64 * length live_edges
-  pub sources_there : bound ≤ length outgoing
-  pub targets_there : bound ≤ length incoming
-  pub lows_there : bound ≤ length lows
-  pub highs_there : bound ≤ length highs
-  pub sources_live : (e : ℕ) → get_or (live_flags live_edges bound) e false ≡ true → get_or (live_flags live slots) (get_or outgoing e 0) false ≡ true
-  pub targets_live : (e : ℕ) → get_or (live_flags live_edges bound) e false ≡ true → get_or (live_flags live slots) (get_or incoming e 0) false ≡ true
-  pub room : PiecesFit s p (record_width w) (live_count (live_flags live_edges bound))
+-- an edge slot of a store
+pub record EdgeThere (v : Words) (e : ℕ) : Type 0 where
+  pub source_there : e < length v.outgoing
+  pub target_there : e < length v.incoming
+  pub low_there : e < length v.lows
+  pub high_there : e < length v.highs
+
+-- its ends and its payload
+abbrev pub edge_of : Words → ℕ → DeclaredRecord
+edge_of v e =
+    record { source = get_or v.outgoing e 0; target = get_or v.incoming e 0; payload = record { low = get_or v.lows e 0; high = get_or v.highs e 0 } }
+
+-- all live edges of a store
+pub record EdgesFit (s : List ℕ) (p : Pen) (w : ℕ) (live : List ℕ) (slots : ℕ) (v : Words) : Type 0 where
+  pub ranks_fit : RanksFit live slots w
+  pub long : v.counts.edges.bound ≤ 64 * length v.live_edges
+  pub sources_there : v.counts.edges.bound ≤ length v.outgoing
+  pub targets_there : v.counts.edges.bound ≤ length v.incoming
+  pub lows_there : v.counts.edges.bound ≤ length v.lows
+  pub highs_there : v.counts.edges.bound ≤ length v.highs
+  pub sources_live : (e : ℕ) → get_or (edge_live v) e false ≡ true → get_or (live_flags live slots) (get_or v.outgoing e 0) false ≡ true
+  pub targets_live : (e : ℕ) → get_or (edge_live v) e false ≡ true → get_or (live_flags live slots) (get_or v.incoming e 0) false ≡ true
+  pub room : PiecesFit s p (record_width w) (live_count (edge_live v))
 
 -- the record of edge e, and those of all live edges in slot order
-abbrev pub record_at : List ℕ → ℕ → List ℕ → List ℕ → List ℕ → List ℕ → ℕ → EdgeRecord
-record_at live slots outgoing incoming lows highs e =
-    ranked_record live slots (get_or outgoing e 0) (get_or incoming e 0) (record { low = get_or lows e 0; high = get_or highs e 0 })
+abbrev pub record_at : List ℕ → ℕ → Words → ℕ → EdgeRecord
+record_at live slots v e =
+    ranked_record live slots (get_or v.outgoing e 0) (get_or v.incoming e 0) (record { low = get_or v.lows e 0; high = get_or v.highs e 0 })
 
-abbrev pub live_records : List ℕ → ℕ → List ℕ → ℕ → List ℕ → List ℕ → List ℕ → List ℕ → List EdgeRecord
-live_records live slots live_edges bound outgoing incoming lows highs = map (record_at live slots outgoing incoming lows highs) (live_slots (live_flags live_edges bound))
+abbrev pub live_records : List ℕ → ℕ → Words → List EdgeRecord
+live_records live slots v = map (record_at live slots v) (live_slots (edge_live v))
 
 -- ---- counts, payloads and records
 
@@ -105,19 +115,19 @@ pub record SlotsFit (w : Words) (width : ℕ) (s : List ℕ) : Type 0 where
 -- ---- the lists' entries
 
 -- entries that are live edges, written by their ranks
-pub record EntriesFit (s : List ℕ) (p : Pen) (w : ℕ) (live : List ℕ) (slots : ℕ) (ranks : List ℕ) (all : Bool) (entries : List ℕ) : Type 0 where
-  pub ranks_there : RanksThere live slots ranks all w
+pub record EntriesFit (s : List ℕ) (p : Pen) (w : ℕ) (live : List ℕ) (slots : ℕ) (entries : List ℕ) : Type 0 where
+  pub ranks_fit : RanksFit live slots w
   pub entries_live : (i : ℕ) → i < length entries → get_or (live_flags live slots) (get_or entries i 0) false ≡ true
   pub room : PiecesFit s p w (length entries)
 
--- the same before the ranks are there
-pub record ListsFit (s : List ℕ) (p : Pen) (width : ℕ) (live : List ℕ) (slots : ℕ) (all : Bool) (entries : List ℕ) : Type 0 where
+-- the same of a store's live edges, before the ranks are there
+pub record ListsFit (s : List ℕ) (p : Pen) (width : ℕ) (v : Words) (entries : List ℕ) : Type 0 where
   pub narrow : width ≤ 16
-  pub long : slots ≤ 64 * length live
-  pub few : slots ≤ LIMIT
-  pub whole : all ≡ true → live_count (live_flags live slots) ≡ slots
-  pub wide : live_count (live_flags live slots) ≤ 2 ^ width
-  pub entries_live : (i : ℕ) → i < length entries → get_or (live_flags live slots) (get_or entries i 0) false ≡ true
+  pub long : v.counts.edges.bound ≤ 64 * length v.live_edges
+  pub few : v.counts.edges.bound ≤ LIMIT
+  pub right : v.counts.edges.live ≡ live_count (edge_live v)
+  pub wide : live_count (edge_live v) ≤ 2 ^ width
+  pub entries_live : (i : ℕ) → i < length entries → get_or (edge_live v) (get_or entries i 0) false ≡ true
   pub room : PiecesFit s p width (length entries)
 
 -- ---- the whole

@@ -4,15 +4,18 @@
 
 #![tactic(auto)]
 
-ghost use Rattle.std.specs.Prelude.{◌<◌, ◌≤◌, ◌≡◌, map, length};
+mod ranking;
+
+ghost use Rattle.std.specs.Prelude.{◌≤◌, ◌≡◌, map, length};
 ghost use Rattle.plain.specs.Numbers.{LIMIT};
 ghost use Rattle.plain.specs.Lists.{written};
 ghost use Rattle.plain.specs.Compaction.{rank, survivors};
 ghost use Rattle.plain.specs.Bits.{row};
+ghost use Rattle.plain.specs.Answers.{answer_of};
 ghost use Rattle.plain.specs.Image.{edge_bits, image, node_payload_width};
 ghost use Rattle.liveness.specs.Flags.{live_flags};
-ghost use Rattle.shape.specs.Shape.{lists};
-ghost use Rattle.shape.specs.Lent.{lent, at_entry};
+ghost use Rattle.shape.specs.Shape.{edge_live, lists};
+ghost use Rattle.shape.specs.Stores.{words};
 ghost use Rattle.bits.specs.Penned.{Penned, fresh};
 ghost use Rattle.image_write.specs.Calls.{WriteOf};
 ghost use Rattle.image_write.specs.Writing.{
@@ -20,27 +23,31 @@ ghost use Rattle.image_write.specs.Writing.{
   RecordFits,
   EdgeFits,
   EdgesFit,
+  EdgeThere,
+  edge_of,
   EntriesFit,
-  Numbered,
   SlotsFit,
   ListsFit,
   ImageFits,
   live_payloads,
   record_bits,
+  written_record,
   ranked_record,
   live_records,
   count_bits,
   slot_bits,
 };
 
+use crate::ranking::Numbering;
 use bits::pen::{Pen, finish, put};
 use bits::{least_width, raise};
 use image_check::places::{COUNT_WIDTH, NODE_PAYLOAD_WIDTH, WEIGHT_WIDTH, image_bytes};
-use liveness::{next_live, rank_by, write_ranks};
-use plain::numbers::{DONE, TOO_SHORT};
-use plain::{Answer, Counts, EdgePayload};
+use liveness::live_slots::LiveSlots;
+use plain::refusals::Refusal;
+use plain::{EdgePayload, EdgeRecord};
+use shape::Store;
 use survivors::lists::write_both;
-use validate::judging::{judge, no_store};
+use validate::judging::check_store;
 
 // The words of live bits that the most slots take.
 const LIVE_WORDS: usize = 512;
@@ -65,278 +72,135 @@ fn write_nodes(bytes: &mut [u8], pen: Pen, nodes: &[u32], live: &[u64], bound: u
     ensures { Penned bytes.old pen (row node_payload_width (live_payloads nodes.now live.now bound)) bytes.new result }
 {
     let mut at = pen;
-    let mut node = next_live(live, bound, 0);
-    while node < bound {
+    for node in LiveSlots::new(live, bound) {
         at = put(bytes, at, NODE_PAYLOAD_WIDTH, nodes[node] as u64);
-        node = next_live(live, bound, node + 1);
     }
     at
 }
 
 // Writes an edge's ends, in `width` bits each, and its payload: its low, then its high. Internal.
-fn write_record(
-    bytes: &mut [u8],
-    pen: Pen,
-    width: u32,
-    source: u32,
-    target: u32,
-    payload: EdgePayload,
-) -> Pen
-    requires { RecordFits bytes.old pen width source target }
-    ensures { Penned bytes.old pen (record_bits width (record { source = source; target = target; payload = payload })) bytes.new result }
+fn write_record(bytes: &mut [u8], pen: Pen, width: u32, edge: EdgeRecord) -> Pen
+    requires { RecordFits bytes.old pen width edge.source edge.target }
+    ensures { Penned bytes.old pen (record_bits width (written_record edge)) bytes.new result }
 {
-    let ends = raise(source as u64, width) + target as u64;
+    let ends = raise(edge.source as u64, width) + edge.target as u64;
     let second = put(bytes, pen, 2 * width, ends);
+    let payload = edge.payload;
     let third = put(bytes, second, WEIGHT_WIDTH, payload.low as u64);
     put(bytes, third, WEIGHT_WIDTH, payload.high as u64)
 }
 
-// The new number of a slot: how many live slots stand before it, or the slot itself where none is removed, as `all` says. Internal.
-fn new_number(live: &[u64], slots: usize, ranks: &[u32], all: bool, slot: u32) -> u32
-    requires { Numbered live.now slots ranks.now all × (slot < slots) }
-    ensures { result ≡ rank (live_flags live.now slots) slot }
-{
-    if all {
-        return slot;
-    }
-    rank_by(live, slots, ranks, slot as usize)
-}
-
 // Writes the record of a live edge, its ends by their new numbers. Internal.
-fn write_edge(
-    bytes: &mut [u8],
-    pen: Pen,
-    width: u32,
-    live: &[u64],
-    slots: usize,
-    ranks: &[u32],
-    all: bool,
-    source: u32,
-    target: u32,
-    payload: EdgePayload,
-) -> Pen
-    requires { EdgeFits bytes.old pen width live.now slots ranks.now all source target }
-    ensures { Penned bytes.old pen (record_bits width (ranked_record live.now slots source target payload)) bytes.new result }
+fn write_edge(bytes: &mut [u8], pen: Pen, width: u32, nodes: &Numbering, edge: EdgeRecord) -> Pen
+    requires { EdgeFits bytes.old pen width nodes.now.live.now nodes.now.slots edge.source edge.target }
+    ensures { Penned bytes.old pen
+        (record_bits width (ranked_record nodes.now.live.now nodes.now.slots edge.source edge.target edge.payload)) bytes.new result }
 {
-    let first = new_number(live, slots, ranks, all, source);
-    let second = new_number(live, slots, ranks, all, target);
-    write_record(bytes, pen, width, first, second, payload)
+    let numbered = EdgeRecord {
+        source: nodes.new_number(edge.source),
+        target: nodes.new_number(edge.target),
+        payload: edge.payload,
+    };
+    write_record(bytes, pen, width, numbered)
 }
 
-// Writes the records of the live edges in slot order, and answers the pen after them. `live`, `slots`, `ranks` and `all` are the nodes', `live_edges` and `bound` the edges'.
-// Internal.
-fn write_edges(
-    bytes: &mut [u8],
-    pen: Pen,
-    width: u32,
-    live: &[u64],
-    slots: usize,
-    ranks: &[u32],
-    all: bool,
-    live_edges: &[u64],
-    bound: usize,
-    outgoing: &[u32],
-    incoming: &[u32],
-    lows: &[u32],
-    highs: &[u32],
-) -> Pen
-    requires { EdgesFit bytes.old pen width live.now slots ranks.now all live_edges.now bound outgoing.now incoming.now lows.now highs.now }
-    ensures { Penned bytes.old pen (edge_bits width
-        (live_records live.now slots live_edges.now bound outgoing.now incoming.now lows.now highs.now))
-        bytes.new result }
+// The record of an edge. Internal: there is one.
+fn edge_at(store: &Store, edge: usize) -> EdgeRecord
+    requires { EdgeThere (words store.now) edge }
+    ensures { result ≡ edge_of (words store.now) edge }
 {
+    EdgeRecord {
+        source: store.outgoing[edge],
+        target: store.incoming[edge],
+        payload: EdgePayload {
+            low: store.lows[edge],
+            high: store.highs[edge],
+        },
+    }
+}
+
+// Writes the records of the live edges in slot order, and answers the pen after them. Internal.
+fn write_edges(bytes: &mut [u8], pen: Pen, width: u32, nodes: &Numbering, store: &Store) -> Pen
+    requires { EdgesFit bytes.old pen width nodes.now.live.now nodes.now.slots (words store.now) }
+    ensures { Penned bytes.old pen (edge_bits width (live_records nodes.now.live.now nodes.now.slots (words store.now))) bytes.new result }
+{
+    let bound = store.counts.edges.bound as usize;
     let mut at = pen;
-    let mut e = next_live(live_edges, bound, 0);
-    while e < bound {
-        let payload = EdgePayload {
-            low: lows[e],
-            high: highs[e],
-        };
-        at = write_edge(
-            bytes,
-            at,
-            width,
-            live,
-            slots,
-            ranks,
-            all,
-            outgoing[e],
-            incoming[e],
-            payload,
-        );
-        e = next_live(live_edges, bound, e + 1);
+    for e in LiveSlots::new(store.live_edges, bound) {
+        at = write_edge(bytes, at, width, nodes, edge_at(store, e));
     }
     at
 }
 
 // Writes entries of lists by their new numbers, one after the other, and answers the pen after them. Internal.
-fn write_entries(
-    bytes: &mut [u8],
-    pen: Pen,
-    width: u32,
-    live: &[u64],
-    slots: usize,
-    ranks: &[u32],
-    all: bool,
-    entries: &[u32],
-) -> Pen
-    requires { EntriesFit bytes.old pen width live.now slots ranks.now all entries.now }
-    ensures { Penned bytes.old pen (row width (map (rank (live_flags live.now slots)) entries.now)) bytes.new result }
+fn write_entries(bytes: &mut [u8], pen: Pen, width: u32, edges: &Numbering, entries: &[u32]) -> Pen
+    requires { EntriesFit bytes.old pen width edges.now.live.now edges.now.slots entries.now }
+    ensures { Penned bytes.old pen (row width (map (rank (live_flags edges.now.live.now edges.now.slots)) entries.now)) bytes.new result }
 {
     let mut at = pen;
-    let mut i: usize = 0;
-    while i < entries.len() {
-        let entry = new_number(live, slots, ranks, all, entries[i]);
-        at = put(bytes, at, width, entry as u64);
-        i += 1;
+    for entry in entries {
+        at = put(bytes, at, width, edges.new_number(*entry) as u64);
     }
     at
 }
 
 // Writes the counts, the nodes' payloads and the edges' records of what is live in a store, a node in `width` bits, and answers the pen after them. Internal.
-fn write_slots(
-    counts: Counts,
-    nodes: &[u32],
-    lows: &[u32],
-    highs: &[u32],
-    live_nodes: &[u64],
-    live_edges: &[u64],
-    outgoing: &[u32],
-    incoming: &[u32],
-    width: u32,
-    bytes: &mut [u8],
-) -> Pen
-    requires { SlotsFit (lent counts nodes.now lows.now highs.now live_nodes.now live_edges.now outgoing.now incoming.now) width bytes.old }
-    ensures { Penned bytes.old fresh
-        (slot_bits width (survivors (lists (at_entry counts nodes.now lows.now highs.now live_nodes.now live_edges.now outgoing.now incoming.now)))) bytes.new result }
+fn write_slots(store: &Store, width: u32, bytes: &mut [u8]) -> Pen
+    requires { SlotsFit (words store.now) width bytes.old }
+    ensures { Penned bytes.old fresh (slot_bits width (survivors (lists (words store.now)))) bytes.new result }
 {
-    let node_slots = counts.nodes;
-    let edge_slots = counts.edges;
-    let slots = node_slots.bound as usize;
+    let counts = store.counts;
+    // No heap: a fixed array.
     let mut ranks: [u32; LIVE_WORDS] = [0; LIVE_WORDS];
-    write_ranks(live_nodes, slots, &mut ranks);
-    let first = write_counts(bytes, node_slots.live, edge_slots.live);
-    let second = write_nodes(bytes, first, nodes, live_nodes, slots);
-    write_edges(
-        bytes,
-        second,
-        width,
-        live_nodes,
-        slots,
-        &ranks,
-        node_slots.live == node_slots.bound,
-        live_edges,
-        edge_slots.bound as usize,
-        outgoing,
-        incoming,
-        lows,
-        highs,
-    )
+    let nodes = Numbering::new(store.live_nodes, counts.nodes, &mut ranks);
+    let first = write_counts(bytes, counts.nodes.live, counts.edges.live);
+    let bound = counts.nodes.bound as usize;
+    let second = write_nodes(bytes, first, store.nodes, store.live_nodes, bound);
+    write_edges(bytes, second, width, &nodes, store)
 }
 
 // Writes the joined lists of both directions, an entry in `width` bits, and answers the pen after them. Internal.
-fn write_lists(
-    bytes: &mut [u8],
-    pen: Pen,
-    width: u32,
-    live: &[u64],
-    slots: usize,
-    all: bool,
-    entries: &[u32],
-) -> Pen
-    requires { ListsFit bytes.old pen width live.now slots all entries.now }
-    ensures { Penned bytes.old pen (row width (map (rank (live_flags live.now slots)) entries.now)) bytes.new result }
+fn write_lists(bytes: &mut [u8], pen: Pen, width: u32, store: &Store, entries: &[u32]) -> Pen
+    requires { ListsFit bytes.old pen width (words store.now) entries.now }
+    ensures { Penned bytes.old pen (row width (map (rank (edge_live (words store.now))) entries.now)) bytes.new result }
 {
+    // No heap: a fixed array.
     let mut ranks: [u32; LIVE_WORDS] = [0; LIVE_WORDS];
-    write_ranks(live, slots, &mut ranks);
-    write_entries(bytes, pen, width, live, slots, &ranks, all, entries)
+    let edges = Numbering::new(store.live_edges, store.counts.edges, &mut ranks);
+    write_entries(bytes, pen, width, &edges, entries)
 }
 
 // Writes the image of what is live in a store to the start of `bytes`; the work slice holds the lists of both directions by old numbers. Internal: there is room.
-fn write_survivors(
-    counts: Counts,
-    nodes: &[u32],
-    lows: &[u32],
-    highs: &[u32],
-    live_nodes: &[u64],
-    live_edges: &[u64],
-    outgoing: &[u32],
-    incoming: &[u32],
-    work: &[u32],
-    bytes: &mut [u8],
-)
-    requires { ImageFits (lent counts nodes.now lows.now highs.now live_nodes.now live_edges.now outgoing.now incoming.now) work.now bytes.old }
-    ensures { bytes.new ≡ written
-        (image (survivors (lists (at_entry counts nodes.now lows.now highs.now live_nodes.now live_edges.now outgoing.now incoming.now)))) bytes.old }
+fn write_survivors(store: &Store, work: &[u32], bytes: &mut [u8])
+    requires { ImageFits (words store.now) work.now bytes.old }
+    ensures { bytes.new ≡ written (image (survivors (lists (words store.now)))) bytes.old }
 {
-    let node_slots = counts.nodes;
-    let edge_slots = counts.edges;
-    let width = least_width(node_slots.live);
-    let entry_width = least_width(edge_slots.live);
-    let count = 2 * edge_slots.live as usize;
-    let pen = write_slots(
-        counts, nodes, lows, highs, live_nodes, live_edges, outgoing, incoming, width, bytes,
-    );
-    let end = write_lists(
-        bytes,
-        pen,
-        entry_width,
-        live_edges,
-        edge_slots.bound as usize,
-        edge_slots.live == edge_slots.bound,
-        &work[..count],
-    );
+    let live_nodes = store.counts.nodes.live;
+    let live_edges = store.counts.edges.live;
+    let width = least_width(live_nodes);
+    let entry_width = least_width(live_edges);
+    let pen = write_slots(store, width, bytes);
+    let count = 2 * live_edges as usize;
+    let end = write_lists(bytes, pen, entry_width, store, &work[..count]);
     finish(bytes, end);
 }
 
 // The image of the store, into `bytes`: "1; 2 for the work slice, twice the live transfer count; 2 for the image's slice". The work slice takes the lists of both
-// directions, and is "left free afterwards".
-pub fn write_image(
-    counts: Counts,
-    nodes: &[u32],
-    lows: &[u32],
-    highs: &[u32],
-    live_nodes: &[u64],
-    live_edges: &[u64],
-    outgoing: &[u32],
-    incoming: &[u32],
-    work: &mut [u32],
-    bytes: &mut [u8],
-) -> Answer
-    ensures { WriteOf
-        (at_entry counts nodes.now lows.now highs.now live_nodes.now live_edges.now outgoing.now incoming.now)
-        work.old bytes.old result work.new bytes.new }
+// directions, and is "left free afterwards". Its length in bytes where it is written.
+pub fn write_image(store: &Store, work: &mut [u32], bytes: &mut [u8]) -> Result<usize, Refusal>
+    ensures { WriteOf (words store.now) work.old bytes.old (answer_of result) work.new bytes.new }
 {
-    let rule = judge(
-        counts, nodes, lows, highs, live_nodes, live_edges, outgoing, incoming,
-    );
-    if rule != 0 {
-        return no_store(rule);
-    }
-    let node_slots = counts.nodes;
-    let edge_slots = counts.edges;
-    let listed = 2 * edge_slots.live as usize;
+    check_store(store)?;
+    let counts = store.counts;
+    let listed = 2 * counts.edges.live as usize;
     if work.len() < listed {
-        return Answer {
-            number: TOO_SHORT,
-            value: listed as u64,
-        };
+        return Err(Refusal::TooShort(listed as u64));
     }
-    let needed = image_bytes(node_slots.live, edge_slots.live);
+    let needed = image_bytes(counts.nodes.live, counts.edges.live);
     if bytes.len() < needed {
-        return Answer {
-            number: TOO_SHORT,
-            value: needed as u64,
-        };
+        return Err(Refusal::TooShort(needed as u64));
     }
-    write_both(
-        counts, nodes, lows, highs, live_nodes, live_edges, outgoing, incoming, work,
-    );
-    write_survivors(
-        counts, nodes, lows, highs, live_nodes, live_edges, outgoing, incoming, work, bytes,
-    );
-    Answer {
-        number: DONE,
-        value: needed as u64,
-    }
+    write_both(store, work);
+    write_survivors(store, work, bytes);
+    Ok(needed)
 }

@@ -3,3 +3,4 @@ pub mod Resets
 mod Ranking
 mod WordFlags
 mod NextWords
+mod LiveSlots

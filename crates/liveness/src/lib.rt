@@ -3,6 +3,8 @@
 
 #![tactic(auto)]
 
+pub mod live_slots;
+
 ghost use Rattle.std.specs.Prelude.{◌*◌, ◌<◌, ◌≤◌, ◌≡◌, false, length, get_or, min};
 ghost use Rattle.plain.specs.Reads.{live_count};
 ghost use Rattle.plain.specs.Compaction.{rank as rank_of};

@@ -1,4 +1,4 @@
--- Laws of lengths: each test of a slice on the way to the answer, and what the memory has where the answer is 0.
+-- Laws of devices and lengths: each test of a slice on the way to the answer, and what the memory has where the answer is 0.
 use Rattle.std.specs.Prelude.{ℕ, zero, suc, ◌≤◌, ◌<◌, ◌≡◌, refl, List}
 use Rattle.plain.specs.Library.{sym, ap, ◌∙◌, ⊎_elim, arith, le-leb}
 use Rattle.plain.specs.declared.Answer.{Answer}
@@ -8,7 +8,17 @@ use Rattle.plain.specs.Devices.{Device, Takes, Proper}
 use Rattle.plain.specs.Calls.{short_answer, within, fresh, readable, reading_slices, asked, reading, read_image}
 use Rattle.plain.proofs.Laws.Booleans.{below_or_not}
 use Rattle.plain.specs.Laws.CallCases.{LongEnough, slice_fits, no_slice}
+use Rattle.plain.proofs.Laws.Devices.{box_proper, skid_proper}
 use Rattle.plain.proofs.Laws.CallCases.{one_short, long_or_short, nodes_above, edges_above, within_limits}
+use Rattle.memory.specs.declared.Device.{Device as Chosen}
+use Rattle.memory.specs.declared.Device.TheVariants.{Box, Skid}
+use Rattle.memory.specs.Lengths.{device_of}
+
+-- ---- the devices
+
+pub device_proper : (device : Chosen) → Proper (device_of device)
+device_proper Box = box_proper
+device_proper Skid = skid_proper
 
 -- ---- on the way to the answer
 

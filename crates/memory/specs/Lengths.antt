@@ -3,15 +3,13 @@ use Rattle.std.specs.Prelude.{ℕ, ◌^◌, ◌<◌, ◌≡◌, Result, Ok, Err}
 use Rattle.plain.specs.declared.Answer.{Answer}
 use Rattle.plain.specs.declared.refusals.Refusal.{Refusal}
 use Rattle.plain.specs.Answers.{done_of}
-use Rattle.plain.specs.Numbers.{above_limit, above_skid}
 use Rattle.plain.specs.Step.{Capacities}
 use Rattle.plain.specs.Memory.{Lengths}
-use Rattle.plain.specs.Devices.{Device, Takes}
+use Rattle.plain.specs.Devices.{Device, box, skid, Takes}
 use Rattle.plain.specs.Calls.{within}
 use Rattle.memory.specs.declared.Lengths.{Lengths as Measures}
-use Rattle.memory.specs.declared.Above.{Above}
-use Rattle.memory.specs.declared.Above.TheVariants.{Limit, Skid}
-use Rattle.memory.specs.declared.Limits.{Limits}
+use Rattle.memory.specs.declared.Device.{Device as Chosen}
+use Rattle.memory.specs.declared.Device.TheVariants.{Box, Skid}
 
 abbrev pub caps : ℕ → ℕ → Capacities
 caps nodes edges = record { nodes = nodes; edges = edges }
@@ -30,14 +28,10 @@ lengths nodes lows highs live_nodes live_edges outgoing incoming = record {
 abbrev pub measured : Measures → Lengths
 measured l = lengths l.nodes l.lows l.highs l.live_nodes l.live_edges l.outgoing l.incoming
 
--- the number that more is refused with
-abbrev pub above_number : Above → ℕ
-above_number Limit = above_limit
-above_number Skid = above_skid
-
--- the device of these limits
-abbrev pub device_of : Limits → Device
-device_of l = record { limits = caps l.nodes l.edges; number = above_number l.above }
+-- the device of the definitions
+abbrev pub device_of : Chosen → Device
+device_of Box = box
+device_of Skid = skid
 
 -- What is told where so many are asked of a device: it takes them, or its refusal, whatever were to follow.
 abbrev pub Taken : Device → Capacities → Result Unit Refusal → Type 0

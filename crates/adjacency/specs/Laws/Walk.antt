@@ -45,6 +45,11 @@ module _ {ws : List ℕ} {ce cn : ℕ} {counts : Counts} {x : ℕ} (r : Readable
   pub read_below : (e : ℕ) → In e (raw (adjacency_in ws ce cn counts x)) → e < counts.edges.bound
   read_below = raw_below ws ce cn counts r.edges.base_within r.index r.runs x r.node r.rings
 
+  -- so a column with a word for each edge has one for each entry
+  pub entries_within : (live : Bool) (column : List ℕ) → ce ≤ length column → Within column (cond live (raw (adjacency_in ws ce cn counts x)) [])
+  entries_within true column long e m = let low = read_below e m in let bounded = r.edges in omega arith
+  entries_within false column long e m = in_none e m
+
 -- ---- what a started walk reads
 
 module _ {ws : List ℕ} {ce cn : ℕ} {counts : Counts} {x : ℕ} {live : Bool} {s : Start} (t : Started ws ce cn counts x live s) where

@@ -1,39 +1,40 @@
--- `bits::read_bytewise` meets its contract: what was read is the field's front.
-use Rattle.std.specs.Prelude.{◌-◌}
-use Rattle.plain.specs.Library.{ap, ◌∙◌, arith}
-use native.Mathlib.Nat.{sub_self}
-use Rattle.plain.specs.Bits.{field_at}
+-- `bits::read_bytewise` meets its contract: the field is cut out of the window of its bytes.
+use Rattle.std.specs.Prelude.{◌+◌, ◌-◌, ◌/◌, ◌%◌, ◌≤◌, ◌<◌, ◌≡◌, length, take, drop}
+use Rattle.plain.specs.Library.{◌∙◌, sym, arith}
+use lib.ListN.{length-take, length-drop}
 use Rattle.plain.proofs.Laws.Bits.{field_at_zero}
-use Rattle.bits.proofs.Fields.{Turn, Turned, turned, field_at_fits}
-use Rattle.bits.proofs.read_bytewise.Goals.{After-lesser-part}
+use Rattle.bits.proofs.Fields.{window_item, window_more, window_room, window_end}
+use Rattle.bits.proofs.read_bytewise.Goals.{At-loop-byte}
 use Rattle.bits.proofs.read_bytewise.Goals as goal
 
-turn : (c : After-lesser-part) → let a = c.args in let l = c.loop-left in
-    Turned a.bytes.now a.position a.width l.value l.at l.left c.lesser-part.result
-turn c =
-    let a = c.args in
-    let l = c.loop-left in
-    let t : Turn a.bytes.now a.position a.width l.at l.left c.lesser-part.result = omega arith in turned l.value t l.invariant.1.1
+-- the bytes of the window
+count : (c : At-loop-byte) → let a = c.args in
+    length (take (c.div_ceil.result - a.position / 8) (drop (a.position / 8) a.bytes.now)) ≡ c.div_ceil.result - a.position / 8
+count c = simp (length-take, length-drop) (omega arith)
 
-pub loop-left-init : goal.loop-left-init
-loop-left-init c = (omega arith, (omega arith, rw (sub_self, field_at_zero)))
+pub loop-byte-init : goal.loop-byte-init
+loop-byte-init c = sym (field_at_zero _ _)
 
 pub raise-requires : goal.raise-requires
-raise-requires c = let t = turn (goal.at.raise-requires c).After-lesser-part in omega arith
+raise-requires c =
+    let n = count (goal.at.raise-requires c).At-loop-byte in
+    let j = c.loop-byte.byte-index in
+    let few : j ≤ 4 = omega (arith, n, c.requires.narrow) in
+    let room = window_room c.args.bytes.now (c.args.position / 8) j few c.loop-byte.invariant in omega arith
 
-pub read_part-requires : goal.read_part-requires
-read_part-requires c = let t = turn (goal.at.read_part-requires c).After-lesser-part in t.part
-
-pub overflow_add-value : goal.overflow_add-value
-overflow_add-value c = let t = turn (goal.at.overflow_add-value c).After-lesser-part in omega arith
-
-pub loop-left-preserved : goal.loop-left-preserved
-loop-left-preserved c = let t = turn (goal.at.loop-left-preserved c).After-lesser-part in omega arith
-
-pub overflow_cast-result : goal.overflow_cast-result
-overflow_cast-result c =
-    let a = c.args in
-    omega (arith, field_at_fits a.bytes.now a.position (a.width - c.loop-left.left) (omega arith))
+pub loop-byte-preserved : goal.loop-byte-preserved
+loop-byte-preserved c =
+    let s = c.args.bytes.now in
+    let i = c.args.position / 8 in
+    let n = count (goal.at.loop-byte-preserved c).At-loop-byte in
+    let j = c.loop-byte.byte-index in
+    let below : j < c.div_ceil.result - i = omega (arith, n) in
+    rw c.raise.ensures
+    (window_more s i j (omega arith) (c.type_inv.bytes (i + j)).fits c.loop-byte.invariant (c.from.ensures ∙ window_item s i (c.div_ceil.result - i) j below))
 
 pub returns : goal.returns
-returns c = let a = c.args in c.loop-left.invariant.1.1 ∙ ap (field_at a.bytes.now a.position) (omega arith)
+returns c =
+    let a = c.args in
+    let n = count (goal.at.returns c).At-loop-byte in
+    rw c.cut.ensures
+    (window_end a.bytes.now a.position a.width c.loop-byte.byte-index ((8 - (a.position + a.width) % 8) % 8) (omega (arith, n)) (omega (arith, n)) c.loop-byte.invariant)

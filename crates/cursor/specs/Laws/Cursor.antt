@@ -1,12 +1,12 @@
 -- Laws of the cursor: a step finds the head of what remains and leaves the tail, and nothing is found exactly where nothing remains.
-use Rattle.std.specs.Prelude.{ℕ, ◌+◌, ◌-◌, ◌≤◌, ◌≡◌, refl, Bool, true, false, List, [], ◌∷◌, ◌++◌, length, eqb, ltb, Option, Some}
+use Rattle.std.specs.Prelude.{ℕ, ◌+◌, ◌-◌, ◌≤◌, ◌<◌, ◌≡◌, refl, Bool, true, false, List, [], ◌∷◌, ◌++◌, length, eqb, ltb, Option, None, Some}
 use Rattle.std.specs.Iterator.{YieldsFirst}
 use Rattle.plain.specs.Library.{sym, ap, ◌∙◌, subst, inl, inr, ⊎_elim, arith, eqb-true, eqb-false, ne_eqb, ltb-true}
 use Rattle.std.proofs.Common.{ltb-false}
 use Rattle.plain.specs.Numbers.{NONE}
-use Rattle.plain.specs.Lists.{member}
+use Rattle.plain.specs.Lists.{member, keep}
 use Rattle.plain.proofs.Laws.Booleans.{by_test, or_true}
-use Rattle.plain.proofs.Laws.ListLaws.{member_later, member_append}
+use Rattle.plain.proofs.Laws.ListLaws.{member_first, member_later, member_append}
 use Rattle.shape.specs.Chains.{until, In}
 use Rattle.shape.proofs.Laws.Chains.{chain_none, chain_some, chain_length}
 use Rattle.shape.proofs.Laws.Walking.{between_none, between_some, between_length, until_first, until_end, until_on}
@@ -102,6 +102,27 @@ module _ {linked : Bool} {entries next : List ℕ} {c : AdjacencyCursor} (ready 
   -- what the step left
   pub turn : Stepped linked entries next c (found, d)
   turn = subst (λ (t : Option ℕ × AdjacencyCursor). Stepped linked entries next c t) (sym r) (step_stepped linked ready)
+
+  -- what was found stands before what is left
+  pub found_is : {f : Option ℕ} → found ≡ f → YieldsFirst (remaining linked entries next) c f d
+  found_is q = rw q at turn.left
+
+  -- less is left
+  pub turn_less : {e : ℕ} → found ≡ Some e → length (remaining linked entries next d) < length (remaining linked entries next c)
+  turn_less {e} q = rw (found_is q) (omega arith)
+
+  -- an entry stands before what is left, of the entries that pass
+  pub step_edge : (test : ℕ → Bool) {e : ℕ} → found ≡ Some e → keep test (remaining linked entries next c) ≡ keep test (e ∷ remaining linked entries next d)
+  step_edge test q = ap (keep test) (found_is q)
+
+  -- nothing was left
+  pub step_none : (test : ℕ → Bool) → found ≡ None → keep test (remaining linked entries next c) ≡ []
+  unfolding keep
+  step_none test q = ap (keep test) (found_is q).0
+
+  -- an entry is an edge of the columns
+  pub step_below : {e : ℕ} → found ≡ Some e → e < length next
+  step_below {e} q = ready.below e (rw (found_is q) (member_first e (remaining linked entries next d)))
 
 -- ---- the search for the next entry that passes
 

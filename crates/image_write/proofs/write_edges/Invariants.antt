@@ -1,14 +1,13 @@
 -- `image_write::write_edges` meets its contract: after each turn the record of one live edge more was written.
-use Rattle.std.specs.Prelude.{◌-◌}
 use Rattle.plain.specs.Image.{record_width}
-use Rattle.liveness.specs.Flags.{live_flags}
+use Rattle.liveness.specs.LiveSlots.{left}
+use Rattle.shape.specs.Shape.{edge_live}
+use Rattle.shape.specs.Stores.{words}
 use Rattle.image_write.proofs.Strung.{StrungLive}
 use Rattle.image_write.proofs.Writing.{piece}
 use Rattle.image_write.proofs.write_edges.Given as goal
 
 abbrev pub invariant-loop-e : goal.invariant-loop-e
 invariant-loop-e l =
-    StrungLive (live_flags l.live_edges l.bound) l.initial.bytes l.initial.at (record_width l.width) (piece l.width l.live l.slots l.outgoing l.incoming l.lows l.highs) l.e l.bytes l.at
-
-abbrev pub decreases-loop-e : goal.decreases-loop-e
-decreases-loop-e l = l.bound - l.e
+    let v = words l.store in
+    StrungLive (edge_live v) l.initial.bytes l.initial.at (record_width l.width) (piece l.width l.nodes.live.now l.nodes.slots v) l.yielded (left l.e-iterator) l.bytes l.at

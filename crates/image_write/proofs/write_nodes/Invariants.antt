@@ -1,14 +1,11 @@
 -- `image_write::write_nodes` meets its contract: after each turn the payload of one live node more was written.
-use Rattle.std.specs.Prelude.{◌-◌}
 use Rattle.plain.specs.Image.{node_payload_width}
 use Rattle.liveness.specs.Flags.{live_flags}
+use Rattle.liveness.specs.LiveSlots.{left}
 use Rattle.image_write.proofs.Strung.{StrungLive}
 use Rattle.image_write.proofs.Writing.{node_bits}
 use Rattle.image_write.proofs.write_nodes.Given as goal
 
 abbrev pub invariant-loop-node : goal.invariant-loop-node
 invariant-loop-node l =
-    StrungLive (live_flags l.live l.bound) l.initial.bytes l.initial.at node_payload_width (node_bits l.nodes) l.node l.bytes l.at
-
-abbrev pub decreases-loop-node : goal.decreases-loop-node
-decreases-loop-node l = l.bound - l.node
+    StrungLive (live_flags l.live l.bound) l.initial.bytes l.initial.at node_payload_width (node_bits l.nodes) l.yielded (left l.node-iterator) l.bytes l.at

@@ -18,8 +18,8 @@ put-third-requires c =
 
 pub put-requires : goal.put-requires
 put-requires c =
-    high_put c.requires (rw c.raise.ensures at c.put-second.ensures) c.args.payload.low c.put-third.ensures (omega arith)
+    high_put c.requires (rw c.raise.ensures at c.put-second.ensures) c.args.edge.payload.low c.put-third.ensures (omega arith)
 
 pub returns : goal.returns
 returns c =
-    penned_record c.requires (rw c.raise.ensures at c.put-second.ensures) c.args.payload c.put-third.ensures c.put.ensures
+    penned_record c.requires (rw c.raise.ensures at c.put-second.ensures) c.args.edge.payload c.put-third.ensures c.put.ensures

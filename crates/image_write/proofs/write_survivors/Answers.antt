@@ -1,5 +1,5 @@
 -- `image_write::write_survivors` meets its contract: slots and lists follow each other, at the least widths, and what waits in the pen is written.
-use Rattle.plain.specs.Library.{sym, arith, eqb-true}
+use Rattle.plain.specs.Library.{sym, arith}
 use lib.Seq.{length-take-le}
 use Rattle.plain.proofs.Laws.Below.{below_of}
 use Rattle.image_write.proofs.Surviving.{counts_few, lists_fit, end_fits, wrote_image}
@@ -16,7 +16,7 @@ slice_bounds-write_lists-end c = sym (length-take-le _ c.args.work.now c.require
 
 pub write_lists-end-requires : goal.write_lists-end-requires
 write_lists-end-requires c =
-    lists_fit c.requires c.least_width-width.ensures c.least_width-entry_width.ensures c.write_slots-pen.ensures (eqb-true _ _)
+    lists_fit c.requires c.least_width-width.ensures c.least_width-entry_width.ensures c.write_slots-pen.ensures
 
 pub finish-requires : goal.finish-requires
 finish-requires c =

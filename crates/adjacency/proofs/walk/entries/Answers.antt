@@ -3,5 +3,10 @@ use Rattle.plain.specs.Library.{◌∙◌}
 use Rattle.adjacency.specs.Laws.Walk.{started_left}
 use Rattle.adjacency.proofs.walk.entries.Goals as goal
 
+pub of-requires : goal.of-requires
+of-requires c = let columns = c.of-columns.ensures in rw (columns.entries_are, columns.next_are) c.start-start.ensures.ready
+
 pub returns : goal.returns
-returns c = c.of.ensures ∙ rw (c.entries_of.ensures, c.next_of.ensures) (started_left c.start-start.ensures)
+returns c =
+    let columns = c.of-columns.ensures in
+    c.of.ensures ∙ rw (columns.entries_are, columns.next_are) (started_left c.start-start.ensures)

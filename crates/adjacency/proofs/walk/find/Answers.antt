@@ -1,6 +1,10 @@
--- `adjacency::walk::find` meets its contract: the edges of a walk have an end each.
-use Rattle.adjacency.specs.Laws.Walk.{walk_within}
+-- `adjacency::walk::find` meets its contract: the entries have an end each, and the listed ones are the walk.
+use Rattle.adjacency.specs.Laws.Walk.{entries_within, listed_walk}
 use Rattle.adjacency.proofs.walk.find.Goals as goal
 
-pub find_end-requires : goal.find_end-requires
-find_end-requires c = rw c.edges.ensures (walk_within c.requires.walkable c.args.live _ c.requires.edge_capacity_in_bounds)
+pub find_end-requires-clause-within : goal.find_end-requires-clause-within
+find_end-requires-clause-within c =
+    rw c.entries.ensures (entries_within c.requires.walkable.readable c.args.live _ c.requires.edge_capacity_in_bounds)
+
+pub returns : goal.returns
+returns c = rw (c.tombstoned.ensures, c.entries.ensures, listed_walk c.requires.walkable c.args.live) at c.find_end.ensures

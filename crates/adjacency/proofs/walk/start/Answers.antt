@@ -5,7 +5,7 @@ use Rattle.adjacency.proofs.walk.start.Goals.{in-Some, in-None}
 use Rattle.adjacency.proofs.walk.start.Goals as goal
 
 pub returns-then-not-live : goal.returns-then-not-live
-returns-then-not-live c = rw c.if-not-live.true (none_starts c.requires)
+returns-then-not-live c = rw (c.if-not-live.true, c.exhausted.ensures) (none_starts c.requires)
 
 pub ring_ends-requires : goal.ring_ends-requires
 ring_ends-requires c = ends_readable c.requires

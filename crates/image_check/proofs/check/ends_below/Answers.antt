@@ -1,4 +1,4 @@
--- `image_check::check::ends_below` meets its contract. The loop's invariant: the edges from `edge` on decide. The measure is the number of edges left.
+-- `image_check::check::ends_below` meets its contract. The loop's invariant: the edges from `edge` on decide.
 use Rattle.plain.specs.Library.{sym, ◌∙◌, lt-ltb, le-ltb}
 use Rattle.validate_words.specs.Laws.Passing.{rest_first, rest_more, rest_fails, rest_none}
 use Rattle.image_check.specs.Checks.{ends_within}

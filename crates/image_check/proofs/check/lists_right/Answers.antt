@@ -1,5 +1,5 @@
--- `image_check::check::lists_right` meets its contract. The loop's invariant: the entries from `at` on decide, those before are marked. The measure is the number of
--- entries left.
+-- `image_check::check::lists_right` meets its contract. The loop's invariant: the entries from number i on decide, those before are marked.
+use Rattle.std.specs.Prelude.{◌+◌, ◌*◌, ◌≡◌}
 use Rattle.plain.specs.Library.{sym, arith}
 use Rattle.image_check.proofs.Checking.{column_fewer}
 use Rattle.image_check.proofs.Ordering.{order_start, order_room, order_past, order_descends, order_marked, order_more, order_done}
@@ -32,15 +32,13 @@ pub returns-then-not-mark : goal.returns-then-not-mark
 returns-then-not-mark c =
     order_marked c.loop-i.invariant c.loop-i-test.true c.read_field-edge.ensures c.mark.ensures c.if-not-mark.true
 
-pub overflow_add-at : goal.overflow_add-at
-overflow_add-at c =
-    let room = order_room c.loop-i.invariant c.loop-i-test.true in
-    omega (arith, c.requires)
-
 pub loop-i-preserved : goal.loop-i-preserved
 loop-i-preserved c =
-    order_more c.loop-i.invariant c.loop-i-test.true c.read_field-edge.ensures c.field_of-end.ensures c.if-edge-m.false c.if-end-last.false
-    c.mark.ensures c.if-not-mark.false c.mark.auto.seen
+    let a = c.args in
+    let next : a.list + a.v * c.loop-i.i + a.v ≡ a.list + a.v * (c.loop-i.i + 1) = omega arith in
+    rw next at
+    (order_more c.loop-i.invariant c.loop-i-test.true c.read_field-edge.ensures c.field_of-end.ensures c.if-edge-m.false c.if-end-last.false
+    c.mark.ensures c.if-not-mark.false c.mark.auto.seen)
 
 pub returns : goal.returns
 returns c = order_done c.loop-i.invariant c.loop-i-test.false

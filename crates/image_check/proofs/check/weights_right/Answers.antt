@@ -1,4 +1,4 @@
--- `image_check::check::weights_right` meets its contract. The loop's invariant: the edges from `edge` on decide. The measure is the number of edges left.
+-- `image_check::check::weights_right` meets its contract. The loop's invariant: the edges from `edge` on decide.
 use Rattle.std.specs.Prelude.{leb}
 use Rattle.plain.specs.Library.{sym, ap₂, ◌∙◌, lt-leb, le-leb}
 use Rattle.validate_words.specs.Laws.Passing.{rest_first, rest_more, rest_fails, rest_none}

@@ -5,10 +5,10 @@ use Rattle.plain.specs.Library.{sym}
 use Rattle.cursor.proofs.entries.EntriesIterator.next.Goals as goal
 
 pub invariant_of-self : goal.invariant_of-self
-invariant_of-self c = (turn c.self.invariant c.step.ensures).ready
+invariant_of-self c = (turn c.self.invariant c.advance.ensures).ready
 
 pub returns-clause-steps : goal.returns-clause-steps
-returns-clause-steps c = rw (sym c.self.view_is) (turn c.self.invariant c.step.ensures).left
+returns-clause-steps c = rw (sym c.self.view_is) (turn c.self.invariant c.advance.ensures).left
 
 pub returns-clause-goes : goal.returns-clause-goes
-returns-clause-goes c = goes_on (λ _. tt) c.step.result (rw (sym c.self.view_is) (turn c.self.invariant c.step.ensures).left)
+returns-clause-goes c = goes_on (λ _. tt) c.advance.result (rw (sym c.self.view_is) (turn c.self.invariant c.advance.ensures).left)

@@ -1,0 +1,56 @@
+// One direction's columns as slices of their own, resolved once for a walk (`Axis` of the Rust). It is thin: what reads the columns is over plain slices, in the
+// other files.
+
+ghost use Rattle.std.specs.Prelude.{◌<◌, ◌≡◌, length};
+ghost use Rattle.shape.specs.Columns.{Sized};
+ghost use Rattle.adjacency.specs.Index.{offsets_column, bounds_at};
+ghost use Rattle.adjacency.specs.Axis.{Columns};
+
+use crate::{index, walk};
+use std::ops::Range;
+
+// `entries` is what a walk reads before the ring: the compressed index's edge numbers, or in their place the run links, where the walk is linked. `next` is the
+// ring links.
+#[derive(Clone, Copy)]
+pub struct Axis<'a> {
+    pub offsets: &'a [u32],
+    pub entries: &'a [u32],
+    pub next: &'a [u32],
+}
+
+// The column of the compressed index's offsets.
+pub fn offsets_of(axis: &[u32], edge_capacity: usize, node_capacity: usize) -> &[u32]
+    requires { Sized axis.now edge_capacity node_capacity }
+    ensures { result.now ≡ offsets_column axis.now edge_capacity node_capacity }
+{
+    let from = 4 * edge_capacity + 5 * node_capacity;
+    let to = from + node_capacity + 1;
+    &axis[from..to]
+}
+
+impl<'a> Axis<'a> {
+    // Of the parts of one packed slice.
+    pub fn of(
+        words: &'a [u32],
+        edge_capacity: usize,
+        node_capacity: usize,
+        linked: bool,
+    ) -> Axis<'a>
+        requires { Sized words.now edge_capacity node_capacity }
+        ensures { Columns words.now edge_capacity node_capacity linked result }
+    {
+        Axis {
+            offsets: offsets_of(words, edge_capacity, node_capacity),
+            entries: walk::entries_of(words, edge_capacity, linked),
+            next: walk::next_of(words, edge_capacity),
+        }
+    }
+
+    // Where the base part of a node begins and ends among the adjacency words.
+    pub fn bounds(self, base: usize, node: usize) -> Range<u32>
+        requires { base < length self.offsets.now }
+        ensures { result ≡ bounds_at self.entry.offsets.now base node }
+    {
+        index::bounds_at(self.offsets, base, node)
+    }
+}

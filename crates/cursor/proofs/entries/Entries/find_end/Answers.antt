@@ -1,0 +1,25 @@
+-- `find_end` of the entries meets its contract.
+use Rattle.plain.specs.Library.{sym, ◌∙◌, eq-eqb, ne_eqb}
+use Rattle.cursor.specs.Laws.Finding.{seek_start, seek_in, seek_found, seek_none, seek_skip, seek_on}
+use Rattle.cursor.proofs.entries.Entries.find_end.Goals.{else-ends-edge-via-then-ends-edge+else-is_listed, else-ends-edge-via-else-ends-edge}
+use Rattle.cursor.proofs.entries.Entries.find_end.Goals as goal
+
+pub loop-edge-init : goal.loop-edge-init
+loop-edge-init c = rw c.into_iter-edge-iterator.ensures.into_iter_gives (seek_start c.args.self)
+
+pub bounds-ends-edge : goal.bounds-ends-edge
+bounds-ends-edge c = c.requires.within c.in-Some.edge (seek_in c.loop-edge.invariant c.in-Some.ensures.steps)
+
+pub returns-then-is_listed : goal.returns-then-is_listed
+returns-then-is_listed c =
+    sym (seek_found c.loop-edge.invariant c.in-Some.ensures.steps (eq-eqb _ _ c.if-ends-edge.true) (sym c.is_listed.ensures ∙ c.if-is_listed.true))
+
+pub loop-edge-preserved : goal.loop-edge-preserved
+loop-edge-preserved c =
+    elim c.else-ends-edge.branch [
+      | else-ends-edge-via-then-ends-edge+else-is_listed w ↦ seek_skip c.loop-edge.invariant c.in-Some.ensures.steps (sym w.is_listed.ensures ∙ w.if-is_listed.false)
+      | else-ends-edge-via-else-ends-edge w ↦ seek_on c.loop-edge.invariant c.in-Some.ensures.steps (ne_eqb _ _ w.if-ends-edge.false)
+    ]
+
+pub returns : goal.returns
+returns c = sym (seek_none c.loop-edge.invariant c.in-None.ensures.steps.0)
