@@ -1,3 +1,3 @@
 mod Going
-mod Writing
+pub mod Writing
 mod Summing

@@ -17,7 +17,7 @@ pub record Writing (f : ℕ → ℕ) (all past left out₀ out : List ℕ) (n : 
 module _ {f : ℕ → ℕ} {all past left out₀ out : List ℕ} {n : ℕ} (w : Writing f all past left out₀ out n) where
   module _ {e : ℕ} {rest : List ℕ} (q : left ≡ e ∷ rest) where
     -- there is room for one edge more
-    writing_room : length all ≤ length out₀ → n < length out
+    pub writing_room : length all ≤ length out₀ → n < length out
     writing_room fits =
         let size : length all ≡ length past + (1 + length rest) = rw (w.whole, q) (simp length-append (omega arith)) in
         omega (arith, w.long, w.counted)

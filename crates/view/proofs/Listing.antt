@@ -1,68 +1,41 @@
--- Listing the live slots by the next live one: what the loop holds, and what the two reads answer.
-use Rattle.std.specs.Prelude.{ℕ, ◌+◌, ◌≤◌, ◌<◌, ◌≡◌, refl, Bool, List, [], ◌∷◌, ◌++◌, length, set, drop}
-use Rattle.plain.specs.Library.{sym, ap, ◌∙◌, length-append, length-set, arith}
+-- Listing the live slots: what the loop asks, and what the two reads answer.
+use Rattle.std.specs.Prelude.{ℕ, ◌≤◌, ◌<◌, ◌≡◌, true, Bool, List, length}
+use Rattle.plain.specs.Library.{sym, ap, ◌∙◌, arith}
 use Rattle.plain.specs.declared.TraversalDirection.TheVariants.{Outgoing}
 use Rattle.plain.specs.declared.Slots.{Slots}
 use Rattle.plain.specs.declared.Answer.{Answer}
 use Rattle.plain.specs.Numbers.{LIMIT}
-use Rattle.plain.specs.Lists.{written}
-use Rattle.plain.specs.Reads.{listing, live_count, live_slots, node_slots, edge_slots}
+use Rattle.plain.specs.Lists.{member}
+use Rattle.plain.specs.Reads.{listing, live_slots, node_slots, edge_slots}
 use Rattle.plain.proofs.Laws.ListLaws.{count_length}
-use Rattle.plain.proofs.Laws.Rank.{length_live_slots}
-use Rattle.liveness.specs.Flags.{live_flags, next_live}
-use Rattle.liveness.specs.Laws.Passed.{Passed, passed_none, passed_fewer, passed_on, passed_later, passed_few, passed_all}
+use Rattle.plain.proofs.Laws.Rank.{length_live_slots, member_live_slots, live_below}
+use Rattle.liveness.specs.Flags.{live_flags}
+use Rattle.liveness.specs.Laws.Flags.{length_flags}
 use Rattle.shape.specs.Checked.{SlotsChecked}
 use Rattle.shape.specs.Shape.{Words, node_live, edge_live, lists}
 use Rattle.shape.proofs.Laws.Slots.{nodes_told, edges_told}
-use Rattle.cursor.specs.Laws.Reading.{write_one}
 use Rattle.validate.specs.Judging.{Judged}
 use Rattle.view.specs.Calls.{Listed, Replied}
+use Rattle.view.specs.Ids.{LiveFits, LiveTold}
 use Rattle.view.specs.Laws.Calls.{list_replies}
-use Rattle.view.specs.Ids.{LiveTold}
 
--- The live slots before `slot`, which is the next or past the end, are written, n of them.
-pub record Listing (flags : List Bool) (out₀ out : List ℕ) (n slot : ℕ) : Type 0 where
-  pub past : List ℕ
-  pub passed : Passed flags past slot
-  pub counted : n ≡ length past
-  pub wrote : out ≡ past ++ drop n out₀
-  pub long : length out ≡ length out₀
-  pub fits : live_count flags ≤ length out₀
+-- ---- the loop
 
--- where it starts
-pub listing_start : {flags : List Bool} {out : List ℕ} {slot : ℕ} → slot ≡ next_live flags 0 → live_count flags ≤ length out → Listing flags out out 0 slot
-listing_start next fits = record { past = []; passed = passed_none next; counted = refl; wrote = refl; long = refl; fits = fits }
+-- there is room for the live slots
+pub live_room : (words : List ℕ) (bound : ℕ) (slots : List ℕ) → LiveFits words bound slots → length (live_slots (live_flags words bound)) ≤ length slots
+live_room words bound slots h = omega (arith, length_live_slots (live_flags words bound), h.fits)
 
-module _ {flags : List Bool} {out₀ out : List ℕ} {n slot : ℕ} (i : Listing flags out₀ out n slot) where
-  module _ (l : slot < length flags) where
-    -- there is room for it
-    pub listing_room : n < length out
-    listing_room = omega (arith, i.counted, i.long, i.fits, passed_fewer i.passed l)
+-- they are few
+pub left_few : {words : List ℕ} {bound : ℕ} {slots : List ℕ} → LiveFits words bound slots → {left : List ℕ} → left ≡ live_slots (live_flags words bound)
+    → length left ≤ LIMIT
+left_few {words} {bound} h is =
+    omega (arith, ap length is, length_live_slots (live_flags words bound), count_length (λ (f : Bool). f) (live_flags words bound), length_flags words bound, h.few)
 
-    -- one slot more
-    pub listing_on : {later : ℕ} → later ≡ next_live flags (slot + 1) → Listing flags out₀ (set out n slot) (n + 1) later
-    listing_on next =
-        let room : n < length out₀ = omega (arith, listing_room, i.long) in
-        record {
-          past = i.past ++ (slot ∷ []);
-          passed = passed_on i.passed l next;
-          counted = simp length-append (omega (arith, i.counted));
-          wrote = rw i.wrote (write_one i.past out₀ n slot i.counted room);
-          long = length-set out n slot ∙ i.long;
-          fits = i.fits;
-        }
-
-    -- the next is later
-    pub listing_later : {later : ℕ} → later ≡ next_live flags (slot + 1) → slot < later
-    listing_later next = passed_later i.passed l next
-
-  -- no more than there are slots
-  pub listing_few : n ≤ length flags
-  listing_few = omega (arith, i.counted, passed_few i.passed, count_length (λ (f : Bool). f) flags)
-
-  -- all are written
-  pub listing_end : length flags ≤ slot → out ≡ written (live_slots flags) out₀
-  listing_end past_end = rw (passed_all i.passed past_end, ← i.counted) i.wrote
+-- and each is below their number
+pub live_few : (words : List ℕ) (bound : ℕ) (slots : List ℕ) → LiveFits words bound slots → (slot : ℕ)
+    → member slot (live_slots (live_flags words bound)) ≡ true → slot < LIMIT
+live_few words bound slots h slot m =
+    omega (arith, live_below (live_flags words bound) slot (sym (member_live_slots (live_flags words bound) slot) ∙ m), length_flags words bound, h.few)
 
 -- ---- the answers, of one kind of slot
 

@@ -7,8 +7,7 @@ ghost use Rattle.shape.specs.Stores.{words};
 ghost use Rattle.view.specs.Calls.{Answered};
 
 use crate::check_node;
-use adjacency::reads;
-use plain::TraversalDirection;
+use adjacency::walk;
 use plain::refusals::Refusal;
 use shape::Store;
 
@@ -20,5 +19,16 @@ pub fn find(store: &Store, first: u32, second: u32) -> Result<Option<u32>, Refus
     if store.counts.nodes.bound <= second {
         return Err(Refusal::OutOfRangeNode);
     }
-    Ok(reads::edges(store, TraversalDirection::Outgoing, first).find_end(store.incoming, second))
+    let edge = walk::find(
+        store.outgoing,
+        store.incoming,
+        store.lows.len(),
+        store.nodes.len(),
+        store.counts,
+        store.live_edges,
+        first as usize,
+        store.is_node_live(first),
+        second,
+    );
+    Ok(edge)
 }

@@ -1,38 +1,30 @@
--- `view::ids::write_live` meets its contract. The loop's invariant is `Listing`, the measure the slots that are left.
-use Rattle.std.specs.Prelude.{◌≤◌}
-use Rattle.plain.specs.Library.{arith}
-use Rattle.plain.specs.Numbers.{LIMIT}
-use Rattle.liveness.specs.Laws.Flags.{length_flags}
-use Rattle.view.proofs.Listing.{listing_start, listing_room, listing_few, listing_on, listing_later, listing_end}
-use Rattle.view.proofs.ids.write_live.Goals.{At-loop-slot}
+-- `view::ids::write_live` meets its contract. The loop's invariant is `Writing`, with each slot itself.
+use Rattle.plain.specs.Library.{ap, ◌∙◌, inl, arith}
+use Rattle.std.specs.Iterator.Adapters.{enumerate_source, enumerate_count}
+use Rattle.liveness.specs.LiveSlots.{left}
+use Rattle.plain.proofs.Laws.ListLaws.{map_snoc}
+use Rattle.cursor.proofs.Writing.{writing_in, writing_room, writing_on}
+use Rattle.view.proofs.Listing.{left_few, live_room, live_few}
 use Rattle.view.proofs.ids.write_live.Goals as goal
 
--- few are written
-few : (c : At-loop-slot) → c.loop-slot.n ≤ LIMIT
-few c =
-    omega (arith, listing_few c.loop-slot.invariant, length_flags c.args.words.now c.args.bound, c.requires.few)
+pub loop-n-init-derived : goal.loop-n-init-derived
+loop-n-init-derived c =
+    let source = c.enumerate-n-items.ensures.source in
+    let count = c.enumerate-n-items.ensures.count in
+    let few = left_few c.requires (ap left (ap enumerate_source c.into_iter-n-iterator.ensures.into_iter_gives ∙ source) ∙ c.new.ensures) in
+    let none = ap enumerate_count c.into_iter-n-iterator.ensures.into_iter_gives ∙ count in
+    ((tt, tt, inl (omega (arith, few, none))), tt)
 
-pub loop-slot-init : goal.loop-slot-init
-loop-slot-init c = listing_start c.next_live-slot.ensures c.requires.fits
-
-pub offset_bounds-slots-n : goal.offset_bounds-slots-n
-offset_bounds-slots-n c = omega (arith, few (goal.at.offset_bounds-slots-n c).At-loop-slot)
+pub overflow_cast-slots : goal.overflow_cast-slots
+overflow_cast-slots c = omega (arith, live_few _ _ _ c.requires _ (writing_in c.loop-n.invariant c.in-Some.ensures.steps.0))
 
 pub bounds-slots-n : goal.bounds-slots-n
-bounds-slots-n c = listing_room c.loop-slot.invariant (rw length_flags c.loop-slot-test.true)
+bounds-slots-n c =
+    let steps = c.in-Some.ensures.steps in
+    let room = writing_room c.loop-n.invariant steps.0 (live_room _ _ _ c.requires) in omega (arith, steps.1, room)
 
-pub overflow_add-n : goal.overflow_add-n
-overflow_add-n c = omega (arith, few (goal.at.overflow_add-n c).At-loop-slot)
-
-pub loop-slot-smaller : goal.loop-slot-smaller
-loop-slot-smaller c =
-    omega (arith, c.loop-slot-test.true, listing_later c.loop-slot.invariant (rw length_flags c.loop-slot-test.true) c.next_live-slot-in-loop-slot.ensures)
-
-pub loop-slot-preserved : goal.loop-slot-preserved
-loop-slot-preserved c = listing_on c.loop-slot.invariant (rw length_flags c.loop-slot-test.true) c.next_live-slot-in-loop-slot.ensures
-
-pub shape_of-slots : goal.shape_of-slots
-shape_of-slots c = c.loop-slot.invariant.long
-
-pub returns : goal.returns
-returns c = listing_end c.loop-slot.invariant (rw length_flags c.loop-slot-test.false)
+pub loop-n-preserved : goal.loop-n-preserved
+loop-n-preserved c =
+    let steps = c.in-Some.ensures.steps in
+    rw (map_snoc (λ p. p.1) c.loop-n.yielded (c.in-Some.n, c.in-Some.slot), steps.1, steps.2)
+    (writing_on c.loop-n.invariant steps.0 (live_room _ _ _ c.requires))

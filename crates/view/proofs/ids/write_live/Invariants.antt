@@ -1,11 +1,12 @@
--- `view::ids::write_live` meets its contract. The loop's invariant is `Listing`, the measure the slots that are left.
-use Rattle.std.specs.Prelude.{◌-◌}
+-- `view::ids::write_live` meets its contract. The loop's invariant is `Writing`, with each slot itself.
+use Rattle.std.specs.Prelude.{map}
+use Rattle.std.specs.Iterator.Adapters.{enumerate_source, enumerate_count}
+use Rattle.plain.specs.Reads.{live_slots}
 use Rattle.liveness.specs.Flags.{live_flags}
-use Rattle.view.proofs.Listing.{Listing}
+use Rattle.liveness.specs.LiveSlots.{left}
+use Rattle.cursor.proofs.Writing.{Writing}
 use Rattle.view.proofs.ids.write_live.Given as goal
 
-abbrev pub invariant-loop-slot : goal.invariant-loop-slot
-invariant-loop-slot l = Listing (live_flags l.words l.bound) l.initial.slots l.slots l.n l.slot
-
-abbrev pub decreases-loop-slot : goal.decreases-loop-slot
-decreases-loop-slot l = l.bound - l.slot
+abbrev pub invariant-loop-n : goal.invariant-loop-n
+invariant-loop-n l =
+    Writing (λ slot. slot) (live_slots (live_flags l.words l.bound)) (map (λ p. p.1) l.yielded) (left (enumerate_source l.n-iterator)) l.fn.slots l.slots (enumerate_count l.n-iterator)
