@@ -2,8 +2,8 @@
 
 #![tactic(auto)]
 
-ghost use Rattle.std.specs.Prelude.{◌*◌, ◌<◌, ◌≡◌, true, not, length, eqb};
-ghost use Rattle.marks.specs.Marks.{Marked, Entered};
+ghost use Rattle.std.specs.Prelude.{◌*◌, ◌<◌, length};
+ghost use Rattle.marks.specs.Marks.{Marked};
 
 // Marks an edge, and answers whether it was not marked.
 pub fn mark(seen: &mut [u64], edge: usize) -> bool
@@ -18,15 +18,4 @@ pub fn mark(seen: &mut [u64], edge: usize) -> bool
     }
     seen[at] = word + (1u64 << bit);
     true
-}
-
-// Marks an edge after a step that is not 0, and answers whether it was not marked; a step of 0 marks nothing.
-pub fn mark_step(seen: &mut [u64], edge: usize, step: u32) -> bool
-    requires { (step ≡ 0 → ⊥) → edge < 64 * length seen.old }
-    ensures { Entered (not (eqb step 0)) true seen.old edge result seen.new }
-{
-    if step == 0 {
-        return true;
-    }
-    mark(seen, edge)
 }

@@ -1,23 +1,28 @@
 -- The ways that additions, removals and a new payload end, each by what the program has tested.
-use Rattle.std.specs.Prelude.{ℕ, ◌≤◌, ◌<◌, ◌≡◌, refl, Bool, true, false, cond, List, get_or}
+use Rattle.std.specs.Prelude.{ℕ, ◌≤◌, ◌<◌, ◌≡◌, refl, Bool, true, false, List, get_or, Err}
+use mir.Val.{bool_byte}
 use Rattle.plain.specs.Library.{sym, subst, ◌∙◌, ⊎_elim}
 use Rattle.plain.specs.declared.EdgePayload.{EdgePayload}
+use Rattle.plain.specs.declared.refusals.Refusal.{Refusal}
+use Rattle.plain.specs.declared.refusals.Refusal.TheVariants.{OutOfRangeNode}
+use Rattle.plain.specs.declared.refusals.Refusal.TheVariants as refusals
 use Rattle.plain.specs.declared.Operation.{Operation}
 use Rattle.plain.specs.declared.Operation.TheVariants.{AddNode, AddEdge, RemoveEdge, RemoveNode, SetPayload}
 use Rattle.plain.specs.Numbers.{NONE}
 use Rattle.plain.specs.Plain.{Plain}
-use Rattle.plain.specs.Step.{payload_fault, changed, unchanged}
+use Rattle.plain.specs.Refusals.{number_of, value_of}
+use Rattle.plain.specs.Step.{changed, unchanged}
 use Rattle.plain.specs.Laws.Cases.{Absent, Removed, Live, Case, add_node_full, add_node, add_edge_inverted, add_edge_source_absent, add_edge_source_removed, add_edge_target_absent, add_edge_target_removed, add_edge_full, add_edge, remove_edge_absent, remove_edge_removed, remove_edge, remove_node_absent, remove_node_removed, remove_node, set_payload_inverted, set_payload_absent, set_payload}
 use Rattle.plain.proofs.Laws.Booleans.{by_test, below_or_not}
-use Rattle.liveness.specs.Faults.{fault_of}
 use Rattle.shape.specs.Shape.{Words, capacities, node_capacity, edge_capacity, node_live, lists}
 use Rattle.shape.specs.Checked.{Checked}
+use Rattle.shape.specs.Stores.{slot_refused}
 use Rattle.shape.specs.Steps.{acts}
 use Rattle.shape.specs.Laws.Slots.{Told}
 use Rattle.shape.proofs.Laws.Slots.{nodes_told, edges_told, node_bound_of, edge_bound_of, absent_slot, live_slot, removed_slot}
 use Rattle.store.specs.Operations.{Acted, Removing, RemovedEdge, RemovedNode}
 use Rattle.refusals.specs.Step.{StepOf}
-use Rattle.refusals.proofs.Told.{told_fault, told_inverted}
+use Rattle.refusals.proofs.Told.{node_fault}
 use Rattle.refusals.specs.Laws.Stepping.{stays, done}
 
 module _ {w : Words} (c : Checked w) where
@@ -34,21 +39,22 @@ module _ {w : Words} (c : Checked w) where
   -- ---- add edge
 
   module _ (source target : ℕ) (payload : EdgePayload) where
-    pub edge_inverted : {number : ℕ} → number ≡ payload_fault payload → (number ≡ 0 → ⊥) → StepOf (AddEdge source target payload) w w number NONE
-    edge_inverted = told_inverted payload (λ n. StepOf (AddEdge source target payload) w w n NONE) (λ o. stays c (add_edge_inverted o) refl)
+    pub edge_inverted : payload.high < payload.low → StepOf (AddEdge source target payload) w w 16 NONE
+    edge_inverted order = stays c (add_edge_inverted order) refl
 
   module _ (source target : ℕ) {payload : EdgePayload} (order : payload.low ≤ payload.high) where
-    pub source_fault : {number : ℕ} → number ≡ fault_of (node_live w) w.counts.nodes.bound source 5 6 → (number ≡ 0 → ⊥)
-        → StepOf (AddEdge source target payload) w w number NONE
-    source_fault =
-        told_fault (node_live w) w.counts.nodes.bound source 5 6 (λ n. StepOf (AddEdge source target payload) w w n NONE)
+    pub source_fault : {v : Words} → v ≡ w → {refusal : Refusal} → Err refusal ≡ slot_refused OutOfRangeNode refusals.RemovedNode (node_live v) v.counts.nodes.bound source
+        → StepOf (AddEdge source target payload) w w (number_of refusal) (value_of refusal)
+    source_fault same =
+        node_fault same (AddEdge source target payload) source
         (λ h. stays c (add_edge_source_absent order (absent_slot (nodes_told w) source h)) refl)
         (λ l h. stays c (add_edge_source_removed order (removed_slot (nodes_told w) source l h)) refl)
 
-    pub target_fault : get_or (node_live w) source false ≡ true → {number : ℕ} → number ≡ fault_of (node_live w) w.counts.nodes.bound target 5 6
-        → (number ≡ 0 → ⊥) → StepOf (AddEdge source target payload) w w number NONE
-    target_fault s =
-        told_fault (node_live w) w.counts.nodes.bound target 5 6 (λ n. StepOf (AddEdge source target payload) w w n NONE)
+    pub target_fault : get_or (node_live w) source false ≡ true → {v : Words} → v ≡ w → {refusal : Refusal}
+        → Err refusal ≡ slot_refused OutOfRangeNode refusals.RemovedNode (node_live v) v.counts.nodes.bound target
+        → StepOf (AddEdge source target payload) w w (number_of refusal) (value_of refusal)
+    target_fault s same =
+        node_fault same (AddEdge source target payload) target
         (λ h. stays c (add_edge_target_absent order (live_slot (nodes_told w) source s) (absent_slot (nodes_told w) target h)) refl)
         (λ l h. stays c (add_edge_target_removed order (live_slot (nodes_told w) source s) (removed_slot (nodes_told w) target l h)) refl)
 
@@ -71,23 +77,23 @@ module _ {w : Words} (c : Checked w) where
       (gone : Removed flags x → Case (capacities w) (lists w) operation (unchanged 0 (lists w)))
       (never : Absent flags x → Case (capacities w) (lists w) operation (unchanged 0 (lists w)))
     where
-      slot_removed : {v : Words} {answer : Bool} → Removing operation (get_or live x false) w answer v → StepOf operation w v 0 (cond answer 1 0)
+      slot_removed : {v : Words} {answer : Bool} → Removing operation (get_or live x false) w answer v → StepOf operation w v 0 (bool_byte answer)
       slot_removed {v} {answer} r =
           by_test answer (λ was. rw was (done (there (live_slot t x (sym r.answers ∙ was))) acting refl (r.acts was)))
           (λ was-not. let dead = sym r.answers ∙ was-not in
           rw was-not (subst (λ (u : Words). StepOf operation w u 0 0) (sym (r.keeps was-not))
           (⊎_elim (λ l. stays c (gone (removed_slot t x l dead)) idle) (λ l. stays c (never (absent_slot t x l)) idle) (below_or_not x bound))))
 
-  pub node_removed : {v : Words} {answer : Bool} (x : ℕ) → RemovedNode x w answer v → StepOf (RemoveNode x) w v 0 (cond answer 1 0)
+  pub node_removed : {v : Words} {answer : Bool} (x : ℕ) → RemovedNode x w answer v → StepOf (RemoveNode x) w v 0 (bool_byte answer)
   node_removed x = slot_removed (nodes_told w) x refl refl remove_node remove_node_removed remove_node_absent
 
-  pub edge_removed : {v : Words} {answer : Bool} (e : ℕ) → RemovedEdge e w answer v → StepOf (RemoveEdge e) w v 0 (cond answer 1 0)
+  pub edge_removed : {v : Words} {answer : Bool} (e : ℕ) → RemovedEdge e w answer v → StepOf (RemoveEdge e) w v 0 (bool_byte answer)
   edge_removed e = slot_removed (edges_told w) e refl refl remove_edge remove_edge_removed remove_edge_absent
 
   -- ---- set payload, of removed edges too
 
-  pub payload_inverted : (e : ℕ) (v : EdgePayload) {number : ℕ} → number ≡ payload_fault v → (number ≡ 0 → ⊥) → StepOf (SetPayload e v) w w number NONE
-  payload_inverted e v = told_inverted v (λ n. StepOf (SetPayload e v) w w n NONE) (λ o. stays c (set_payload_inverted o) refl)
+  pub payload_inverted : (e : ℕ) {v : EdgePayload} → v.high < v.low → StepOf (SetPayload e v) w w 16 NONE
+  payload_inverted e order = stays c (set_payload_inverted order) refl
 
   pub payload_absent : (e : ℕ) {v : EdgePayload} → v.low ≤ v.high → w.counts.edges.bound ≤ e → StepOf (SetPayload e v) w w 7 NONE
   payload_absent e order h = stays c (set_payload_absent order (absent_slot (edges_told w) e h)) refl

@@ -1,34 +1,44 @@
--- What follows from the number that `fault` and `payload_fault` answered: a fault's case where it is not 0, and none where it is.
-use Rattle.std.specs.Prelude.{ℕ, suc, ◌≤◌, ◌<◌, ◌≡◌, refl, Bool, true, false, List, get_or, leb}
-use Rattle.plain.specs.Library.{sym, subst, ◌∙◌, arith, leb-true}
-use borrow.Author.Tests.{leb-false}
-use Rattle.plain.specs.declared.EdgePayload.{EdgePayload}
-use Rattle.plain.specs.Step.{payload_fault}
-use Rattle.plain.proofs.Laws.Booleans.{by_test}
-use Rattle.liveness.specs.Faults.{fault_of}
-use Rattle.liveness.specs.Laws.Faults.{no_fault, by_fault}
+-- What follows from what `live_node` and `live_edge` answered of the store v that is read, of the store w as it stands.
+use Rattle.std.specs.Prelude.{ℕ, ◌≤◌, ◌<◌, ◌≡◌, true, false, Ok, Err, get_or}
+use Rattle.plain.specs.Library.{subst}
+use Rattle.plain.specs.declared.Operation.{Operation}
+use Rattle.plain.specs.declared.refusals.Refusal.{Refusal}
+use Rattle.plain.specs.declared.refusals.Refusal.TheVariants.{OutOfRangeNode, RemovedNode, OutOfRangeEdge, RemovedEdge}
+use Rattle.plain.specs.Numbers.{NONE}
+use Rattle.plain.specs.Refusals.{number_of, value_of}
+use Rattle.shape.specs.Shape.{Words, node_live, edge_live}
+use Rattle.shape.specs.Stores.{slot_refused}
+use Rattle.shape.proofs.Laws.Refused.{by_refused, not_refused}
+use Rattle.refusals.specs.Step.{StepOf}
 
--- ---- of a slot
+module _ {v w : Words} (same : v ≡ w) where
+  -- a slot that is not refused is live
+  pub told_node : (x : ℕ) {done : Unit} → Ok done ≡ slot_refused OutOfRangeNode RemovedNode (node_live v) v.counts.nodes.bound x
+      → get_or (node_live w) x false ≡ true
+  told_node x passed =
+      subst (λ (u : Words). get_or (node_live u) x false ≡ true) same
+      (not_refused OutOfRangeNode RemovedNode (node_live v) v.counts.nodes.bound x passed)
 
-pub told_live : (flags : List Bool) (bound slot a r : ℕ) {number : ℕ} → number ≡ fault_of flags bound slot (suc a) (suc r) → number ≡ 0
-    → get_or flags slot false ≡ true
-told_live flags bound slot a r is none = no_fault flags bound slot (suc a) (suc r) (λ q. omega arith) (λ q. omega arith) (sym is ∙ none)
+  pub told_edge : (e : ℕ) {done : Unit} → Ok done ≡ slot_refused OutOfRangeEdge RemovedEdge (edge_live v) v.counts.edges.bound e
+      → get_or (edge_live w) e false ≡ true
+  told_edge e passed =
+      subst (λ (u : Words). get_or (edge_live u) e false ≡ true) same
+      (not_refused OutOfRangeEdge RemovedEdge (edge_live v) v.counts.edges.bound e passed)
 
-pub told_fault : (flags : List Bool) (bound slot absent removed : ℕ) (P : ℕ → Type 0) → (bound ≤ slot → P absent)
-    → (slot < bound → get_or flags slot false ≡ false → P removed) → {number : ℕ} → number ≡ fault_of flags bound slot absent removed → (number ≡ 0 → ⊥)
-    → P number
-told_fault flags bound slot absent removed P a r is some = subst P (sym is) (by_fault flags bound slot absent removed P a r (λ q. some (is ∙ q)))
+  -- an operation that is refused for a slot
+  module _ (operation : Operation) where
+    pub node_fault : (x : ℕ) → (w.counts.nodes.bound ≤ x → StepOf operation w w 5 NONE)
+        → (x < w.counts.nodes.bound → get_or (node_live w) x false ≡ false → StepOf operation w w 6 NONE)
+        → {refusal : Refusal} → Err refusal ≡ slot_refused OutOfRangeNode RemovedNode (node_live v) v.counts.nodes.bound x
+        → StepOf operation w w (number_of refusal) (value_of refusal)
+    node_fault x gone dead {refusal} refused =
+        by_refused (node_live w) w.counts.nodes.bound x (λ r. StepOf operation w w (number_of r) (value_of r)) gone dead
+        (subst (λ (u : Words). Err refusal ≡ slot_refused OutOfRangeNode RemovedNode (node_live u) u.counts.nodes.bound x) same refused)
 
--- ---- of a payload
-
-pub told_in_order : (payload : EdgePayload) {number : ℕ} → number ≡ payload_fault payload → number ≡ 0 → payload.low ≤ payload.high
-told_in_order payload is none =
-    by_test (leb payload.low payload.high) (λ q. leb-true payload.low payload.high q)
-    (λ q. absurd (let k = rw q at (sym is ∙ none) in omega arith))
-
-pub told_inverted : (payload : EdgePayload) (P : ℕ → Type 0) → (payload.high < payload.low → P 16) → {number : ℕ} → number ≡ payload_fault payload
-    → (number ≡ 0 → ⊥) → P number
-told_inverted payload P inverted is some = subst P (sym is) (by (λ q. some (is ∙ q)))
-  where
-    by : (payload_fault payload ≡ 0 → ⊥) → P (payload_fault payload)
-    by = by_test (leb payload.low payload.high) (λ q. rw q (λ h. absurd (h refl))) (λ q. rw q (λ h. inverted (leb-false payload.low payload.high q)))
+    pub edge_fault : (e : ℕ) → (w.counts.edges.bound ≤ e → StepOf operation w w 7 NONE)
+        → (e < w.counts.edges.bound → get_or (edge_live w) e false ≡ false → StepOf operation w w 8 NONE)
+        → {refusal : Refusal} → Err refusal ≡ slot_refused OutOfRangeEdge RemovedEdge (edge_live v) v.counts.edges.bound e
+        → StepOf operation w w (number_of refusal) (value_of refusal)
+    edge_fault e gone dead {refusal} refused =
+        by_refused (edge_live w) w.counts.edges.bound e (λ r. StepOf operation w w (number_of r) (value_of r)) gone dead
+        (subst (λ (u : Words). Err refusal ≡ slot_refused OutOfRangeEdge RemovedEdge (edge_live u) u.counts.edges.bound e) same refused)

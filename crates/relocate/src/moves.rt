@@ -22,13 +22,10 @@ fn relabel(
 {
     let length = axis[4 * edge_capacity + 3 * node_capacity + node];
     let mut next = axis[4 * edge_capacity + node_capacity + node];
-    let mut left = length;
-    while left > 0 {
+    for _ in 0..length {
         let slot = next as usize;
-        let at = 3 * edge_capacity + slot;
-        next = axis[at];
+        next = axis[3 * edge_capacity + slot];
         axis[slot] = new;
-        left -= 1;
     }
     length
 }

@@ -7,7 +7,7 @@ use Rattle.plain.specs.Numbers.{NONE}
 use Rattle.plain.specs.Lists.{member, distinct, keep}
 use Rattle.plain.proofs.Laws.Booleans.{true_false, both_true, refuted}
 use Rattle.plain.proofs.Laws.ListLaws.{member_first, member_keep, distinct_apart}
-use Rattle.shape.specs.Columns.{cell, next_at}
+use Rattle.shape.specs.Columns.{cell, next_at, last_at}
 use Rattle.shape.specs.Chains.{In, Line, until}
 use Rattle.shape.specs.Shape.{adjacency_in, raw, hiding, live_in, run_list, run_of, ring_of, base_of}
 use Rattle.shape.specs.Steps.{live_entries}
@@ -178,16 +178,16 @@ module _ {ws : List ℕ} {ce cn : ℕ} {counts : Counts} {live : List ℕ} {node
       live_member l i = member_keep (live_in flags) e l ∙ both_true i alive
 
   -- an empty ring
-  pub drain_none : {r : RingEnds} → r ≡ ring_ends ws ce node → r.last ≡ NONE → Drained ws ws ce cn counts live node
-  unfolding ring_ends keep
-  drain_none is none =
-      let empty : ring ≡ [] = ring_of_none ws ce counts.edges.base counts.edges.bound node (sym (ap (λ (z : RingEnds). z.last) is) ∙ none) in
+  pub drain_none : last_at ws ce node ≡ NONE → Drained ws ws ce cn counts live node
+  unfolding keep
+  drain_none none =
+      let empty : ring ≡ [] = ring_of_none ws ce counts.edges.base counts.edges.bound node none in
       remade_run {own = []} pre.ready.nodes_based pre.ready.edges_based pre.ready.index pre.ready.rings empty (λ e m. in_none e m)
       (rw (empty, append-nil run) (edited_none pre.ready.editable pre.marked))
 
   -- a ring with a last entry
-  pub drain_start : {r : RingEnds} → r ≡ ring_ends ws ce node → r.last ≢ NONE → Draining ws ws ce cn counts live node r.last r.first
-  unfolding keep
+  pub drain_start : {r : RingEnds} → r ≡ ring_ends ws ce node → last_at ws ce node ≢ NONE → Draining ws ws ce cn counts live node r.last r.first
+  unfolding keep ring_ends
   drain_start {r} is some-last =
       let e = pre.ready.editable in
       record {
@@ -195,7 +195,7 @@ module _ {ws : List ℕ} {ce cn : ℕ} {counts : Counts} {live : List ℕ} {node
         rest = ring;
         whole = refl;
         line =
-            ⊎_elim (λ q. absurd (some-last (ap (λ (z : RingEnds). z.last) is ∙ q.1)))
+            ⊎_elim (λ q. absurd (some-last q.1))
             (λ w. subst (λ (z : RingEnds). Line (cell ws (2 * ce)) counts.edges.base counts.edges.bound z.first z.last ring) (sym is) w)
             (ends_ring e.edges_within pre.ready.rings node e.node_below e.sized.edges_within);
         now = rw (append-nil run) (edited_none e pre.marked);

@@ -1,6 +1,6 @@
 -- The loop that reads a run up to its first dead entry.
-use Rattle.std.specs.Prelude.{ℕ, ◌+◌, ◌-◌, ◌*◌, ◌≤◌, ◌<◌, ◌≡◌, refl, Bool, true, false, ◌⊎◌, List, [], ◌∷◌, ◌++◌, length, take, drop}
-use Rattle.plain.specs.Library.{sym, ap, ◌∙◌, subst, inl, inr, ⊎_elim, length-append, append_snoc, arith}
+use Rattle.std.specs.Prelude.{ℕ, ◌+◌, ◌-◌, ◌*◌, ◌<◌, ◌≡◌, refl, Bool, true, false, ◌⊎◌, List, [], ◌∷◌, ◌++◌, length, take, drop}
+use Rattle.plain.specs.Library.{sym, ap, ◌∙◌, inl, inr, ⊎_elim, append-nil, length-append, append_snoc}
 use Prim.Native.Nat.{zero-le}
 use lib.Seq.{take-append_seam, drop-append_seam}
 use Rattle.plain.specs.declared.Counts.{Counts}
@@ -12,7 +12,7 @@ use Rattle.shape.specs.Columns.{cell, link_at, first_at, count_at}
 use Rattle.shape.specs.Chains.{Line, chain}
 use Rattle.shape.specs.Shape.{live_in, run_list}
 use Rattle.shape.specs.Steps.{LiveOnly}
-use Rattle.shape.proofs.Laws.Chains.{in_none, in_snoc, line_one, line_more, chain_some, chain_length, run_is, run_once}
+use Rattle.shape.proofs.Laws.Chains.{in_none, in_snoc, line_one, line_more, chain_none, chain_some, chain_length, run_is, run_once}
 use Rattle.shape.proofs.Laws.Frames.{run_list_below}
 use Rattle.shape.proofs.Laws.Keeping.{in_second}
 use Rattle.runs.specs.Runs.{Scannable, Scanned}
@@ -89,7 +89,7 @@ module _ {ws : List ℕ} {ce cn : ℕ} {counts : Counts} {node : ℕ} {live : Li
         ∙ ap (λ (m : ℕ). length s.front + m) (chain_length (cell ws (3 * ce)) left p))
 
     -- the run is divided before p
-    divided : (m : ℕ) → m ≡ length s.front → Scanned ws ce cn counts node live (record { length = m; last = last; next = p; left = left })
+    pub divided : (m : ℕ) → m ≡ length s.front → Scanned ws ce cn counts node live (record { length = m; last = last; next = p; left = left })
     divided m size =
         record {
           front =
@@ -104,11 +104,8 @@ module _ {ws : List ℕ} {ce cn : ℕ} {counts : Counts} {node : ℕ} {live : Li
         taken = ap (take m) s.whole ∙ ap (λ (k : ℕ). take k (s.front ++ chain (cell ws (3 * ce)) left p)) size
             ∙ take-append_seam s.front (chain (cell ws (3 * ce)) left p)
 
-    -- p is dead, or nothing is left
-    pub scan_dead : Scanned ws ce cn counts node live (record { length = n - left; last = last; next = p; left = left })
-    scan_dead = divided (n - left) (omega (arith, scan_sum))
-
-    pub scan_all : left ≤ 0 → Scanned ws ce cn counts node live (record { length = n; last = last; next = p; left = 0 })
-    scan_all h =
-        let none : left ≡ 0 = omega arith in
-        subst (λ (m : ℕ). Scanned ws ce cn counts node live (record { length = n; last = last; next = p; left = m })) none (divided n (omega (arith, scan_sum)))
+    -- nothing is left: all is live
+    pub scan_all : left ≡ 0 → LiveOnly flags run
+    scan_all none =
+        let all : run ≡ s.front = s.whole ∙ ap (λ (l : List ℕ). s.front ++ l) (chain_none (cell ws (3 * ce)) left p none) ∙ append-nil s.front in
+        λ e m. s.live_only e (rw all at m)

@@ -1,6 +1,6 @@
 -- The entry before another in a list: the loop that finds it along a chain, and what it says of the list.
-use Rattle.std.specs.Prelude.{ℕ, ◌-◌, ◌*◌, ◌≤◌, ◌<◌, ◌≡◌, refl, true, false, not, ◌≢◌, List, [], ◌∷◌, ◌++◌, eqb}
-use Rattle.plain.specs.Library.{sym, ap, ap₂, ◌∙◌, arith, eq-eqb, ne_eqb, eqb-true}
+use Rattle.std.specs.Prelude.{ℕ, ◌-◌, ◌*◌, ◌<◌, ◌≡◌, refl, true, false, not, ◌≢◌, List, [], ◌∷◌, ◌++◌, eqb}
+use Rattle.plain.specs.Library.{sym, ap, ap₂, ◌∙◌, eq-eqb, ne_eqb, eqb-true}
 use Rattle.plain.specs.Numbers.{NONE}
 use Rattle.plain.specs.Lists.{member, without, distinct}
 use Rattle.plain.proofs.Laws.Booleans.{by_test, true_false, refuted}
@@ -50,11 +50,9 @@ module _ {ws : List ℕ} {ce first n : ℕ} (entry : ℕ) (pre : Searchable ws c
         }
 
     -- there is no next
-    pub search_none : left ≤ 0 → NONE ≡ before_in entry (chain (cell ws (3 * ce)) n first)
+    pub search_none : left ≡ 0 → before_in entry (chain (cell ws (3 * ce)) n first) ≡ NONE
     unfolding before_in
-    search_none h =
-        let none : left ≡ 0 = omega arith in
-        sym (s.same ∙ rw (chain_none (cell ws (3 * ce)) left (link_at ws ce before) none))
+    search_none none = s.same ∙ rw (chain_none (cell ws (3 * ce)) left (link_at ws ce before) none)
 
 -- ---- what it says of the list
 

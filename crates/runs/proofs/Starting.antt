@@ -17,7 +17,7 @@ use Rattle.shape.proofs.Laws.Walking.{between_none, between_some}
 use Rattle.shape.proofs.Laws.Taking.{keep_append, keep_again}
 use Rattle.shape.proofs.Laws.Keeping.{in_keep, in_either, in_second}
 use Rattle.adjacency.specs.Index.{Based, base_bounds}
-use Rattle.adjacency.specs.declared.index.BaseBounds.{BaseBounds}
+use Rattle.std.specs.declared.ops.Range.{Range}
 use Rattle.runs.specs.Runs.{Edited, Grown, Keepable}
 use Rattle.runs.specs.Laws.Runs.{run_of_marked}
 use Rattle.runs.specs.Laws.Editing.{edited, edited_none, edited_again, edited_wider, edited_list, edited_mark, edited_new, edited_other, edited_ring, edited_rings}
@@ -49,7 +49,7 @@ module _ {ws : List ℕ} {ce cn : ℕ} {counts : Counts} {live : List ℕ} {node
   pub copy_based : Based ws ce cn counts.nodes.base
   copy_based = let e = pre.editable in record { sized = e.sized; within = omega (arith, pre.nodes_based, e.nodes_within) }
 
-  pub copy_start : {bounds : BaseBounds} → bounds ≡ base_bounds ws ce cn counts.nodes.base node
+  pub copy_start : {bounds : Range ℕ} → bounds ≡ base_bounds ws ce cn counts.nodes.base node
       → Copying ws ws ce cn counts live node bounds.start bounds.end
   unfolding base_bounds keep
   copy_start is =

@@ -181,7 +181,7 @@ module _ {ws : List ℕ} {ce cn : ℕ} {counts : Counts} {node : ℕ} {live : Li
   sweep_run done = record { edited = done; live_only = rw (edited_list done) (swept_live marks entries) }
 
   -- a run of live edges is left
-  sweep_same : LiveOnly marks entries → Swept ws ws ce cn counts node live
+  pub sweep_same : LiveOnly marks entries → Swept ws ws ce cn counts node live
   sweep_same alive = sweep_run (rw (swept_all marks entries alive) (edited_none pre.scannable.editable pre.scannable.marked))
 
   -- an entry of the run is an edge
@@ -202,12 +202,6 @@ module _ {ws : List ℕ} {ce cn : ℕ} {counts : Counts} {node : ℕ} {live : Li
     -- the run, divided
     divided : entries ≡ front ++ behind
     divided = sym (take-append-drop f.length entries)
-
-    -- none of its entries is dead
-    pub sweep_clean : f.left ≡ 0 → Swept ws ws ce cn counts node live
-    sweep_clean none =
-        let all : entries ≡ front = divided ∙ ap (λ (l : List ℕ). front ++ l) (seen.rest ∙ chain_none (cell ws (3 * ce)) f.left f.next none) ∙ append-nil front in
-        sweep_same (λ e m. seen.live_only e (rw all at m))
 
     pub sweep_shorten : Shortenable ws ce cn counts node f.last f.length
     sweep_shorten = record { editable = pre.scannable.editable; marked = pre.scannable.marked; front = seen.front }

@@ -203,9 +203,9 @@ module _ {ws : List ℕ} {ce cn : ℕ} {counts : Counts} {node : ℕ} (pre : Cut
       }
 
   -- the search finds nothing
-  pub out_none : n ≢ 0 → first_at ws ce cn node ≢ e → NONE ≡ before_in e (chain (cell ws (3 * ce)) n (first_at ws ce cn node))
+  pub out_none : n ≢ 0 → first_at ws ce cn node ≢ e → before_in e (chain (cell ws (3 * ce)) n (first_at ws ce cn node)) ≡ NONE
       → TakenOut ws ws ce cn counts node e
-  out_none full ne none = absent (rw split (before_none e f rest (sym (rw (is, split) at none)) (λ y m. large y (rw split m)) ne))
+  out_none full ne none = absent (rw split (before_none e f rest (rw (is, split) at none) (λ y m. large y (rw split m)) ne))
     where
       f : ℕ
       f = first_at ws ce cn node

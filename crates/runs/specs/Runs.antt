@@ -1,6 +1,6 @@
 -- What the functions that edit one node's run ask and promise, of the words of an axis at entry, `ws`, and at exit, `vs`. All of them promise an `Edited`: which
 -- run the node has now, and that everything else is as before.
-use Rattle.std.specs.Prelude.{ℕ, ◌+◌, ◌*◌, ◌≤◌, ◌<◌, ◌≡◌, Bool, true, false, cond, ◌≢◌, List, [], ◌∷◌, ◌++◌, length, get_or, take, drop, eqb}
+use Rattle.std.specs.Prelude.{ℕ, ◌+◌, ◌*◌, ◌≤◌, ◌<◌, ◌≡◌, Bool, true, false, cond, ◌≢◌, List, [], ◌∷◌, ◌++◌, length, get_or, take, drop, eqb, Option, MatchOption}
 use Rattle.plain.specs.Library.{some}
 use Rattle.plain.specs.declared.Counts.{Counts}
 use Rattle.plain.specs.Numbers.{NONE, LIMIT}
@@ -70,6 +70,11 @@ pub record Scanned (ws : List ℕ) (ce cn : ℕ) (counts : Counts) (node : ℕ) 
   pub live_only : LiveOnly (live_flags live counts.edges.bound) (take f.length (run_list ws ce cn node))
   pub rest : drop f.length (run_list ws ce cn node) ≡ chain (cell ws (3 * ce)) f.left f.next
 
+-- Where no entry is dead there is nothing to divide.
+abbrev pub Divided : List ℕ → ℕ → ℕ → Counts → ℕ → List ℕ → Option Front → Type 0
+Divided ws ce cn counts node live found =
+    MatchOption found (LiveOnly (live_flags live counts.edges.bound) (run_list ws ce cn node)) (λ f. Scanned ws ce cn counts node live f)
+
 -- What it takes to make the run of a node end after its first n entries: these are a run by themselves.
 pub record Shortenable (ws : List ℕ) (ce cn : ℕ) (counts : Counts) (node last n : ℕ) : Type 0 where
   pub editable : Editable ws ce cn counts node
@@ -110,6 +115,10 @@ unfoldable pub before_in : ℕ → List ℕ → ℕ
 before_in e [] = NONE
 before_in e (x ∷ []) = NONE
 before_in e (x ∷ y ∷ l) = cond (eqb e y) x (before_in e (y ∷ l))
+
+-- What a search for it answers.
+abbrev pub Found : ℕ → Option ℕ → Type 0
+Found before found = MatchOption found (before ≡ NONE) (λ b. (b ≡ before) × (b ≢ NONE))
 
 -- What it takes to go along a chain of links: it is not empty, and its entries are edges.
 pub record Searchable (ws : List ℕ) (ce first n : ℕ) : Type 0 where

@@ -10,10 +10,10 @@ ghost use Rattle.liveness.specs.Flags.{live_flags};
 ghost use Rattle.shape.specs.Columns.{cell};
 ghost use Rattle.shape.specs.Chains.{chain};
 ghost use Rattle.shape.specs.Steps.{live_entries};
-ghost use Rattle.runs.specs.Runs.{Grown, Pushable, Keepable, Scannable, Scanned, Shortenable, Shortened, Appendable, Appended, Sweepable, Swept, before_in, Searchable, Unlinkable, Cuttable, TakenOut};
+ghost use Rattle.runs.specs.Runs.{Grown, Pushable, Keepable, Scannable, Divided, Shortenable, Shortened, Appendable, Appended, Sweepable, Swept, before_in, Found, Searchable, Unlinkable, Cuttable, TakenOut};
 
 use liveness::is_live;
-use plain::{Counts, NONE};
+use plain::Counts;
 
 // Appends an edge that is in no run to the run of a node.
 pub fn push(
@@ -63,7 +63,7 @@ pub fn keep_one(
 }
 
 // A run, divided before its first dead entry: `length` entries in front of it, which are live, `last` the last of these, and `left` entries from `next` on. Where
-// there is none in front, `last` says nothing, and where none is dead, `left` is 0.
+// there is none in front, `last` says nothing.
 #[derive(Clone, Copy)]
 pub struct Front {
     pub length: u32,
@@ -72,7 +72,7 @@ pub struct Front {
     pub left: u32,
 }
 
-// Reads the run of a node up to its first dead entry.
+// Reads the run of a node up to its first dead entry. Where none is dead there is nothing to divide.
 fn live_front(
     axis: &[u32],
     edge_capacity: usize,
@@ -80,37 +80,29 @@ fn live_front(
     counts: Counts,
     node: usize,
     live: &[u64],
-) -> Front
+) -> Option<Front>
     requires { Scannable axis.now edge_capacity node_capacity counts node live.now }
-    ensures { Scanned axis.now edge_capacity node_capacity counts node live.now result }
+    ensures { Divided axis.now edge_capacity node_capacity counts node live.now result }
 {
     let bound = counts.edges.bound as usize;
     let length = axis[4 * edge_capacity + 3 * node_capacity + node];
     let first = axis[4 * edge_capacity + node_capacity + node];
     let mut last = first;
     let mut next = first;
-    let mut left = length;
-    while left > 0 {
+    for read in 0..length {
         let slot = next as usize;
         if !is_live(live, bound, slot) {
-            return Front {
-                length: length - left,
-                last: last,
-                next: next,
-                left: left,
-            };
+            return Some(Front {
+                length: read,
+                last,
+                next,
+                left: length - read,
+            });
         }
-        let at = 3 * edge_capacity + slot;
         last = next;
-        next = axis[at];
-        left -= 1;
+        next = axis[3 * edge_capacity + slot];
     }
-    Front {
-        length: length,
-        last: last,
-        next: next,
-        left: 0,
-    }
+    None
 }
 
 // Makes the run of a node end after its first `length` entries, of which `last` is the last.
@@ -146,12 +138,9 @@ fn append_live(
     ensures { Appended axis.old axis.new edge_capacity node_capacity counts node live.now first length }
 {
     let mut next = first;
-    let mut left = length;
-    while left > 0 {
+    for _ in 0..length {
         let entry = next;
-        let at = 3 * edge_capacity + entry as usize;
-        next = axis[at];
-        left -= 1;
+        next = axis[3 * edge_capacity + entry as usize];
         keep_one(
             axis,
             edge_capacity,
@@ -180,10 +169,9 @@ pub fn sweep(
     if !tombstoned {
         return;
     }
-    let front = live_front(axis, edge_capacity, node_capacity, counts, node, live);
-    if front.left == 0 {
+    let Some(front) = live_front(axis, edge_capacity, node_capacity, counts, node, live) else {
         return;
-    }
+    };
     shorten(
         axis,
         edge_capacity,
@@ -205,23 +193,26 @@ pub fn sweep(
     );
 }
 
-// The entry that stands before `entry` in the chain of `length` entries from `first` on, or NONE where there is none.
-fn find_before(axis: &[u32], edge_capacity: usize, first: u32, length: u32, entry: u32) -> u32
+// The entry that stands before `entry` in the chain of `length` entries from `first` on, None where there is none.
+fn find_before(
+    axis: &[u32],
+    edge_capacity: usize,
+    first: u32,
+    length: u32,
+    entry: u32,
+) -> Option<u32>
     requires { Searchable axis.now edge_capacity first length }
-    ensures { result ≡ before_in entry (chain (cell axis.now (3 * edge_capacity)) length first) }
+    ensures { Found (before_in entry (chain (cell axis.now (3 * edge_capacity)) length first)) result }
 {
     let mut before = first;
-    let mut left = length - 1;
-    while left > 0 {
-        let at = 3 * edge_capacity + before as usize;
-        let next = axis[at];
+    for _ in 1..length {
+        let next = axis[3 * edge_capacity + before as usize];
         if next == entry {
-            return before;
+            return Some(before);
         }
         before = next;
-        left -= 1;
     }
-    NONE
+    None
 }
 
 // Takes the edge that stands after `before` in the run of a node out of it.
@@ -276,8 +267,7 @@ pub fn take_out(
         axis[head] = axis[after];
         return;
     }
-    let before = find_before(axis, edge_capacity, first, length, entry);
-    if before != NONE {
+    if let Some(before) = find_before(axis, edge_capacity, first, length, entry) {
         unlink(
             axis,
             edge_capacity,

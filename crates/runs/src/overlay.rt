@@ -6,7 +6,7 @@ ghost use Rattle.runs.specs.Overlay.{Ready, Copyable, Copied, Started, Drainable
 use crate::{keep_one, sweep};
 use adjacency::index::base_bounds;
 use adjacency::rings::{detach, ring_ends};
-use plain::{Counts, NONE};
+use plain::Counts;
 
 // Appends the live edges of a node's base part to its run, which is empty.
 fn copy_base(
@@ -20,18 +20,15 @@ fn copy_base(
     requires { Copyable axis.old edge_capacity node_capacity counts live.now node }
     ensures { Copied axis.old axis.new edge_capacity node_capacity counts live.now node }
 {
-    let bounds = base_bounds(
+    let base = base_bounds(
         axis,
         edge_capacity,
         node_capacity,
         counts.nodes.base as usize,
         node,
     );
-    let end = bounds.end;
-    let mut at = bounds.start;
-    while at < end {
-        let place = edge_capacity + at as usize;
-        let entry = axis[place];
+    for at in base.start..base.end {
+        let entry = axis[edge_capacity + at as usize];
         keep_one(
             axis,
             edge_capacity,
@@ -41,7 +38,6 @@ fn copy_base(
             live,
             entry,
         );
-        at += 1;
     }
 }
 
@@ -79,16 +75,13 @@ pub fn drain(
     requires { Drainable axis.old edge_capacity node_capacity counts live.now node }
     ensures { Drained axis.old axis.new edge_capacity node_capacity counts live.now node }
 {
-    let ends = ring_ends(axis, edge_capacity, node);
-    let last = ends.last;
-    let mut next = ends.first;
-    if last == NONE {
+    let Some(ends) = ring_ends(axis, edge_capacity, node) else {
         return;
-    }
-    while next != last {
+    };
+    let mut next = ends.first;
+    while next != ends.last {
         let entry = next;
-        let at = 2 * edge_capacity + entry as usize;
-        next = axis[at];
+        next = axis[2 * edge_capacity + entry as usize];
         keep_one(
             axis,
             edge_capacity,

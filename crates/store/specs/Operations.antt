@@ -53,12 +53,6 @@ pub record MovedEdges (d : TraversalDirection) (old new : ℕ) (w : Words) (answ
   pub counted : answer ≡ length (list_of d (lists w) old)
   pub acts : Acted (Move d old new) w v
 
--- ---- payloads
-
--- the payload of these weights
-abbrev pub weighing : ℕ → ℕ → EdgePayload
-weighing low high = record { low = low; high = high }
-
 -- ---- the counts
 
 -- a live slot more

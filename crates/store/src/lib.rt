@@ -1,25 +1,19 @@
 // The store: operations on a checked store. Port of store.rs. All functions are internal: they require a checked store, by its name in crate `shape`, and what an
-// operation's refusals leave. What they promise is a record of specs/Operations.antt.
+// operation's refusals leave, and update the store and its counts. What they promise is a record of specs/Operations.antt.
 
 #![tactic(auto)]
 
-ghost use Rattle.std.specs.Prelude.{◌≤◌, ◌≡◌};
+ghost use Rattle.std.specs.Prelude.{◌≤◌, ◌<◌, ◌^◌, ◌≡◌};
 ghost use Rattle.plain.specs.declared.Operation.TheVariants.{AddNode, AddEdge, SetPayload};
 ghost use Rattle.shape.specs.Checked.{Checked};
-ghost use Rattle.shape.specs.Lent.{lent, at_entry, at_exit};
-ghost use Rattle.store.specs.Operations.{Acted, RemovedEdge, RemovedNode, RedirectedEdge, MovedEdges, weighing, Raisable, one_more as raised, fewer as lowered, NodeAddable, EdgeAddable, EdgeRedirectable, EdgesMovable, PayloadSettable};
+ghost use Rattle.shape.specs.Stores.{words_mut, SameSlices};
+ghost use Rattle.store.specs.Operations.{Acted, RemovedEdge, RemovedNode, RedirectedEdge, MovedEdges, Raisable, one_more as raised, fewer as lowered, NodeAddable, EdgeAddable, EdgeRedirectable, EdgesMovable, PayloadSettable};
 
 use adjacency::{clear, rings, walk};
 use liveness;
-use plain::{Counts, Slots, TraversalDirection};
+use plain::{Counts, EdgePayload, Slots, TraversalDirection};
 use relocate::{moves, redirects};
-
-// What removing answers: the counts, and whether something live was there.
-#[derive(Clone, Copy)]
-pub struct Removal {
-    pub counts: Counts,
-    pub removed: bool,
-}
+use shape::StoreMut;
 
 // The counts of a kind of slot with a live one more.
 fn one_more(slots: Slots) -> Slots
@@ -45,206 +39,158 @@ fn fewer(slots: Slots, n: u32) -> Slots
     }
 }
 
+// A word is one of 32 bits, which a proof knows of a number that is passed, and not of one that is a field of what is passed.
+fn word_fits(word: u32)
+    ensures { word < 2 ^ 32 }
+{}
+
 // Adds a node: the slot is the bound, which rises by one.
-pub fn add_node(
-    counts: Counts,
-    nodes: &mut [u32],
-    lows: &[u32],
-    highs: &[u32],
-    live_nodes: &mut [u64],
-    live_edges: &[u64],
-    outgoing: &mut [u32],
-    incoming: &mut [u32],
-    payload: u32,
-) -> Counts
-    requires { NodeAddable (lent counts nodes.old lows.now highs.now live_nodes.old live_edges.now outgoing.old incoming.old) }
-    ensures { Acted (AddNode payload)
-        (at_entry counts nodes.old lows.now highs.now live_nodes.old live_edges.now outgoing.old incoming.old)
-        (at_exit result nodes.new lows.now highs.now live_nodes.new live_edges.now outgoing.new incoming.new) }
+pub fn add_node(store: &mut StoreMut, payload: u32)
+    requires { NodeAddable (words_mut store.old) }
+    ensures same { SameSlices store.old store.new }
+    ensures acted { Acted (AddNode payload) (words_mut store.old) (words_mut store.new) }
 {
-    let slots = counts.nodes;
-    let others = counts.edges;
+    let slots = store.counts.nodes;
+    let others = store.counts.edges;
     let slot = slots.bound as usize;
-    let capacity = nodes.len();
+    let edge_capacity = store.lows.len();
+    let node_capacity = store.nodes.len();
     let more = one_more(slots);
-    nodes[slot] = payload;
-    liveness::push_live(live_nodes, slot);
-    rings::open_node(outgoing, lows.len(), capacity, slot);
-    rings::open_node(incoming, lows.len(), capacity, slot);
-    Counts {
+    store.nodes[slot] = payload;
+    liveness::push_live(store.live_nodes, slot);
+    rings::open_node(store.outgoing, edge_capacity, node_capacity, slot);
+    rings::open_node(store.incoming, edge_capacity, node_capacity, slot);
+    store.counts = Counts {
         nodes: more,
         edges: others,
-    }
+    };
 }
 
 // Adds an edge: the slot is the bound, which rises by one; the edge is appended to its source's out-list and its target's in-list.
-pub fn add_edge(
-    counts: Counts,
-    nodes: &[u32],
-    lows: &mut [u32],
-    highs: &mut [u32],
-    live_nodes: &[u64],
-    live_edges: &mut [u64],
-    outgoing: &mut [u32],
-    incoming: &mut [u32],
-    source: u32,
-    target: u32,
-    low: u32,
-    high: u32,
-) -> Counts
-    requires { EdgeAddable (lent counts nodes.now lows.old highs.old live_nodes.now live_edges.old outgoing.old incoming.old) source target (weighing low high) }
-    ensures { Acted (AddEdge source target (weighing low high))
-        (at_entry counts nodes.now lows.old highs.old live_nodes.now live_edges.old outgoing.old incoming.old)
-        (at_exit result nodes.now lows.new highs.new live_nodes.now live_edges.new outgoing.new incoming.new) }
+pub fn add_edge(store: &mut StoreMut, source: u32, target: u32, payload: EdgePayload)
+    requires { EdgeAddable (words_mut store.old) source target payload }
+    ensures same { SameSlices store.old store.new }
+    ensures acted { Acted (AddEdge source target payload) (words_mut store.old) (words_mut store.new) }
 {
-    let others = counts.nodes;
-    let slots = counts.edges;
+    let others = store.counts.nodes;
+    let slots = store.counts.edges;
     let slot = slots.bound;
     let at = slot as usize;
     let bound = others.bound as usize;
     let base = slots.base as usize;
-    let capacity = lows.len();
+    let edge_capacity = store.lows.len();
+    let node_capacity = store.nodes.len();
     let more = one_more(slots);
-    lows[at] = low;
-    highs[at] = high;
-    liveness::push_live(live_edges, at);
+    word_fits(payload.high);
+    store.lows[at] = payload.low;
+    store.highs[at] = payload.high;
+    liveness::push_live(store.live_edges, at);
     rings::append(
-        outgoing,
-        capacity,
-        nodes.len(),
+        store.outgoing,
+        edge_capacity,
+        node_capacity,
         bound,
         base,
         source as usize,
         slot,
     );
     rings::append(
-        incoming,
-        capacity,
-        nodes.len(),
+        store.incoming,
+        edge_capacity,
+        node_capacity,
         bound,
         base,
         target as usize,
         slot,
     );
-    Counts {
+    store.counts = Counts {
         nodes: others,
         edges: more,
-    }
+    };
 }
 
-// Removes an edge, if it is live. No list is edited.
-pub fn remove_edge(
-    counts: Counts,
-    nodes: &[u32],
-    lows: &[u32],
-    highs: &[u32],
-    live_nodes: &[u64],
-    live_edges: &mut [u64],
-    outgoing: &[u32],
-    incoming: &[u32],
-    edge: u32,
-) -> Removal
-    requires { Checked (lent counts nodes.now lows.now highs.now live_nodes.now live_edges.old outgoing.now incoming.now) }
-    ensures { RemovedEdge edge
-        (at_entry counts nodes.now lows.now highs.now live_nodes.now live_edges.old outgoing.now incoming.now)
-        result.removed
-        (at_exit result.counts nodes.now lows.now highs.now live_nodes.now live_edges.new outgoing.now incoming.now) }
+// Removes an edge, and answers whether it was live. No list is edited.
+pub fn remove_edge(store: &mut StoreMut, edge: u32) -> bool
+    requires { Checked (words_mut store.old) }
+    ensures same { SameSlices store.old store.new }
+    ensures removed { RemovedEdge edge (words_mut store.old) result (words_mut store.new) }
 {
-    let others = counts.nodes;
-    let slots = counts.edges;
-    let bound = slots.bound as usize;
-    if liveness::clear(live_edges, bound, edge as usize) {
-        let less = fewer(slots, 1);
-        return Removal {
-            counts: Counts {
-                nodes: others,
-                edges: less,
-            },
-            removed: true,
-        };
+    let others = store.counts.nodes;
+    let slots = store.counts.edges;
+    if !liveness::clear(store.live_edges, slots.bound as usize, edge as usize) {
+        return false;
     }
-    Removal {
-        counts: counts,
-        removed: false,
-    }
+    let less = fewer(slots, 1);
+    store.counts = Counts {
+        nodes: others,
+        edges: less,
+    };
+    true
 }
 
-// Removes a node, if it is live, and the edges of both its walks. A self-loop stands in both walks and is counted once, since the first clearing leaves it dead.
-// No list is edited.
-pub fn remove_node(
-    counts: Counts,
-    nodes: &[u32],
-    lows: &[u32],
-    highs: &[u32],
-    live_nodes: &mut [u64],
-    live_edges: &mut [u64],
-    outgoing: &[u32],
-    incoming: &[u32],
-    node: u32,
-) -> Removal
-    requires { Checked (lent counts nodes.now lows.now highs.now live_nodes.old live_edges.old outgoing.now incoming.now) }
-    ensures { RemovedNode node
-        (at_entry counts nodes.now lows.now highs.now live_nodes.old live_edges.old outgoing.now incoming.now)
-        result.removed
-        (at_exit result.counts nodes.now lows.now highs.now live_nodes.new live_edges.new outgoing.now incoming.now) }
+// Removes a node with the edges of both its walks, and answers whether it was live. A self-loop stands in both walks and is counted once, since the first clearing leaves
+// it dead. No list is edited.
+pub fn remove_node(store: &mut StoreMut, node: u32) -> bool
+    requires { Checked (words_mut store.old) }
+    ensures same { SameSlices store.old store.new }
+    ensures removed { RemovedNode node (words_mut store.old) result (words_mut store.new) }
 {
+    let counts = store.counts;
     let slots = counts.nodes;
     let others = counts.edges;
-    let bound = slots.bound as usize;
     let at = node as usize;
-    if liveness::clear(live_nodes, bound, at) {
-        let out = clear::clear_adjacency(outgoing, lows.len(), nodes.len(), counts, live_edges, at);
-        let back = clear::clear_adjacency(
-            incoming,
-            lows.len(),
-            nodes.len(),
-            counts,
-            live_edges,
-            at,
-        );
-        let less = fewer(slots, 1);
-        let rest = fewer(others, out + back);
-        return Removal {
-            counts: Counts {
-                nodes: less,
-                edges: rest,
-            },
-            removed: true,
-        };
+    if !liveness::clear(store.live_nodes, slots.bound as usize, at) {
+        return false;
     }
-    Removal {
-        counts: counts,
-        removed: false,
-    }
+    let edge_capacity = store.lows.len();
+    let node_capacity = store.nodes.len();
+    let live_edges = &mut *store.live_edges;
+    let outgoing = &mut *store.outgoing;
+    let incoming = &mut *store.incoming;
+    let out = clear::clear_adjacency(
+        outgoing,
+        edge_capacity,
+        node_capacity,
+        counts,
+        live_edges,
+        at,
+    );
+    let back = clear::clear_adjacency(
+        incoming,
+        edge_capacity,
+        node_capacity,
+        counts,
+        live_edges,
+        at,
+    );
+    let less = fewer(slots, 1);
+    let rest = fewer(others, out + back);
+    store.counts = Counts {
+        nodes: less,
+        edges: rest,
+    };
+    true
 }
 
-// Redirects a live edge to a live node on one axis, and answers its end before. The same end changes nothing.
-pub fn redirect(
-    counts: Counts,
-    nodes: &[u32],
-    lows: &[u32],
-    highs: &[u32],
-    live_nodes: &[u64],
-    live_edges: &[u64],
-    outgoing: &mut [u32],
-    incoming: &mut [u32],
-    direction: TraversalDirection,
-    edge: u32,
-    node: u32,
-) -> u32
-    requires { EdgeRedirectable (lent counts nodes.now lows.now highs.now live_nodes.now live_edges.now outgoing.old incoming.old) edge node }
-    ensures { RedirectedEdge direction edge node
-        (at_entry counts nodes.now lows.now highs.now live_nodes.now live_edges.now outgoing.old incoming.old)
-        result
-        (at_exit counts nodes.now lows.now highs.now live_nodes.now live_edges.now outgoing.new incoming.new) }
+// Redirects a live edge to a live node on one axis, and answers its end before. The same end changes nothing. In each direction a call of its own: a `&mut` that is one of two,
+// by the direction, gets no proof.
+pub fn redirect(store: &mut StoreMut, direction: TraversalDirection, edge: u32, node: u32) -> u32
+    requires { EdgeRedirectable (words_mut store.old) edge node }
+    ensures same { SameSlices store.old store.new }
+    ensures redirected { RedirectedEdge direction edge node (words_mut store.old) result (words_mut store.new) }
 {
+    let counts = store.counts;
+    let edge_capacity = store.lows.len();
+    let node_capacity = store.nodes.len();
     let some_removed = walk::tombstoned(counts);
     match direction {
         TraversalDirection::Outgoing => {
+            let axis = &mut *store.outgoing;
+            let live_edges = &mut *store.live_edges;
             redirects::redirect(
-                outgoing,
-                lows.len(),
-                nodes.len(),
+                axis,
+                edge_capacity,
+                node_capacity,
                 counts,
                 live_edges,
                 some_removed,
@@ -253,10 +199,12 @@ pub fn redirect(
             )
         }
         TraversalDirection::Incoming => {
+            let axis = &mut *store.incoming;
+            let live_edges = &mut *store.live_edges;
             redirects::redirect(
-                incoming,
-                lows.len(),
-                nodes.len(),
+                axis,
+                edge_capacity,
+                node_capacity,
                 counts,
                 live_edges,
                 some_removed,
@@ -269,31 +217,27 @@ pub fn redirect(
 
 // Moves the edges of a node's walk, of which there are some, to another live node on one axis, and answers how many.
 pub fn move_adjacency(
-    counts: Counts,
-    nodes: &[u32],
-    lows: &[u32],
-    highs: &[u32],
-    live_nodes: &[u64],
-    live_edges: &[u64],
-    outgoing: &mut [u32],
-    incoming: &mut [u32],
+    store: &mut StoreMut,
     direction: TraversalDirection,
     old: u32,
     new: u32,
 ) -> u32
-    requires { EdgesMovable direction (lent counts nodes.now lows.now highs.now live_nodes.now live_edges.now outgoing.old incoming.old) old new }
-    ensures { MovedEdges direction old new
-        (at_entry counts nodes.now lows.now highs.now live_nodes.now live_edges.now outgoing.old incoming.old)
-        result
-        (at_exit counts nodes.now lows.now highs.now live_nodes.now live_edges.now outgoing.new incoming.new) }
+    requires { EdgesMovable direction (words_mut store.old) old new }
+    ensures same { SameSlices store.old store.new }
+    ensures moved { MovedEdges direction old new (words_mut store.old) result (words_mut store.new) }
 {
+    let counts = store.counts;
+    let edge_capacity = store.lows.len();
+    let node_capacity = store.nodes.len();
     let some_removed = walk::tombstoned(counts);
     match direction {
         TraversalDirection::Outgoing => {
+            let axis = &mut *store.outgoing;
+            let live_edges = &mut *store.live_edges;
             moves::move_adjacency(
-                outgoing,
-                lows.len(),
-                nodes.len(),
+                axis,
+                edge_capacity,
+                node_capacity,
                 counts,
                 live_edges,
                 some_removed,
@@ -302,10 +246,12 @@ pub fn move_adjacency(
             )
         }
         TraversalDirection::Incoming => {
+            let axis = &mut *store.incoming;
+            let live_edges = &mut *store.live_edges;
             moves::move_adjacency(
-                incoming,
-                lows.len(),
-                nodes.len(),
+                axis,
+                edge_capacity,
+                node_capacity,
                 counts,
                 live_edges,
                 some_removed,
@@ -317,25 +263,13 @@ pub fn move_adjacency(
 }
 
 // Sets the payload of an edge, also of a removed one. The counts stay.
-pub fn set_payload(
-    counts: Counts,
-    nodes: &[u32],
-    lows: &mut [u32],
-    highs: &mut [u32],
-    live_nodes: &[u64],
-    live_edges: &[u64],
-    outgoing: &[u32],
-    incoming: &[u32],
-    edge: u32,
-    low: u32,
-    high: u32,
-)
-    requires { PayloadSettable (lent counts nodes.now lows.old highs.old live_nodes.now live_edges.now outgoing.now incoming.now) edge (weighing low high) }
-    ensures { Acted (SetPayload edge (weighing low high))
-        (at_entry counts nodes.now lows.old highs.old live_nodes.now live_edges.now outgoing.now incoming.now)
-        (at_exit counts nodes.now lows.new highs.new live_nodes.now live_edges.now outgoing.now incoming.now) }
+pub fn set_payload(store: &mut StoreMut, edge: u32, payload: EdgePayload)
+    requires { PayloadSettable (words_mut store.old) edge payload }
+    ensures same { SameSlices store.old store.new }
+    ensures acted { Acted (SetPayload edge payload) (words_mut store.old) (words_mut store.new) }
 {
     let at = edge as usize;
-    lows[at] = low;
-    highs[at] = high;
+    word_fits(payload.high);
+    store.lows[at] = payload.low;
+    store.highs[at] = payload.high;
 }

@@ -5,8 +5,8 @@
 -- entry that stands in two parts would stand where the offsets do not let it. So such a part holds edges of its node, none twice.
 -- The links of the shown edges of the delta are shown edges of the delta, none twice: so each is linked to, from a lower one or from the last of its ring. By
 -- induction on the slot each is on the ring of its end, which the links do not leave.
-use Rattle.std.specs.Prelude.{ℕ, zero, suc, ◌+◌, ◌-◌, ◌*◌, ◌≤◌, ◌<◌, ◌%◌, ◌≡◌, refl, Bool, true, false, cond, ◌&&◌, not, ◌⊎◌, List, [], ◌∷◌, ◌++◌, map, length, get_or, eqb, ltb, leb}
-use Rattle.plain.specs.Library.{sym, ap, subst, ◌∙◌, inl, inr, ⊎_elim, length-map, length-append, arith, eq-eqb, eqb-true, eqb-false, not-true, not-false, lt-ltb, le-leb, ltb-true, leb-true}
+use Rattle.std.specs.Prelude.{ℕ, zero, suc, ◌+◌, ◌-◌, ◌*◌, ◌≤◌, ◌<◌, ◌%◌, ◌≡◌, refl, Bool, true, false, cond, ◌&&◌, ◌⊎◌, List, [], ◌∷◌, ◌++◌, map, length, get_or, eqb, ltb, leb}
+use Rattle.plain.specs.Library.{sym, ap, subst, ◌∙◌, inl, inr, ⊎_elim, length-map, length-append, arith, eq-eqb, eqb-true, eqb-false, lt-ltb, le-leb, ltb-true, leb-true}
 use mathlib.Core.List.{map-append}
 use Rattle.plain.specs.Numbers.{LIMIT}
 use Rattle.plain.specs.declared.Counts.{Counts}
@@ -23,9 +23,9 @@ use Rattle.shape.proofs.Laws.Frames.{offset_within}
 use Rattle.shape.proofs.Laws.Indexing.{from_append}
 use Rattle.shape.proofs.Laws.Taking.{keep_append, keep_passing}
 use Rattle.validate_words.specs.Laws.Passing.{slots_from, slots_more, slots_none}
-use Rattle.marks.specs.Marks.{Entered, Followed, Adds}
+use Rattle.marks.specs.Marks.{Marked, Followed, Adds}
 use Rattle.validate_words.specs.Climbs.{Linked, Picked}
-use Rattle.validate.specs.Flat.{at_base, places, place_shown, base_entries, delta_links, PlaceReadable, EntryPlaced, Looked, CountReadable, BaseFlat, DeltaFlat, FlatReadable}
+use Rattle.validate.specs.Flat.{at_base, places, place_shown, base_entries, delta_links, PlaceReadable, EntryPlaced, CountReadable, BaseFlat, DeltaFlat, FlatReadable}
 use Rattle.marks.specs.Laws.Following.{Following, follow_start, follow_done, follow_more, followed_once, followed_adds}
 
 -- a bit that is not above another is set only where that is
@@ -40,22 +40,6 @@ place_tested {ws} {ce} {cn} {bn} {i} {e} low least most = record {
   least = least;
   most = let at : 4 * ce + 5 * cn + suc (end_at ws e) ≡ 4 * ce + 5 * cn + end_at ws e + 1 = omega arith in subst (λ (k : ℕ). i < get_or ws k 0) (sym at) most;
 }
-
--- a step by the two tests: the end has a run, what is looked for holds, it does not
-module _ {visible hidden : Bool} {P : Type 0} (q : hidden ≡ not visible) where
-  pub looked_hidden : hidden ≡ true → Looked visible P 0
-  looked_hidden h =
-      let shut : visible ≡ false = not-true visible (sym q ∙ h) in
-      record { counts = λ _. sym (rw shut); right = λ _ k. true_false k shut }
-
-  pub looked_right : hidden ≡ false → P → Looked visible P 1
-  looked_right h p =
-      let plain : visible ≡ true = not-false visible (sym q ∙ h) in
-      record { counts = λ _. sym (rw plain); right = λ _ _. p }
-
--- where it is not 0, and not more than 1, what is looked for holds
-pub looked_some : {visible : Bool} {P : Type 0} {step : ℕ} → Looked visible P step → step ≤ 1 → (step ≡ 0 → ⊥) → P
-looked_some {visible} look small some = by_test visible (λ q. look.right small q) (λ q. absurd (some (look.counts small ∙ rw q)))
 
 -- Of a column's entries from a up to b that pass a test, those before i have a property; they are marked, none twice, beside what was marked before.
 pub record Marking (column : ℕ → ℕ) (test : ℕ → Bool) (P : ℕ → Type 0) (a b i : ℕ) (seen₀ seen : List ℕ) : Type 0 where
@@ -80,26 +64,22 @@ module _ (column : ℕ → ℕ) (test : ℕ → Bool) (P : ℕ → Type 0) (a b 
   unfolding keep
   rest_hidden i l q = rw (slots_more i b l, q)
 
-  pub marking_on : {i step : ℕ} {seen₀ seen exit : List ℕ} {answer : Bool} → Marking column test P a b i seen₀ seen → i < b → Looked (test i) (P i) step → step ≤ 1
-      → Entered (not (eqb step 0)) true seen (column i) answer exit → answer ≡ true → length exit ≡ length seen → Marking column test P a b (i + 1) seen₀ exit
-  marking_on {i} {step} {seen₀} {seen} {exit} w l look small n h long = record {
+  -- an entry that does not pass the test is not looked at
+  pub marking_skip : {i : ℕ} {seen₀ seen : List ℕ} → Marking column test P a b i seen₀ seen → i < b → test i ≡ false → Marking column test P a b (i + 1) seen₀ seen
+  marking_skip {i} {seen₀} {seen} w l q = record {
     least = omega (arith, w.least);
-    follows = by_test (test i) shown hidden;
-    holds = λ k low m q. ⊎_elim (λ c. w.holds k low c q)
-        (λ (c : i ≤ k). let at : k ≡ i = omega arith in subst P (sym at) (look.right small (ap test (sym at) ∙ q))) (below_or_not k i);
+    follows = subst (λ (r : List ℕ). Following (λ e. true) (map column (keep test (slots_from a b))) seen₀ seen r) (rest_hidden i l q) w.follows;
+    holds = λ k low m t. ⊎_elim (λ c. w.holds k low c t) (λ (c : i ≤ k). let at : k ≡ i = omega arith in true_false (rw at at t) q) (below_or_not k i);
   }
-    where
-      shown : test i ≡ true → Following (λ e. true) (map column (keep test (slots_from a b))) seen₀ exit (map column (keep test (slots_from (i + 1) b)))
-      shown q =
-          let one : step ≡ 1 = look.counts small ∙ rw q in
-          follow_more w.follows (rest_shown i l q) refl (n.marking (ap (λ (z : ℕ). not (eqb z 0)) one) refl) h long
 
-      hidden : test i ≡ false → Following (λ e. true) (map column (keep test (slots_from a b))) seen₀ exit (map column (keep test (slots_from (i + 1) b)))
-      hidden q =
-          let none : step ≡ 0 = look.counts small ∙ rw q in
-          let same : exit ≡ seen = (n.unlisted (ap (λ (z : ℕ). not (eqb z 0)) none)).1 in
-          subst (λ (s : List ℕ). Following (λ e. true) (map column (keep test (slots_from a b))) seen₀ s (map column (keep test (slots_from (i + 1) b)))) (sym same)
-          (subst (λ (r : List ℕ). Following (λ e. true) (map column (keep test (slots_from a b))) seen₀ seen r) (rest_hidden i l q) w.follows)
+  -- one that does is marked
+  pub marking_more : {i : ℕ} {seen₀ seen exit : List ℕ} {answer : Bool} → Marking column test P a b i seen₀ seen → i < b → test i ≡ true → P i
+      → Marked seen (column i) answer exit → answer ≡ true → length exit ≡ length seen → Marking column test P a b (i + 1) seen₀ exit
+  marking_more {i} w l q p m h long = record {
+    least = omega (arith, w.least);
+    follows = follow_more w.follows (rest_shown i l q) refl m h long;
+    holds = λ k low m t. ⊎_elim (λ c. w.holds k low c t) (λ (c : i ≤ k). let at : k ≡ i = omega arith in subst P (sym at) p) (below_or_not k i);
+  }
 
   -- past the last
   pub marking_done : {i : ℕ} {seen₀ seen : List ℕ} → Marking column test P a b i seen₀ seen → b ≤ i

@@ -33,9 +33,8 @@ pub lists_runs : {ws : List ℕ} {ce cn : ℕ} {counts : Counts} {live_nodes liv
     → RunsReadable ws ce cn counts live_nodes live_edges
 lists_runs r = record { axis = r.axis; nodes_long = r.nodes_long; edges_long = r.edges_long }
 
-pub flat_clear : {ws : List ℕ} {ce cn : ℕ} {counts : Counts} {runless : Bool} {seen : List ℕ} → FlatReadable ws ce cn counts runless seen → ((e : ℕ) → marked seen e ≡ false)
-    → MapClear ws ce cn counts runless seen
-flat_clear r clear = record { marks_long = r.marks_long; clear = clear; no_run = r.no_run }
+pub flat_clear : {ws : List ℕ} {ce cn : ℕ} {counts : Counts} {runless : Bool} {seen : List ℕ} → FlatReadable ws ce cn counts runless seen → ((e : ℕ) → marked seen e ≡ false) → MapClear seen
+flat_clear r clear = record { marks_long = r.marks_long; clear = clear }
 
 -- the three passes
 pub all_once : {ws : List ℕ} {ce cn : ℕ} {counts : Counts} {a b c : List ℕ} → RunsOnce ws ce cn counts a → BaseFlat ws ce cn counts × Adds (base_entries ws ce cn counts.edges.base) a b

@@ -30,11 +30,6 @@ pub record EntryPlaced (ws : List ℕ) (ce cn bn i e : ℕ) : Type 0 where
   pub least : offset_at ws ce cn (end_at ws e) ≤ i
   pub most : i < offset_at ws ce cn (suc (end_at ws e))
 
--- What a step past an entry answers: 0 where the end has a run, 1 where it has none and something holds, and more where that does not.
-pub record Looked (visible : Bool) (holds : Type 0) (answer : ℕ) : Type 0 where
-  pub counts : answer ≤ 1 → answer ≡ cond visible 1 0
-  pub right : answer ≤ 1 → visible ≡ true → holds
-
 -- the places of the parts of the nodes below bn that have no run
 unfoldable pub places : List ℕ → ℕ → ℕ → ℕ → List ℕ
 places ws ce cn zero = []

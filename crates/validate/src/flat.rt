@@ -9,9 +9,9 @@ ghost use Rattle.shape.specs.Rules.{runs_right as runs_test};
 ghost use Rattle.marks.specs.Marks.{marked, Adds};
 ghost use Rattle.validate_words.specs.Climbs.{Linked, LinkReadable};
 ghost use Rattle.validate_lists.specs.Walks.{walks_test};
-ghost use Rattle.validate.specs.Flat.{at_base, base_entries, delta_links, places, PlaceReadable, EntryPlaced, Looked, CountReadable, BaseFlat, DeltaFlat, ListsOnce, FlatReadable, ListsReadable};
+ghost use Rattle.validate.specs.Flat.{at_base, base_entries, delta_links, places, PlaceReadable, EntryPlaced, CountReadable, BaseFlat, DeltaFlat, ListsOnce, FlatReadable, ListsReadable};
 
-use marks::mark_step;
+use marks::mark;
 use plain::Counts;
 use validate_lists::runs::runs_once;
 use validate_lists::walks::live_marked;
@@ -29,10 +29,7 @@ fn has_run(
     requires { Sized axis.now edge_capacity node_capacity × (node < node_capacity) × (runless ≡ true → mark_at axis.now edge_capacity node_capacity node ≡ 0) }
     ensures { result ≡ not (eqb (mark_at axis.now edge_capacity node_capacity node) 0) }
 {
-    if runless {
-        return false;
-    }
-    axis[4 * edge_capacity + 4 * node_capacity + node] != 0
+    !runless && axis[4 * edge_capacity + 4 * node_capacity + node] != 0
 }
 
 // Whether entry i of the compressed index, edge `edge`, stands in the part of its end; only the yes is promised.
@@ -52,38 +49,7 @@ fn entry_placed(
         return false;
     }
     let at = 4 * edge_capacity + 5 * node_capacity + node as usize;
-    if i < axis[at] {
-        return false;
-    }
-    i < axis[at + 1]
-}
-
-// A step past entry i of the compressed index: 0 where the end of its edge has a run, else 1 where it stands in the part of its end, and 2 where it does not.
-fn entry_step(
-    axis: &[u32],
-    edge_capacity: usize,
-    node_capacity: usize,
-    base: u32,
-    runless: bool,
-    i: u32,
-    edge: u32,
-) -> u32
-    requires { PlaceReadable axis.now edge_capacity node_capacity base edge × (runless ≡ true → mark_at axis.now edge_capacity node_capacity (end_at axis.now edge) ≡ 0) }
-    ensures { Looked (at_base axis.now edge_capacity node_capacity edge) (EntryPlaced axis.now edge_capacity node_capacity base i edge) result }
-{
-    if has_run(
-        axis,
-        edge_capacity,
-        node_capacity,
-        runless,
-        axis[edge as usize] as usize,
-    ) {
-        return 0;
-    }
-    if entry_placed(axis, edge_capacity, node_capacity, base, i, edge) {
-        return 1;
-    }
-    2
+    axis[at] <= i && i < axis[at + 1]
 }
 
 // How many entries the compressed index has in the parts of nodes that have no run.
@@ -93,12 +59,10 @@ fn count_places(axis: &[u32], edge_capacity: usize, node_capacity: usize, base: 
 {
     let marks = 4 * edge_capacity + 4 * node_capacity;
     let offsets = 4 * edge_capacity + 5 * node_capacity;
-    let mut total: u32 = 0;
-    let mut x: usize = 0;
-    while x < base {
+    let mut total = 0;
+    for x in 0..base {
         let size = axis[offsets + (x + 1)] - axis[offsets + x];
         total += pick(axis[marks + x], 0, size, 0);
-        x += 1;
     }
     total
 }
@@ -118,60 +82,22 @@ fn base_flat(
 {
     let base = counts.edges.base;
     let base_nodes = counts.nodes.base;
-    let mut placed: u32 = 0;
-    let mut i: u32 = 0;
-    while i < base {
+    let mut placed = 0;
+    for i in 0..base {
         let e = axis[edge_capacity + i as usize];
-        let step = entry_step(
-            axis,
-            edge_capacity,
-            node_capacity,
-            base_nodes,
-            runless,
-            i,
-            e,
-        );
-        if step > 1 {
+        let node = axis[e as usize] as usize;
+        if has_run(axis, edge_capacity, node_capacity, runless, node) {
+            continue;
+        }
+        if !entry_placed(axis, edge_capacity, node_capacity, base_nodes, i, e) {
             return false;
         }
-        if !mark_step(seen, e as usize, step) {
+        if !mark(seen, e as usize) {
             return false;
         }
-        placed += step;
-        i += 1;
+        placed += 1;
     }
-    if runless {
-        return true;
-    }
-    count_places(axis, edge_capacity, node_capacity, base_nodes as usize) == placed
-}
-
-// A step past an edge of the delta: 0 where its end has a run, else 1 where it is linked, and 2 where it is not.
-fn edge_step(
-    axis: &[u32],
-    edge_capacity: usize,
-    node_capacity: usize,
-    base: u32,
-    bound: u32,
-    runless: bool,
-    edge: u32,
-) -> u32
-    requires { LinkReadable axis.now edge_capacity node_capacity bound edge × (runless ≡ true → mark_at axis.now edge_capacity node_capacity (end_at axis.now edge) ≡ 0) }
-    ensures { Looked (at_base axis.now edge_capacity node_capacity edge) (Linked axis.now edge_capacity base bound edge) result }
-{
-    if has_run(
-        axis,
-        edge_capacity,
-        node_capacity,
-        runless,
-        axis[edge as usize] as usize,
-    ) {
-        return 0;
-    }
-    if edge_linked(axis, edge_capacity, node_capacity, base, bound, edge) {
-        return 1;
-    }
-    2
+    runless || count_places(axis, edge_capacity, node_capacity, base_nodes as usize) == placed
 }
 
 // Whether every edge of the delta whose end has no run is linked, and no link of such an edge is marked. Marks them; only the yes is promised.
@@ -188,16 +114,17 @@ fn delta_flat(
 {
     let base = counts.edges.base;
     let bound = counts.edges.bound;
-    let mut e = base;
-    while e < bound {
-        let step = edge_step(axis, edge_capacity, node_capacity, base, bound, runless, e);
-        if step > 1 {
+    for e in base..bound {
+        let node = axis[e as usize] as usize;
+        if has_run(axis, edge_capacity, node_capacity, runless, node) {
+            continue;
+        }
+        if !edge_linked(axis, edge_capacity, node_capacity, base, bound, e) {
             return false;
         }
-        if !mark_step(seen, axis[2 * edge_capacity + e as usize] as usize, step) {
+        if !mark(seen, axis[2 * edge_capacity + e as usize] as usize) {
             return false;
         }
-        e += 1;
     }
     true
 }
@@ -213,7 +140,7 @@ fn end_live(axis: &[u32], live_nodes: &[u64], live_edges: &[u64], edge: usize) -
     of_edge <= of_node
 }
 
-// Whether the end of every live edge is live; only the yes is promised.
+// Whether the end of every live edge is live, with no early exit; only the yes is promised.
 fn ends_live(
     axis: &[u32],
     edge_capacity: usize,
@@ -230,12 +157,8 @@ fn ends_live(
         return true;
     }
     let mut right = true;
-    let mut e: usize = 0;
-    while e < bound {
-        if !end_live(axis, live_nodes, live_edges, e) {
-            right = false;
-        }
-        e += 1;
+    for e in 0..bound {
+        right &= end_live(axis, live_nodes, live_edges, e);
     }
     right
 }
@@ -254,23 +177,21 @@ fn lists_once(
     requires { ListsReadable axis.now edge_capacity node_capacity counts live_nodes.now live_edges.now × FlatReadable axis.now edge_capacity node_capacity counts runless seen.old × ((e : ℕ) → marked seen.old e ≡ false) }
     ensures { result ≡ true → ListsOnce axis.now edge_capacity node_capacity counts seen.new }
 {
-    if !runs_once(
-        axis,
-        edge_capacity,
-        node_capacity,
-        counts,
-        live_nodes,
-        live_edges,
-        runless,
-        true,
-        seen,
-    ) {
+    if !runless
+        && !runs_once(
+            axis,
+            edge_capacity,
+            node_capacity,
+            counts,
+            live_nodes,
+            live_edges,
+            seen,
+        )
+    {
         return false;
     }
-    if !base_flat(axis, edge_capacity, node_capacity, counts, runless, seen) {
-        return false;
-    }
-    delta_flat(axis, edge_capacity, node_capacity, counts, runless, seen)
+    base_flat(axis, edge_capacity, node_capacity, counts, runless, seen)
+        && delta_flat(axis, edge_capacity, node_capacity, counts, runless, seen)
 }
 
 // Whether the lists of one direction are quickly seen to be right, by rule 6 and by rule 7; only the yes is promised.
@@ -305,15 +226,12 @@ pub fn lists_flat(
     ) {
         return false;
     }
-    if !ends_live(
+    ends_live(
         axis,
         edge_capacity,
         node_capacity,
         counts,
         live_nodes,
         live_edges,
-    ) {
-        return false;
-    }
-    live_marked(live_edges, &seen, slots)
+    ) && live_marked(live_edges, &seen, slots)
 }

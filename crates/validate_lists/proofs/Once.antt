@@ -1,6 +1,6 @@
 -- Nodes with a run, one after the other, where their rings are followed too: that no entry comes twice, each ends at its node, and what is marked is in the list of
 -- its end.
-use Rattle.std.specs.Prelude.{ℕ, zero, suc, ◌+◌, ◌-◌, ◌*◌, ◌≤◌, ◌<◌, ◌≡◌, refl, Bool, true, false, cond, ◌||◌, not, List, [], ◌∷◌, ◌++◌, length, get_or, eqb, ltb}
+use Rattle.std.specs.Prelude.{ℕ, suc, ◌+◌, ◌-◌, ◌*◌, ◌≤◌, ◌<◌, ◌≡◌, refl, Bool, true, false, cond, ◌||◌, not, List, [], ◌∷◌, ◌++◌, length, get_or, eqb, ltb}
 use Rattle.plain.specs.Library.{sym, ap, subst, ◌∙◌, ⊎_elim, arith, eq-eqb, eqb-true, ne_eqb}
 use Rattle.plain.specs.Numbers.{NONE}
 use Rattle.plain.specs.declared.Counts.{Counts}
@@ -10,30 +10,27 @@ use Rattle.plain.proofs.Laws.ListLaws.{member_append, all_of, all_member}
 use Rattle.shape.specs.Columns.{cell, end_at, last_at, tail_at, mark_at}
 use Rattle.shape.specs.Chains.{In, until, ring}
 use Rattle.shape.specs.Shape.{run_list, ring_of}
-use Rattle.shape.specs.Rules.{runs_right}
 use Rattle.shape.proofs.Laws.Chains.{in_none}
-use Rattle.shape.proofs.Laws.Frames.{run_list_unmarked}
-use Rattle.shape.proofs.Laws.Checking.{run_complete, runs_complete}
-use Rattle.marks.specs.Marks.{marked, Followed, Adds}
+use Rattle.shape.proofs.Laws.Checking.{run_complete}
+use Rattle.marks.specs.Marks.{marked, Passed, Followed, Adds}
 use Rattle.validate_lists.specs.Runs.{entry_test, run_test, ends_in, taken, NodeOnce, RunsOnce}
-use Rattle.marks.specs.Laws.Following.{Following, follow_start, follow_done, followed_all, followed_final, both_once, both_adds, adds_none}
+use Rattle.marks.specs.Laws.Following.{Following, follow_start, follow_done, pass_fails, pass_more, followed_all, followed_final, both_once, both_adds, adds_none}
 
 -- ---- one node
 
 module _ (ws : List ℕ) (ce cn be eb x : ℕ) where
   -- with no run there is nothing to see
-  pub node_plain : mark_at ws ce cn x ≡ 0 → NodeOnce ws ce cn be eb x
+  pub node_plain : mark_at ws ce cn x ≡ 0 → (seen : List ℕ) → NodeOnce ws ce cn be eb x × Adds (taken ws ce cn be eb x) seen seen
   unfolding distinct
-  node_plain q =
-      let none : eqb (mark_at ws ce cn x) 0 ≡ true = eq-eqb (mark_at ws ce cn x) 0 q in
-      record {
-        right = run_complete ws ce cn eb x (λ some. absurd (some q));
-        own = λ e m. in_none e (rw none at m);
-        once = rw none;
-      }
-
-  pub plain_adds : (entry : List ℕ) → mark_at ws ce cn x ≡ 0 → Adds (taken ws ce cn be eb x) entry entry
-  plain_adds entry q = rw (eq-eqb (mark_at ws ce cn x) 0 q) (adds_none entry)
+  node_plain q seen =
+      let none : eqb (mark_at ws ce cn x) 0 ≡ true = eq-eqb (mark_at ws ce cn x) 0 q in (
+        record {
+          right = run_complete ws ce cn eb x (λ some. absurd (some q));
+          own = λ e m. in_none e (rw none at m);
+          once = rw none;
+        },
+        rw none (adds_none seen),
+      )
 
   module _ (some : mark_at ws ce cn x ≡ 0 → ⊥) where
     -- its run, and its ring
@@ -76,27 +73,37 @@ module _ (ws : List ℕ) (ce cn be eb x : ℕ) where
       unfolding ring_of ring
       node_ring some-ring g = both (rw (ne_eqb (last_at ws ce x) NONE some-ring) g)
 
--- ---- the entries of a ring
+-- ---- a ring that is followed
 
-module _ (link : ℕ → ℕ) (last : ℕ) where
-  -- an entry, and those after it
-  pub until_some : (n e : ℕ) → 0 < n → until link last n e ≡ e ∷ cond (eqb e last) [] (until link last (n - 1) (link e))
-  unfolding until
-  until_some zero e l = absurd (omega arith)
-  until_some (suc n) e l = let q : n ≡ suc n - 1 = omega arith in ap (λ (z : ℕ). e ∷ cond (eqb e last) [] (until link last z (link e))) q
+module _ (test : ℕ → Bool) (link : ℕ → ℕ) (last n first : ℕ) where
+  -- Of the entries of a ring those from e on are still to be followed, i being passed and marked.
+  pub record Circling (seen₀ seen : List ℕ) (i e : ℕ) : Type 0 where
+    pub following : Following test (until link last n first) seen₀ seen (until link last (n - i) e)
 
-  pub until_none : (n e : ℕ) → n ≤ 0 → until link last n e ≡ []
-  unfolding until
-  until_none zero e l = refl
-  until_none (suc n) e l = absurd (omega arith)
+  pub circling_start : (seen : List ℕ) → Circling seen seen 0 first
+  circling_start seen = record { following = let q : n - 0 ≡ n = omega arith in rw q (follow_start test (until link last n first) seen) }
 
--- behind an entry nothing is left at the last, and else what comes after it
-module _ {test : ℕ → Bool} {l seen₀ seen : List ℕ} (e last : ℕ) (later : List ℕ) (f : Following test l seen₀ seen (cond (eqb e last) [] later)) where
-  pub until_last : e ≡ last → Followed test true l seen₀ true seen
-  until_last q = follow_done f true (rw (eq-eqb e last q))
+  module _ {seen₀ seen : List ℕ} {i e : ℕ} (c : Circling seen₀ seen i e) where
+    -- past as many as may be
+    pub circling_done : n ≤ i → Followed test true (until link last n first) seen₀ true seen
+    unfolding until
+    circling_done l = follow_done c.following true (let q : n - i ≡ 0 = omega arith in rw q refl)
 
-  pub until_on : (e ≡ last → ⊥) → Following test l seen₀ seen later
-  until_on q = rw (ne_eqb e last q) at f
+    module _ {exit : List ℕ} {answer : Bool} (l : i < n) (p : Passed (test e) seen e answer exit) where
+      -- an entry, and those after it, unless it is the last
+      next : until link last (n - i) e ≡ e ∷ cond (eqb e last) [] (until link last (n - (i + 1)) (link e))
+      unfolding until
+      next = let q : n - i ≡ suc (n - (i + 1)) = omega arith in ap (λ (z : ℕ). until link last z e) q
+
+      pub circling_fails : answer ≡ false → Followed test true (until link last n first) seen₀ false exit
+      circling_fails a = pass_fails c.following next p true a
+
+      module _ (a : answer ≡ true) (long : length exit ≡ length seen) where
+        pub circling_last : e ≡ last → Followed test true (until link last n first) seen₀ true exit
+        circling_last q = follow_done (pass_more c.following next p a long) true (rw (eq-eqb e last q))
+
+        pub circling_on : (e ≡ last → ⊥) → Circling seen₀ exit (i + 1) (link e)
+        circling_on q = record { following = rw (ne_eqb e last q) at (pass_more c.following next p a long) }
 
 -- ---- all nodes
 
@@ -126,14 +133,4 @@ listing_done w l = record { nodes = λ y k. w.nodes y (omega arith); marks = w.m
 -- where no node has a run
 pub listing_none : {ws : List ℕ} {ce cn : ℕ} {counts : Counts} {seen : List ℕ} → ((x : ℕ) → x < counts.nodes.bound → mark_at ws ce cn x ≡ 0)
     → ((e : ℕ) → marked seen e ≡ false) → RunsOnce ws ce cn counts seen
-listing_none {ws} {ce} {cn} {counts} none clear = record { nodes = λ y k. node_plain ws ce cn counts.edges.base counts.edges.bound y (none y k); marks = λ e h. true_false h (clear e) }
-
-pub runless_right : (ws : List ℕ) (ce cn : ℕ) (counts : Counts) (nodes edges : List Bool) → ((x : ℕ) → x < counts.nodes.bound → mark_at ws ce cn x ≡ 0)
-    → runs_right ce cn counts nodes edges ws ≡ true
-runless_right ws ce cn counts nodes edges none =
-    runs_complete ws ce cn counts nodes edges
-    (record {
-      run = λ x l some. absurd (some (none x l));
-      apart = λ x y e l k m n. in_none e (rw (run_list_unmarked ws ce cn x (none x l)) at m);
-    })
-    (λ x e l dead m. in_none e (rw (run_list_unmarked ws ce cn x (none x l)) at m))
+listing_none {ws} {ce} {cn} {counts} {seen} none clear = record { nodes = λ y k. (node_plain ws ce cn counts.edges.base counts.edges.bound y (none y k) seen).0; marks = λ e h. true_false h (clear e) }

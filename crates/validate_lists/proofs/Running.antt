@@ -1,16 +1,18 @@
 -- Runs: the chain of one, and the runs of all nodes, one after the other: what the nodes from one on decide, where the entries before are marked.
-use Rattle.std.specs.Prelude.{ℕ, zero, suc, ◌+◌, ◌-◌, ◌*◌, ◌≤◌, ◌<◌, ◌≡◌, refl, Bool, true, false, ◌&&◌, ◌||◌, not, List, [], ◌∷◌, map, get_or, eqb, ltb}
-use Rattle.plain.specs.Library.{sym, ap, subst, ◌∙◌, arith, eq-eqb, ne_eqb, ltb-true}
+use Rattle.std.specs.Prelude.{ℕ, suc, ◌+◌, ◌-◌, ◌*◌, ◌≤◌, ◌<◌, ◌≡◌, refl, Bool, true, false, ◌&&◌, ◌||◌, not, List, [], ◌∷◌, map, length, get_or, eqb, ltb}
+use Rattle.plain.specs.Library.{sym, ap, ◌∙◌, arith, eq-eqb, ne_eqb}
+use Rattle.plain.specs.Numbers.{LIMIT}
+use Rattle.plain.specs.declared.Counts.{Counts}
 use Rattle.plain.specs.Lists.{member, distinct, all, from, joined}
-use Rattle.plain.proofs.Laws.Booleans.{true_false, refuted, and_left, and_right, and_false, both_true}
-use Rattle.shape.specs.Columns.{cell, end_at, tail_at, mark_at, count_at, first_at}
+use Rattle.plain.proofs.Laws.Booleans.{true_false, refuted, and_left, and_right, both_true}
+use Rattle.shape.specs.Columns.{cell, tail_at, mark_at, count_at, first_at}
 use Rattle.shape.specs.Chains.{chain}
 use Rattle.shape.specs.Shape.{run_list}
 use Rattle.shape.specs.Rules.{last_of, run_right}
 use Rattle.validate_words.specs.Laws.Passing.{slots_from, slots_more, slots_none}
-use Rattle.marks.specs.Marks.{marked, fresh, passes, Followed}
-use Rattle.validate_lists.specs.Runs.{entry_test, run_test, ends_in}
-use Rattle.marks.specs.Laws.Following.{follow_start, follow_done}
+use Rattle.marks.specs.Marks.{marked, Passed, fresh, passes, Followed}
+use Rattle.validate_lists.specs.Runs.{entry_test, ends_in, RunReadable, RunsReadable}
+use Rattle.marks.specs.Laws.Following.{Following, follow_start, follow_done, pass_fails, pass_more}
 use Rattle.marks.specs.Laws.Fresh.{fresh_clear, fresh_append}
 
 -- the run of a node with a mark is its chain
@@ -23,48 +25,49 @@ pub no_run : (test : ℕ → Bool) (tail : ℕ) (seen : List ℕ) → Followed t
 unfolding last_of
 no_run test tail seen = rw (eq-eqb tail tail refl) (follow_done (follow_start test [] seen) true refl)
 
--- an entry that passes is below the bound
-pub entry_below : (eb : ℕ) (live : Bool) (flags : List Bool) (e : ℕ) → entry_test eb live flags e ≡ true → e < eb
-unfolding entry_test
-entry_below eb live flags e h = ltb-true e eb (and_left (ltb e eb) (live || not (get_or flags e false)) h)
+-- the run of a node can be followed
+pub run_readable : {ws : List ℕ} {ce cn : ℕ} {counts : Counts} {live_nodes live_edges : List ℕ} (r : RunsReadable ws ce cn counts live_nodes live_edges)
+    → {x : ℕ} → x < counts.nodes.bound → {seen : List ℕ} → LIMIT ≤ 64 * length seen → RunReadable ws ce cn live_edges counts.edges.bound x seen
+run_readable r l long =
+    let a = r.axis in
+    record {
+      chains = record { few = a.sized.edges_within; room = omega (arith, a.sized.room); edges_within = a.edges.bound_within; live_long = r.edges_long; marks_long = long };
+      sized = a.sized;
+      node_below = omega (arith, l, a.nodes.bound_within);
+    }
 
--- the tests of an entry, one after the other
-module _ (ws : List ℕ) (strict : Bool) (x eb : ℕ) (live : Bool) (flags : List Bool) (e : ℕ) where
-  pub run_fails : entry_test eb live flags e ≡ false → run_test ws strict x eb live flags e ≡ false
-  run_fails h = rw (h, and_false (not strict || eqb (end_at ws e) x))
+-- ---- a chain that is followed
 
-  pub run_away : (not strict || eqb (end_at ws e) x) ≡ false → run_test ws strict x eb live flags e ≡ false
-  run_away h = rw h
+module _ (test : ℕ → Bool) (link : ℕ → ℕ) (n first tail : ℕ) where
+  -- Of the entries of a chain those from e on are still to be followed, i being passed and marked; the last of them is `last`, or the tail where there is none.
+  pub record Chaining (seen₀ seen : List ℕ) (i e last : ℕ) : Type 0 where
+    pub following : Following test (chain link n first) seen₀ seen (chain link (n - i) e)
+    pub ends : last_of (chain link n first) tail ≡ last_of (chain link (n - i) e) last
 
-  pub run_entry : entry_test eb live flags e ≡ true → (not strict || eqb (end_at ws e) x) ≡ true → run_test ws strict x eb live flags e ≡ true
-  run_entry h own = both_true own h
+  pub chaining_start : (seen : List ℕ) → Chaining seen seen 0 first tail
+  chaining_start seen = let q : n - 0 ≡ n = omega arith in record { following = rw q (follow_start test (chain link n first) seen); ends = rw q refl }
 
--- a run followed, where it is known whether its entries have to end at the node
-pub followed_so : (ws : List ℕ) (x eb : ℕ) (live : Bool) (flags : List Bool) {strict known final answer : Bool} {l entry exit : List ℕ} → strict ≡ known
-    → Followed (run_test ws strict x eb live flags) final l entry answer exit → Followed (run_test ws known x eb live flags) final l entry answer exit
-followed_so ws x eb live flags {final = final} {answer} {l} {entry} {exit} q f =
-    subst (λ (s : Bool). Followed (run_test ws s x eb live flags) final l entry answer exit) q f
+  module _ {seen₀ seen : List ℕ} {i e last : ℕ} (c : Chaining seen₀ seen i e last) where
+    -- past the last
+    pub chaining_done : n ≤ i → Followed test (ends_in (chain link n first) tail) (chain link n first) seen₀ (eqb last tail) seen
+    unfolding chain last_of
+    chaining_done l =
+        let none : chain link (n - i) e ≡ [] = (let q : n - i ≡ 0 = omega arith in rw q refl) in
+        let ends : last_of (chain link n first) tail ≡ last = c.ends ∙ rw none refl in
+        rw ends (follow_done c.following (eqb last tail) none)
 
-module _ (link : ℕ → ℕ) where
-  -- an entry of a chain, and those after it
-  pub chain_more : (n e : ℕ) → 0 < n → chain link n e ≡ e ∷ chain link (n - 1) (link e)
-  unfolding chain
-  chain_more zero e l = absurd (omega arith)
-  chain_more (suc n) e l = let q : n ≡ suc n - 1 = omega arith in ap (λ (z : ℕ). e ∷ chain link z (link e)) q
+    module _ {exit : List ℕ} {answer : Bool} (l : i < n) (p : Passed (test e) seen e answer exit) where
+      -- an entry, and those after it
+      next : chain link (n - i) e ≡ e ∷ chain link (n - (i + 1)) (link e)
+      unfolding chain
+      next = let q : n - i ≡ suc (n - (i + 1)) = omega arith in ap (λ (z : ℕ). chain link z e) q
 
-  pub chain_none : (n e : ℕ) → n ≤ 0 → chain link n e ≡ []
-  unfolding chain
-  chain_none zero e l = refl
-  chain_none (suc n) e l = absurd (omega arith)
+      pub chaining_fails : answer ≡ false → Followed test (ends_in (chain link n first) tail) (chain link n first) seen₀ false exit
+      chaining_fails a = pass_fails c.following next p (ends_in (chain link n first) tail) a
 
-  -- the last entry from one on
-  pub last_more : (n e last : ℕ) → 0 < n → last_of (chain link n e) last ≡ last_of (chain link (n - 1) (link e)) e
-  unfolding last_of
-  last_more n e last l = rw (chain_more n e l)
-
-  pub last_none : (n e last : ℕ) → n ≤ 0 → last_of (chain link n e) last ≡ last
-  unfolding last_of
-  last_none n e last l = rw (chain_none n e l)
+      pub chaining_on : answer ≡ true → length exit ≡ length seen → Chaining seen₀ exit (i + 1) (link e) e
+      unfolding last_of
+      chaining_on a long = record { following = pass_more c.following next p a long; ends = c.ends ∙ rw next refl }
 
 -- ---- the tests of one run
 

@@ -22,6 +22,12 @@ run_test ws strict x eb live flags e = (not strict || eqb (end_at ws e) x) && en
 abbrev pub ends_in : List ℕ → ℕ → Bool
 ends_in l tail = eqb (last_of l tail) tail
 
+-- The ends and live bits of the edges below the bound eb, and marks for them.
+pub record PassReadable (ws words : List ℕ) (eb : ℕ) (seen : List ℕ) : Type 0 where
+  pub ends_there : eb ≤ length ws
+  pub live_long : eb ≤ 64 * length words
+  pub marks_long : eb ≤ 64 * length seen
+
 -- The run links of an axis, the live bits of the edges below the bound eb, and a mark map for all edges.
 pub record ChainReadable (ws : List ℕ) (ce : ℕ) (words : List ℕ) (eb : ℕ) (seen : List ℕ) : Type 0 where
   pub few : ce ≤ LIMIT
@@ -42,11 +48,10 @@ pub record RunsReadable (ws : List ℕ) (ce cn : ℕ) (counts : Counts) (live_no
   pub nodes_long : counts.nodes.bound ≤ 64 * length live_nodes
   pub edges_long : counts.edges.bound ≤ 64 * length live_edges
 
--- A clear mark map for all edges, where `runless` tells that no node has a run.
-pub record MapClear (ws : List ℕ) (ce cn : ℕ) (counts : Counts) (runless : Bool) (seen : List ℕ) : Type 0 where
+-- A clear mark map for all edges.
+pub record MapClear (seen : List ℕ) : Type 0 where
   pub marks_long : LIMIT ≤ 64 * length seen
   pub clear : (e : ℕ) → marked seen e ≡ false
-  pub no_run : runless ≡ true → (x : ℕ) → x < counts.nodes.bound → mark_at ws ce cn x ≡ 0
 
 -- ---- nodes with a run
 

@@ -5,21 +5,13 @@ use Rattle.plain.specs.Numbers.{LIMIT}
 use Rattle.plain.specs.Lists.{member, distinct, all, from}
 use Rattle.liveness.specs.Flags.{bit, live_flags}
 use Rattle.shape.specs.Columns.{end_at}
-use Rattle.cursor.specs.declared.AdjacencyCursor.{AdjacencyCursor}
-use Rattle.cursor.specs.Cursor.{Seekable}
+use Rattle.shape.specs.Chains.{In}
 use Rattle.adjacency.specs.Walk.{walk_in, Walkable}
 
--- An edge that has a live bit below so many slots or none, an end and a mark.
-pub record EntryReadable (live : List ℕ) (slots : ℕ) (ends : List ℕ) (edge : ℕ) (seen : List ℕ) : Type 0 where
-  pub live_long : slots ≤ 64 * length live
-  pub end_there : edge < length ends
-  pub mark_there : edge < 64 * length seen
-
--- A cursor over columns whose edges have ends, and a mark map for all of them.
-pub record ListReadable (linked : Bool) (entries next live : List ℕ) (slots : ℕ) (c : AdjacencyCursor) (ends seen : List ℕ) : Type 0 where
-  pub seekable : Seekable linked entries next live slots c
-  pub ends_there : length next ≤ length ends
-  pub marks_long : LIMIT ≤ 64 * length seen
+-- Edges that have ends and marks.
+pub record ListReadable (edges ends seen : List ℕ) : Type 0 where
+  pub ends_there : (e : ℕ) → In e edges → e < length ends
+  pub marks_there : (e : ℕ) → In e edges → e < 64 * length seen
 
 -- A node that can be walked, and a mark map for all edges.
 pub record WalkReadable (ws : List ℕ) (ce cn : ℕ) (counts : Counts) (live_edges : List ℕ) (x : ℕ) (seen : List ℕ) : Type 0 where

@@ -6,72 +6,35 @@ ghost use Rattle.std.specs.Prelude.{ℕ, ◌*◌, ◌≤◌, ◌<◌, ◌≡◌,
 ghost use Rattle.plain.specs.Lists.{all, from};
 ghost use Rattle.liveness.specs.Flags.{live_flags};
 ghost use Rattle.shape.specs.Columns.{end_at};
-ghost use Rattle.cursor.specs.Cursor.{listed, listed_left};
 ghost use Rattle.adjacency.specs.Walk.{walk_in};
-ghost use Rattle.marks.specs.Marks.{Entered, Followed};
-ghost use Rattle.validate_lists.specs.Walks.{EntryReadable, ListReadable, WalkReadable, WalksReadable, Within, marked_if_live, walks_test};
+ghost use Rattle.marks.specs.Marks.{Passed, Followed};
+ghost use Rattle.validate_lists.specs.Walks.{ListReadable, WalkReadable, WalksReadable, Within, marked_if_live, walks_test};
 
 use adjacency::walk;
-use cursor::{AdjacencyCursor, Found, is_listed};
+use cursor::edges::AdjacentEdges;
 use liveness::is_live;
 use marks::mark;
 use plain::Counts;
 
-// An entry that is listed ends at the node, by the column `ends`, and is not marked yet. Marks it where it is listed.
-fn entry_right(
-    tombstoned: bool,
-    live: &[u64],
-    slots: usize,
-    ends: &[u32],
-    node: u32,
-    edge: u32,
-    seen: &mut [u64],
-) -> bool
-    requires { EntryReadable live.now slots ends.now edge seen.old }
-    ensures { Entered (listed tombstoned (live_flags live.now slots) edge) (eqb (end_at ends.now edge) node) seen.old edge result seen.new }
+// An edge of a walk ends at the node, by the column `ends`, and is not marked yet. Marks it.
+fn pass(ends: &[u32], node: u32, edge: u32, seen: &mut [u64]) -> bool
+    requires { (edge < length ends.now) × (edge < 64 * length seen.old) }
+    ensures { Passed (eqb (end_at ends.now edge) node) seen.old edge result seen.new }
 {
-    let slot = edge as usize;
-    if !is_listed(tombstoned, live, slots, edge) {
-        return true;
-    }
-    if ends[slot] != node {
-        return false;
-    }
-    mark(seen, slot)
+    ends[edge as usize] == node && mark(seen, edge as usize)
 }
 
-// The listed entries that a cursor has left: each ends at the node, by the column `ends`, and none is marked. Marks them.
-fn list_right(
-    start: AdjacencyCursor,
-    linked: bool,
-    entries: &[u32],
-    next: &[u32],
-    tombstoned: bool,
-    live: &[u64],
-    slots: usize,
-    ends: &[u32],
-    node: u32,
-    seen: &mut [u64],
-) -> bool
-    requires { ListReadable linked entries.now next.now live.now slots start ends.now seen.old }
-    ensures { Followed (λ e. eqb (end_at ends.now e) node) true (listed_left linked entries.now next.now tombstoned live.now slots start) seen.old result seen.new }
+// The edges of a walk: each ends at the node, by the column `ends`, and none is marked. Marks them.
+fn list_right(edges: AdjacentEdges, ends: &[u32], node: u32, seen: &mut [u64]) -> bool
+    requires { ListReadable edges ends.now seen.old }
+    ensures { Followed (λ e. eqb (end_at ends.now e) node) true edges.entry seen.old result seen.new }
 {
-    let mut cursor = start;
-    loop {
-        let step = cursor.step(linked, entries, next);
-        let found = step.found;
-        match found {
-            Found::Edge(edge) => {
-                if !entry_right(tombstoned, live, slots, ends, node, edge, seen) {
-                    return false;
-                }
-            }
-            Found::Done => {
-                return true;
-            }
+    for edge in edges {
+        if !pass(ends, node, edge, seen) {
+            return false;
         }
-        cursor = step.cursor;
     }
+    true
 }
 
 // The walk of one node, whose live flag is `live`.
@@ -88,42 +51,25 @@ fn walk_right(
     requires { WalkReadable axis.now edge_capacity node_capacity counts words.now node seen.old }
     ensures { Followed (λ e. eqb (end_at axis.now e) node) true (walk_in axis.now edge_capacity node_capacity counts words.now node live) seen.old result seen.new }
 {
-    let start = walk::start(
+    let edges = walk::edges(
         axis,
         edge_capacity,
         node_capacity,
         counts,
+        words,
         node as usize,
         live,
     );
-    let linked = start.linked;
-    let slots = counts.edges.bound as usize;
-    let entries = walk::entries_of(axis, edge_capacity, linked);
-    let next = walk::next_of(axis, edge_capacity);
-    let tombstoned = walk::tombstoned(counts);
-    list_right(
-        start.cursor,
-        linked,
-        entries,
-        next,
-        tombstoned,
-        words,
-        slots,
-        axis,
-        node,
-        seen,
-    )
+    list_right(edges, axis, node, seen)
 }
 
 // A slot is marked if it is live.
+#[tactic(auto, unfolding(crate::specs::Walks::marked_if_live))]
 fn marked_if_live(words: &[u64], seen: &[u64], slots: usize, slot: usize) -> bool
     requires { (slots ≤ 64 * length words.now) × (slots ≤ 64 * length seen.now) }
     ensures { result ≡ marked_if_live (live_flags words.now slots) (live_flags seen.now slots) slot }
 {
-    if is_live(words, slots, slot) {
-        return is_live(seen, slots, slot);
-    }
-    true
+    !is_live(words, slots, slot) || is_live(seen, slots, slot)
 }
 
 // Whether the bits of the first words of one map are set in those of another; only the yes is promised.
@@ -131,12 +77,10 @@ fn words_within(words: &[u64], seen: &[u64], count: usize) -> bool
     requires { (count ≤ length words.now) × (count ≤ length seen.now) }
     ensures { result ≡ true → (i : ℕ) → i < count → Within (get_or words.now i 0) (get_or seen.now i 0) }
 {
-    let mut i: usize = 0;
-    while i < count {
+    for i in 0..count {
         if words[i] & seen[i] != words[i] {
             return false;
         }
-        i += 1;
     }
     true
 }
@@ -146,26 +90,18 @@ pub fn live_marked(words: &[u64], seen: &[u64], slots: usize) -> bool
     requires { (slots ≤ 64 * length words.now) × (slots ≤ 64 * length seen.now) }
     ensures { result ≡ all (marked_if_live (live_flags words.now slots) (live_flags seen.now slots)) (from 0 slots) }
 {
-    let full = slots / 64;
-    if words_within(words, seen, full) {
-        if slots % 64 == 0 {
-            return true;
-        }
-        if words[full] & seen[full] == words[full] {
-            return true;
-        }
+    if words_within(words, seen, slots.div_ceil(64)) {
+        return true;
     }
-    let mut e: usize = 0;
-    while e < slots {
+    for e in 0..slots {
         if !marked_if_live(words, seen, slots, e) {
             return false;
         }
-        e += 1;
     }
     true
 }
 
-// Rule 7: the walks of all nodes list each live edge once, at its end, and nothing else. They are not followed where a quick test has told that they are right.
+// Rule 7: the walks of all nodes list each live edge once, at its end, and nothing else.
 pub fn walks_right(
     axis: &[u32],
     edge_capacity: usize,
@@ -173,19 +109,13 @@ pub fn walks_right(
     counts: Counts,
     live_nodes: &[u64],
     live_edges: &[u64],
-    known: bool,
 ) -> bool
-    requires { WalksReadable axis.now edge_capacity node_capacity counts live_nodes.now live_edges.now × (known ≡ true → walks_test axis.now edge_capacity node_capacity counts live_nodes.now live_edges.now ≡ true) }
+    requires { WalksReadable axis.now edge_capacity node_capacity counts live_nodes.now live_edges.now }
     ensures { result ≡ walks_test axis.now edge_capacity node_capacity counts live_nodes.now live_edges.now }
 {
-    let slots = counts.edges.bound as usize;
     let node_bound = counts.nodes.bound;
-    if known {
-        return true;
-    }
     let mut seen = [0u64; 512];
-    let mut x: u32 = 0;
-    while x < node_bound {
+    for x in 0..node_bound {
         let live = is_live(live_nodes, node_bound as usize, x as usize);
         if !walk_right(
             axis,
@@ -199,7 +129,6 @@ pub fn walks_right(
         ) {
             return false;
         }
-        x += 1;
     }
-    live_marked(live_edges, &seen, slots)
+    live_marked(live_edges, &seen, counts.edges.bound as usize)
 }

@@ -1,44 +1,40 @@
--- `refusals::add_edge` meets its contract: the fault of the payload, those of source and target, then the room, then the store's addition.
-use Rattle.std.specs.Prelude.{◌≤◌}
-use Rattle.refusals.proofs.Told.{told_live, told_in_order}
+-- `refusals::add_edge` meets its contract: the order of the payload, the faults of source and target, then the room, then the store's addition.
+use Rattle.plain.proofs.Laws.Exits.{refused_exit}
+use Rattle.refusals.proofs.Told.{told_node}
 use Rattle.refusals.proofs.Additions.{edge_inverted, source_fault, target_fault, edge_full, edge_added}
-use Rattle.refusals.proofs.add_edge.Goals.{After-fault-from}
 use Rattle.refusals.proofs.add_edge.Goals as goal
 
--- no low above its high
-order : (c : After-fault-from) → c.args.payload.low ≤ c.args.payload.high
-order c = told_in_order _ c.payload_fault-inverted.ensures c.if-inverted-ne0.false
+pub returns-in_err-ordered-clause-steps : goal.returns-in_err-ordered-clause-steps
+returns-in_err-ordered-clause-steps c =
+    rw (refused_exit _ c.from_residual.ensures.1, c.in_err-ordered.ensures.1) (edge_inverted c.requires c.args.source c.args.target c.args.payload c.in_err-ordered.ensures.0)
 
-pub returns-then-inverted-ne0 : goal.returns-then-inverted-ne0
-returns-then-inverted-ne0 c =
-    rw c.refused.ensures (edge_inverted c.requires c.args.source c.args.target c.args.payload c.payload_fault-inverted.ensures c.if-inverted-ne0.true)
+pub returns-in_err-live_node-clause-steps : goal.returns-in_err-live_node-clause-steps
+returns-in_err-live_node-clause-steps c =
+    rw (refused_exit _ c.from_residual-in_err-live_node.ensures.1)
+    (source_fault c.requires c.args.source c.args.target c.in_ok-ordered.ensures c.as_store-read.ensures c.in_err-live_node.ensures)
 
-pub returns-then-from-ne0 : goal.returns-then-from-ne0
-returns-then-from-ne0 c =
-    rw c.refused-then-from-ne0.ensures (source_fault c.requires c.args.source c.args.target (order (goal.at.returns-then-from-ne0 c).After-fault-from) c.fault-from.ensures c.if-from-ne0.true)
+pub returns-in_err-live_node-2-clause-steps : goal.returns-in_err-live_node-2-clause-steps
+returns-in_err-live_node-2-clause-steps c =
+    rw (refused_exit _ c.from_residual-in_err-live_node-2.ensures.1)
+    (target_fault c.requires c.args.source c.args.target c.in_ok-ordered.ensures (told_node c.as_store-read.ensures c.args.source c.in_ok-live_node.ensures)
+    c.as_store-read.ensures c.in_err-live_node-2.ensures)
 
-pub returns-then-to-ne0 : goal.returns-then-to-ne0
-returns-then-to-ne0 c =
-    rw c.refused-then-to-ne0.ensures (target_fault c.requires c.args.source c.args.target (order (goal.at.returns-then-to-ne0 c).After-fault-from) (told_live _ _ _ _ _ c.fault-from.ensures c.if-from-ne0.false)
-    c.fault-to.ensures c.if-to-ne0.true)
+pub returns-then-store-slot-clause-steps : goal.returns-then-store-slot-clause-steps
+returns-then-store-slot-clause-steps c =
+    edge_full c.requires c.args.source c.args.target c.in_ok-ordered.ensures (told_node c.as_store-read.ensures c.args.source c.in_ok-live_node.ensures)
+    (told_node c.as_store-read.ensures c.args.target c.in_ok-live_node-2.ensures) c.if-store-slot.true
 
-pub returns-then-lows-bound : goal.returns-then-lows-bound
-returns-then-lows-bound c =
-    rw c.refused-then-lows-bound.ensures (edge_full c.requires c.args.source c.args.target (order (goal.at.returns-then-lows-bound c).After-fault-from) (told_live _ _ _ _ _ c.fault-from.ensures c.if-from-ne0.false)
-    (told_live _ _ _ _ _ c.fault-to.ensures c.if-to-ne0.false) c.if-lows-bound.true)
-
-pub add_edge-after-requires : goal.add_edge-after-requires
-add_edge-after-requires c =
+pub add_edge-requires : goal.add_edge-requires
+add_edge-requires c =
     record {
       checked = c.requires;
-      in_order = order (goal.at.add_edge-after-requires c).After-fault-from;
-      source_live = told_live _ _ _ _ _ c.fault-from.ensures c.if-from-ne0.false;
-      target_live = told_live _ _ _ _ _ c.fault-to.ensures c.if-to-ne0.false;
-      room = c.if-lows-bound.false;
+      in_order = c.in_ok-ordered.ensures;
+      source_live = told_node c.as_store-read.ensures c.args.source c.in_ok-live_node.ensures;
+      target_live = told_node c.as_store-read.ensures c.args.target c.in_ok-live_node-2.ensures;
+      room = c.if-store-slot.false;
     }
 
-pub returns : goal.returns
-returns c =
-    rw c.done.ensures
-    (edge_added c.requires c.args.source c.args.target (order (goal.at.returns c).After-fault-from) (told_live _ _ _ _ _ c.fault-from.ensures c.if-from-ne0.false)
-    (told_live _ _ _ _ _ c.fault-to.ensures c.if-to-ne0.false) c.if-lows-bound.false c.add_edge-after.ensures)
+pub returns-clause-steps : goal.returns-clause-steps
+returns-clause-steps c =
+    edge_added c.requires c.args.source c.args.target c.in_ok-ordered.ensures (told_node c.as_store-read.ensures c.args.source c.in_ok-live_node.ensures)
+    (told_node c.as_store-read.ensures c.args.target c.in_ok-live_node-2.ensures) c.if-store-slot.false c.add_edge.ensures.acted

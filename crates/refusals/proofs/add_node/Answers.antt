@@ -2,11 +2,8 @@
 use Rattle.refusals.proofs.Additions.{node_full, node_added}
 use Rattle.refusals.proofs.add_node.Goals as goal
 
-pub returns-then-nodes-bound : goal.returns-then-nodes-bound
-returns-then-nodes-bound c =
-    rw c.refused.ensures (node_full c.requires c.args.payload c.if-nodes-bound.true)
+pub returns-then-store-slot-clause-steps : goal.returns-then-store-slot-clause-steps
+returns-then-store-slot-clause-steps c = node_full c.requires c.args.payload c.if-store-slot.true
 
-pub returns : goal.returns
-returns c =
-    rw c.done.ensures
-    (node_added c.requires c.args.payload c.if-nodes-bound.false c.add_node-after.ensures)
+pub returns-clause-steps : goal.returns-clause-steps
+returns-clause-steps c = node_added c.requires c.args.payload c.if-store-slot.false c.add_node.ensures.acted

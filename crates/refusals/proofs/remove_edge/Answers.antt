@@ -2,6 +2,6 @@
 use Rattle.refusals.proofs.Additions.{edge_removed}
 use Rattle.refusals.proofs.remove_edge.Goals as goal
 
-pub returns : goal.returns
-returns c =
-    rw c.removal_done.ensures (edge_removed c.requires c.args.edge c.remove_edge-removal.ensures)
+pub returns-clause-steps : goal.returns-clause-steps
+returns-clause-steps c =
+    rw c.from.ensures (edge_removed c.requires c.args.edge c.remove_edge.ensures.removed)

@@ -2,6 +2,6 @@
 use Rattle.refusals.proofs.Additions.{node_removed}
 use Rattle.refusals.proofs.remove_node.Goals as goal
 
-pub returns : goal.returns
-returns c =
-    rw c.removal_done.ensures (node_removed c.requires c.args.node c.remove_node-removal.ensures)
+pub returns-clause-steps : goal.returns-clause-steps
+returns-clause-steps c =
+    rw c.from.ensures (node_removed c.requires c.args.node c.remove_node.ensures.removed)

@@ -1,44 +1,43 @@
--- `runs::append_live` meets its contract. The invariant is `Appending`; the measure is how many entries are left.
-use Rattle.std.specs.Prelude.{◌<◌}
+-- `runs::append_live` meets its contract. The invariant is `Appending`.
+use Rattle.std.specs.Prelude.{◌+◌, ◌-◌, ◌<◌, ◌≡◌}
 use Rattle.plain.specs.Library.{arith}
 use Rattle.runs.proofs.Sweeping.{append_start, append_below, append_keep, append_more, append_end}
-use Rattle.runs.proofs.append_live.Goals.{In-loop-left}
+use Rattle.runs.proofs.append_live.Goals.{In-loop}
 use Rattle.runs.proofs.append_live.Goals as goal
 
+-- some entries are left
+some_left : (c : In-loop) → 0 < c.args.length - c.loop.counter
+some_left c = omega (arith, c.loop-test.true)
+
 -- the present entry is an edge
-next_in : (c : In-loop-left) → c.loop-left.next < c.args.edge_capacity
-next_in c =
-    let pre = c.requires in
-    omega (arith, append_below pre c.loop-left-test.true c.loop-left.invariant, pre.editable.edges_within)
+next_in : (c : In-loop) → c.loop.next < c.args.edge_capacity
+next_in c = omega (arith, append_below c.requires (some_left c) c.loop.invariant, c.requires.editable.edges_within)
 
-pub loop-left-init : goal.loop-left-init
-loop-left-init c = append_start c.requires
+pub loop-init : goal.loop-init
+loop-init c = let all : c.args.length - 0 ≡ c.args.length = omega arith in rw all (append_start c.requires)
 
-pub overflow_mul-at : goal.overflow_mul-at
-overflow_mul-at c = omega (arith, next_in (goal.at.overflow_mul-at c).In-loop-left)
+pub overflow_cast-next : goal.overflow_cast-next
+overflow_cast-next c = omega (arith, next_in (goal.at.overflow_cast-next c).In-loop)
 
-pub overflow_cast-at : goal.overflow_cast-at
-overflow_cast-at c = omega (arith, next_in (goal.at.overflow_cast-at c).In-loop-left)
+pub overflow_add-next : goal.overflow_add-next
+overflow_add-next c = omega (arith, next_in (goal.at.overflow_add-next c).In-loop)
 
-pub overflow_add-at : goal.overflow_add-at
-overflow_add-at c = omega (arith, next_in (goal.at.overflow_add-at c).In-loop-left)
+pub offset_bounds-axis-edge_capacity : goal.offset_bounds-axis-edge_capacity
+offset_bounds-axis-edge_capacity c = omega (arith, next_in (goal.at.offset_bounds-axis-edge_capacity c).In-loop)
 
-pub offset_bounds-axis-at : goal.offset_bounds-axis-at
-offset_bounds-axis-at c = omega (arith, next_in (goal.at.offset_bounds-axis-at c).In-loop-left)
-
-pub bounds-axis-at : goal.bounds-axis-at
-bounds-axis-at c = omega (arith, next_in (goal.at.bounds-axis-at c).In-loop-left, c.loop-left.invariant.long)
+pub bounds-axis-edge_capacity : goal.bounds-axis-edge_capacity
+bounds-axis-edge_capacity c = omega (arith, next_in (goal.at.bounds-axis-edge_capacity c).In-loop, c.loop.invariant.long)
 
 pub keep_one-requires : goal.keep_one-requires
-keep_one-requires c =
-    append_keep c.requires c.loop-left-test.true c.loop-left.invariant
+keep_one-requires c = append_keep c.requires (some_left (goal.at.keep_one-requires c).In-loop) c.loop.invariant
 
-pub loop-left-preserved : goal.loop-left-preserved
-loop-left-preserved c =
-    append_more c.requires c.loop-left-test.true c.loop-left.invariant c.keep_one.auto.axis c.keep_one.ensures
+pub loop-preserved : goal.loop-preserved
+loop-preserved c =
+    let less : c.args.length - (c.loop.counter + 1) ≡ c.args.length - c.loop.counter - 1 = omega arith in
+    rw less (append_more c.requires (some_left (goal.at.loop-preserved c).In-loop) c.loop.invariant c.keep_one.auto.axis c.keep_one.ensures)
 
 pub shape_of-axis : goal.shape_of-axis
-shape_of-axis c = c.loop-left.invariant.long
+shape_of-axis c = c.loop.invariant.long
 
 pub returns : goal.returns
-returns c = append_end c.requires c.loop-left-test.false c.loop-left.invariant
+returns c = append_end c.requires (omega (arith, c.loop-test.false)) c.loop.invariant

@@ -1,34 +1,30 @@
--- `runs::find_before` meets its contract. The invariant is `Searching`; the measure is how many entries are left.
-use Rattle.std.specs.Prelude.{◌<◌}
+-- `runs::find_before` meets its contract. The invariant is `Searching`.
+use Rattle.std.specs.Prelude.{◌+◌, ◌-◌, ◌<◌, ◌≡◌}
 use Rattle.plain.specs.Library.{arith}
 use Rattle.runs.proofs.Searching.{search_start, search_below, search_found, search_more, search_none}
-use Rattle.runs.proofs.find_before.Goals.{At-loop-left}
+use Rattle.runs.proofs.find_before.Goals.{At-loop}
 use Rattle.runs.proofs.find_before.Goals as goal
 
 -- the present entry is an edge
-before_in : (c : At-loop-left) → c.loop-left.before < c.args.edge_capacity
-before_in c = search_below c.args.entry c.requires c.loop-left.invariant
+before_in : (c : At-loop) → c.loop.before < c.args.edge_capacity
+before_in c = search_below c.args.entry c.requires c.loop.invariant
 
-pub loop-left-init : goal.loop-left-init
-loop-left-init c = search_start _ c.requires
+pub loop-init : goal.loop-init
+loop-init c = search_start _ c.requires
 
-pub overflow_cast-at : goal.overflow_cast-at
-overflow_cast-at c = omega (arith, before_in (goal.at.overflow_cast-at c).At-loop-left)
-
-pub overflow_add-at : goal.overflow_add-at
-overflow_add-at c = omega (arith, before_in (goal.at.overflow_add-at c).At-loop-left)
-
-pub offset_bounds-axis-at : goal.offset_bounds-axis-at
-offset_bounds-axis-at c = omega (arith, before_in (goal.at.offset_bounds-axis-at c).At-loop-left)
-
-pub bounds-axis-at : goal.bounds-axis-at
-bounds-axis-at c = omega (arith, before_in (goal.at.bounds-axis-at c).At-loop-left, c.requires.room)
+pub bounds-axis-edge_capacity : goal.bounds-axis-edge_capacity
+bounds-axis-edge_capacity c = omega (arith, before_in (goal.at.bounds-axis-edge_capacity c).At-loop, c.requires.room)
 
 pub returns-then-next-entry : goal.returns-then-next-entry
-returns-then-next-entry c = search_found _ c.requires c.loop-left.invariant c.loop-left-test.true c.if-next-entry.true
+returns-then-next-entry c = (
+  search_found _ c.requires c.loop.invariant (omega (arith, c.loop-test.true)) c.if-next-entry.true,
+  λ none. omega (arith, before_in (goal.at.returns-then-next-entry c).At-loop, c.requires.edges_within),
+)
 
-pub loop-left-preserved : goal.loop-left-preserved
-loop-left-preserved c = search_more _ c.requires c.loop-left.invariant c.loop-left-test.true c.if-next-entry.false
+pub loop-preserved : goal.loop-preserved
+loop-preserved c =
+    let less : c.args.length - (c.loop.counter + 1) ≡ c.args.length - c.loop.counter - 1 = omega arith in
+    rw less (search_more _ c.requires c.loop.invariant (omega (arith, c.loop-test.true)) c.if-next-entry.false)
 
 pub returns : goal.returns
-returns c = search_none _ c.requires c.loop-left.invariant c.loop-left-test.false
+returns c = search_none _ c.requires c.loop.invariant (omega (arith, c.loop-test.false, c.requires.full))

@@ -1,9 +1,7 @@
--- `runs::find_before` meets its contract. The invariant is `Searching`; the measure is how many entries are left.
+-- `runs::find_before` meets its contract. The invariant is `Searching`.
+use Rattle.std.specs.Prelude.{◌-◌}
 use Rattle.runs.proofs.Searching.{Searching}
 use Rattle.runs.proofs.find_before.Given as goal
 
-abbrev pub invariant-loop-left : goal.invariant-loop-left
-invariant-loop-left l = Searching l.axis l.edge_capacity l.first l.length l.entry l.before l.left
-
-abbrev pub decreases-loop-left : goal.decreases-loop-left
-decreases-loop-left l = l.left
+abbrev pub invariant-loop : goal.invariant-loop
+invariant-loop l = Searching l.axis l.edge_capacity l.first l.length l.entry l.before (l.length - l.counter)

@@ -1,43 +1,39 @@
--- `runs::live_front` meets its contract. The invariant is `Scanning`; the measure is how many entries are left.
-use Rattle.std.specs.Prelude.{◌<◌}
+-- `runs::live_front` meets its contract. The invariant is `Scanning`.
+use Rattle.std.specs.Prelude.{◌+◌, ◌-◌, ◌<◌, ◌≡◌}
 use Rattle.plain.specs.Library.{sym, ◌∙◌, arith}
-use Rattle.runs.proofs.Scanning.{scan_start, scan_below, scan_more, scan_sum, scan_dead, scan_all}
-use Rattle.runs.proofs.live_front.Goals.{In-loop-left}
+use Rattle.shape.specs.Columns.{count_at}
+use Rattle.runs.proofs.Scanning.{scan_start, scan_below, scan_more, scan_sum, divided, scan_all}
+use Rattle.runs.proofs.live_front.Goals.{In-loop-read}
 use Rattle.runs.proofs.live_front.Goals as goal
 
+-- some entries are left
+some_left : (c : In-loop-read) → let a = c.args in 0 < count_at a.axis.now a.edge_capacity a.node_capacity a.node - c.loop-read.read
+some_left c = omega (arith, c.loop-read-test.true)
+
 -- the present entry is an edge
-next_in : (c : In-loop-left) → c.loop-left.next < c.args.edge_capacity
-next_in c =
-    let pre = c.requires in
-    omega (arith, scan_below pre c.loop-left-test.true c.loop-left.invariant, pre.editable.edges_within)
+next_in : (c : In-loop-read) → c.loop-read.next < c.args.edge_capacity
+next_in c = omega (arith, scan_below c.requires (some_left c) c.loop-read.invariant, c.requires.editable.edges_within)
 
-pub loop-left-init : goal.loop-left-init
-loop-left-init c = scan_start c.requires
-
-pub overflow_cast-slot : goal.overflow_cast-slot
-overflow_cast-slot c = omega (arith, next_in (goal.at.overflow_cast-slot c).In-loop-left)
-
-pub overflow_sub-result : goal.overflow_sub-result
-overflow_sub-result c = omega (arith, scan_sum c.requires c.loop-left.invariant)
+pub loop-read-init : goal.loop-read-init
+loop-read-init c =
+    let a = c.args in
+    let n = count_at a.axis.now a.edge_capacity a.node_capacity a.node in
+    let all : n - 0 ≡ n = omega arith in
+    rw all (scan_start c.requires)
 
 pub returns-then-not-is_live : goal.returns-then-not-is_live
-returns-then-not-is_live c = scan_dead c.requires c.loop-left.invariant
+returns-then-not-is_live c = divided c.requires c.loop-read.invariant _ (omega (arith, scan_sum c.requires c.loop-read.invariant, c.loop-read-test.true))
 
-pub overflow_mul-at : goal.overflow_mul-at
-overflow_mul-at c = omega (arith, next_in (goal.at.overflow_mul-at c).In-loop-left)
+pub bounds-axis-edge_capacity-in-loop-read : goal.bounds-axis-edge_capacity-in-loop-read
+bounds-axis-edge_capacity-in-loop-read c =
+    omega (arith, next_in (goal.at.bounds-axis-edge_capacity-in-loop-read c).In-loop-read, c.requires.editable.sized.room)
 
-pub overflow_add-at : goal.overflow_add-at
-overflow_add-at c = omega (arith, next_in (goal.at.overflow_add-at c).In-loop-left)
-
-pub offset_bounds-axis-at : goal.offset_bounds-axis-at
-offset_bounds-axis-at c = omega (arith, next_in (goal.at.offset_bounds-axis-at c).In-loop-left)
-
-pub bounds-axis-at : goal.bounds-axis-at
-bounds-axis-at c = omega (arith, next_in (goal.at.bounds-axis-at c).In-loop-left, c.requires.editable.sized.room)
-
-pub loop-left-preserved : goal.loop-left-preserved
-loop-left-preserved c =
-    scan_more c.requires c.loop-left-test.true c.loop-left.invariant (sym c.is_live.ensures ∙ c.if-not-is_live.false)
+pub loop-read-preserved : goal.loop-read-preserved
+loop-read-preserved c =
+    let a = c.args in
+    let n = count_at a.axis.now a.edge_capacity a.node_capacity a.node in
+    let less : n - (c.loop-read.read + 1) ≡ n - c.loop-read.read - 1 = omega arith in
+    rw less (scan_more c.requires (some_left (goal.at.loop-read-preserved c).In-loop-read) c.loop-read.invariant (sym c.is_live.ensures ∙ c.if-not-is_live.false))
 
 pub returns : goal.returns
-returns c = scan_all c.requires c.loop-left.invariant c.loop-left-test.false
+returns c = scan_all c.requires c.loop-read.invariant (omega (arith, c.loop-read-test.false))

@@ -1,6 +1,6 @@
 -- `runs::take_out` meets its contract, from what `find_before` and `unlink` ensure; where the entry is the first, the stores are those of `out_head`.
 use Rattle.std.specs.Prelude.{◌<◌}
-use Rattle.plain.specs.Library.{sym, ◌∙◌, length-set, arith}
+use Rattle.plain.specs.Library.{length-set, arith}
 use Rattle.shape.specs.Columns.{first_at}
 use Rattle.runs.proofs.Unlinking.{out_empty, out_first, out_searchable, out_none, out_some, out_head}
 use Rattle.runs.proofs.take_out.Goals.{Else-length-eq0}
@@ -16,19 +16,14 @@ returns-then-length-eq0 c = out_empty c.requires _ c.if-length-eq0.true
 pub bounds-axis-after : goal.bounds-axis-after
 bounds-axis-after c = simp length-set (omega (arith, first_in (goal.at.bounds-axis-after c).Else-length-eq0))
 
-pub bounds-axis-head-then-first-entry : goal.bounds-axis-head-then-first-entry
-bounds-axis-head-then-first-entry c = simp length-set (omega arith)
-
 pub returns-then-first-entry : goal.returns-then-first-entry
 returns-then-first-entry c = out_head c.requires _ c.if-length-eq0.false c.if-first-entry.true
 
-pub find_before-before-requires : goal.find_before-before-requires
-find_before-before-requires c = out_searchable c.requires c.args.entry c.if-length-eq0.false
+pub find_before-requires : goal.find_before-requires
+find_before-requires c = out_searchable c.requires c.args.entry c.if-length-eq0.false
 
 pub unlink-requires : goal.unlink-requires
-unlink-requires c =
-    out_some c.requires _ c.find_before-before.ensures c.if-before.true
+unlink-requires c = out_some c.requires _ c.in-Some.ensures.0 c.in-Some.ensures.1
 
-pub returns-else-before : goal.returns-else-before
-returns-else-before c =
-    out_none c.requires _ c.if-length-eq0.false c.if-first-entry.false (sym c.if-before.false ∙ c.find_before-before.ensures)
+pub returns-in_default : goal.returns-in_default
+returns-in_default c = out_none c.requires _ c.if-length-eq0.false c.if-first-entry.false c.in_default.ensures

@@ -12,8 +12,8 @@ open_node-requires c = node_openable c.requires Outgoing
 pub open_node-requires-2 : goal.open_node-requires-2
 open_node-requires-2 c = node_openable c.requires Incoming
 
-pub returns : goal.returns
-returns c =
+pub returns-clause-acted : goal.returns-clause-acted
+returns-clause-acted c =
     rw c.one_more-more.ensures
     (node_acted c.requires c.args.payload c.ranges.payload.fits c.push_live.ensures c.open_node.ensures c.open_node-2.ensures
     c.push_live.auto.words c.open_node.auto.axis c.open_node-2.auto.axis)

@@ -11,12 +11,12 @@ pub move_adjacency-requires-in-Incoming : goal.move_adjacency-requires-in-Incomi
 move_adjacency-requires-in-Incoming c =
     rw c.tombstoned-some_removed.ensures (movable (told_movable c.in-Incoming.is c.requires))
 
-pub returns-in-Outgoing : goal.returns-in-Outgoing
-returns-in-Outgoing c =
+pub returns-in-Outgoing-clause-moved : goal.returns-in-Outgoing-clause-moved
+returns-in-Outgoing-clause-moved c =
     let told = c.in-Outgoing.is in
     rw told (moving Outgoing (told_movable told c.requires) _ c.move_adjacency.ensures c.move_adjacency.auto.axis)
 
-pub returns-in-Incoming : goal.returns-in-Incoming
-returns-in-Incoming c =
+pub returns-in-Incoming-clause-moved : goal.returns-in-Incoming-clause-moved
+returns-in-Incoming-clause-moved c =
     let told = c.in-Incoming.is in
     rw told (moving Incoming (told_movable told c.requires) _ c.move_adjacency-in-Incoming.ensures c.move_adjacency-in-Incoming.auto.axis)

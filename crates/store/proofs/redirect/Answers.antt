@@ -11,12 +11,12 @@ pub redirect-requires-in-Incoming : goal.redirect-requires-in-Incoming
 redirect-requires-in-Incoming c =
     rw c.tombstoned-some_removed.ensures (redirectable c.requires Incoming)
 
-pub returns-in-Outgoing : goal.returns-in-Outgoing
-returns-in-Outgoing c =
+pub returns-in-Outgoing-clause-redirected : goal.returns-in-Outgoing-clause-redirected
+returns-in-Outgoing-clause-redirected c =
     let told = c.in-Outgoing.is in
     rw told (redirecting c.requires Outgoing _ c.redirect.ensures c.redirect.auto.axis)
 
-pub returns-in-Incoming : goal.returns-in-Incoming
-returns-in-Incoming c =
+pub returns-in-Incoming-clause-redirected : goal.returns-in-Incoming-clause-redirected
+returns-in-Incoming-clause-redirected c =
     let told = c.in-Incoming.is in
     rw told (redirecting c.requires Incoming _ c.redirect-in-Incoming.ensures c.redirect-in-Incoming.auto.axis)

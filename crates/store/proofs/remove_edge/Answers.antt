@@ -4,13 +4,13 @@ use Rattle.store.proofs.remove_edge.Goals as goal
 
 pub fewer-less-requires : goal.fewer-less-requires
 fewer-less-requires c =
-    edge_counted c.requires c.args.edge c.clear.ensures c.if-clear.true
+    edge_counted c.requires c.args.edge c.clear.ensures c.if-not-clear.false
 
-pub returns-then-clear : goal.returns-then-clear
-returns-then-clear c =
+pub returns-clause-removed : goal.returns-clause-removed
+returns-clause-removed c =
     rw c.fewer-less.ensures
-    (removing_live c.requires c.args.edge c.clear.ensures c.if-clear.true c.clear.auto.words)
+    (removing_live c.requires c.args.edge c.clear.ensures c.if-not-clear.false c.clear.auto.words)
 
-pub returns : goal.returns
-returns c =
-    removing_none c.requires c.args.edge c.clear.ensures c.if-clear.false
+pub returns-then-not-clear-clause-removed : goal.returns-then-not-clear-clause-removed
+returns-then-not-clear-clause-removed c =
+    removing_none c.requires c.args.edge c.clear.ensures c.if-not-clear.true

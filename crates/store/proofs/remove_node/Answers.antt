@@ -7,33 +7,33 @@ use Rattle.store.proofs.remove_node.Goals as goal
 
 pub clear_adjacency-out-requires : goal.clear_adjacency-out-requires
 clear_adjacency-out-requires c =
-    node_clearable c.requires c.args.node c.clear.ensures c.if-clear.true Outgoing refl
+    node_clearable c.requires c.args.node c.clear.ensures c.if-not-clear.false Outgoing refl
 
 pub clear_adjacency-back-requires : goal.clear_adjacency-back-requires
 clear_adjacency-back-requires c =
-    node_clearable c.requires c.args.node c.clear.ensures c.if-clear.true Incoming c.clear_adjacency-out.ensures.long
+    node_clearable c.requires c.args.node c.clear.ensures c.if-not-clear.false Incoming c.clear_adjacency-out.ensures.long
 
 pub fewer-less-requires : goal.fewer-less-requires
 fewer-less-requires c =
-    node_counted c.requires c.args.node c.clear.ensures c.if-clear.true
+    node_counted c.requires c.args.node c.clear.ensures c.if-not-clear.false
 
 pub overflow_add-out : goal.overflow_add-out
 overflow_add-out c =
     omega (
       arith,
-      edges_few c.requires c.args.node c.clear.ensures c.if-clear.true c.clear_adjacency-out.ensures c.clear_adjacency-back.ensures,
+      edges_few c.requires c.args.node c.clear.ensures c.if-not-clear.false c.clear_adjacency-out.ensures c.clear_adjacency-back.ensures,
     )
 
 pub fewer-rest-requires : goal.fewer-rest-requires
 fewer-rest-requires c =
-    edges_counted c.requires c.args.node c.clear.ensures c.if-clear.true c.clear_adjacency-out.ensures c.clear_adjacency-back.ensures
+    edges_counted c.requires c.args.node c.clear.ensures c.if-not-clear.false c.clear_adjacency-out.ensures c.clear_adjacency-back.ensures
 
-pub returns-then-clear : goal.returns-then-clear
-returns-then-clear c =
+pub returns-clause-removed : goal.returns-clause-removed
+returns-clause-removed c =
     rw (c.fewer-less.ensures, c.fewer-rest.ensures)
-    (clearing_live c.requires c.args.node c.clear.ensures c.if-clear.true c.clear_adjacency-out.ensures c.clear_adjacency-back.ensures
+    (clearing_live c.requires c.args.node c.clear.ensures c.if-not-clear.false c.clear_adjacency-out.ensures c.clear_adjacency-back.ensures
     c.clear.auto.words)
 
-pub returns : goal.returns
-returns c =
-    clearing_none c.requires c.args.node c.clear.ensures c.if-clear.false
+pub returns-then-not-clear-clause-removed : goal.returns-then-not-clear-clause-removed
+returns-then-not-clear-clause-removed c =
+    clearing_none c.requires c.args.node c.clear.ensures c.if-not-clear.true

@@ -2,5 +2,5 @@
 use Rattle.store.proofs.Editing.{payload_acted}
 use Rattle.store.proofs.set_payload.Goals as goal
 
-pub returns : goal.returns
-returns c = payload_acted c.requires c.ranges.high.fits
+pub returns-clause-acted : goal.returns-clause-acted
+returns-clause-acted c = payload_acted c.requires c.word_fits.ensures

@@ -1,6 +1,6 @@
 -- Tests one after the other, and a loop over slots that stops at the first that fails a test: what is still to be answered from each place on.
 use Rattle.std.specs.Prelude.{ℕ, zero, suc, ◌+◌, ◌-◌, ◌≤◌, ◌<◌, ◌≡◌, refl, Bool, true, false, cond, ◌&&◌, not, List, ◌∷◌, [], length, take, drop, get_or}
-use Rattle.plain.specs.Library.{sym, ap, ◌∙◌, arith, not-true, not-false, ltb-true}
+use Rattle.plain.specs.Library.{sym, ap, subst, ◌∙◌, arith, not-true, not-false, ltb-true}
 use Rattle.std.proofs.lemmas.Grind.{common_steps}
 use Rattle.plain.specs.Lists.{member, all, from, count}
 use Rattle.plain.proofs.Laws.Booleans.{by_test, same_truth}
@@ -104,6 +104,13 @@ module _ (test : ℕ → Bool) where
     counted = let more : count test (slots_from i n) ≡ cond (test i) 1 0 + count test (slots_from (i + 1) n) = rw (slots_more i n l) in omega (arith, c.counted);
     few = let one : cond (test i) 1 0 ≤ 1 = by_test (test i) (λ t. rw t (omega arith)) (λ t. rw t (omega arith)) in omega (arith, c.few);
   }
+
+  -- one that passes, and one that does not
+  pub count_more : {n all i some : ℕ} → Counting n all i some → i < n → test i ≡ true → Counting n all (i + 1) (some + 1)
+  count_more c l q = count_on c l (rw q refl)
+
+  pub count_skip : {n all i some : ℕ} → Counting n all i some → i < n → test i ≡ false → Counting n all (i + 1) some
+  count_skip {n} {all} {i} {some} c l q = let same : some + 0 ≡ some = omega arith in subst (Counting n all (i + 1)) same (count_on c l (rw q refl))
 
   pub count_done : {n all i some : ℕ} → Counting n all i some → n ≤ i → some ≡ all
   unfolding count

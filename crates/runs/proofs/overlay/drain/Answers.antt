@@ -9,26 +9,26 @@ use Rattle.runs.proofs.overlay.drain.Goals as goal
 next_in : (c : At-loop-next) → c.loop-next.next < c.args.edge_capacity
 next_in c = omega (arith, drain_below c.requires c.loop-next.invariant, c.requires.ready.editable.edges_within)
 
-pub ring_ends-ends-requires : goal.ring_ends-ends-requires
-ring_ends-ends-requires c = drain_readable c.requires
+pub ring_ends-requires : goal.ring_ends-requires
+ring_ends-requires c = drain_readable c.requires
 
-pub returns-then-last : goal.returns-then-last
-returns-then-last c = drain_none c.requires c.ring_ends-ends.ensures c.if-last.true
+pub returns-in_default : goal.returns-in_default
+returns-in_default c = drain_none c.requires c.in_default.ensures
 
 pub loop-next-init : goal.loop-next-init
-loop-next-init c = drain_start c.requires c.ring_ends-ends.ensures c.if-last.false
+loop-next-init c = drain_start c.requires c.in-Some.ensures.1 c.in-Some.ensures.0
 
-pub overflow_cast-at : goal.overflow_cast-at
-overflow_cast-at c = omega (arith, next_in (goal.at.overflow_cast-at c).At-loop-next)
+pub overflow_cast-next : goal.overflow_cast-next
+overflow_cast-next c = omega (arith, next_in (goal.at.overflow_cast-next c).At-loop-next)
 
-pub overflow_add-at : goal.overflow_add-at
-overflow_add-at c = omega (arith, next_in (goal.at.overflow_add-at c).At-loop-next)
+pub overflow_add-next : goal.overflow_add-next
+overflow_add-next c = omega (arith, next_in (goal.at.overflow_add-next c).At-loop-next)
 
-pub offset_bounds-axis-at : goal.offset_bounds-axis-at
-offset_bounds-axis-at c = omega (arith, next_in (goal.at.offset_bounds-axis-at c).At-loop-next)
+pub offset_bounds-axis-edge_capacity : goal.offset_bounds-axis-edge_capacity
+offset_bounds-axis-edge_capacity c = omega (arith, next_in (goal.at.offset_bounds-axis-edge_capacity c).At-loop-next)
 
-pub bounds-axis-at : goal.bounds-axis-at
-bounds-axis-at c = omega (arith, next_in (goal.at.bounds-axis-at c).At-loop-next, c.loop-next.invariant.long)
+pub bounds-axis-edge_capacity : goal.bounds-axis-edge_capacity
+bounds-axis-edge_capacity c = omega (arith, next_in (goal.at.bounds-axis-edge_capacity c).At-loop-next, c.loop-next.invariant.long)
 
 pub keep_one-requires : goal.keep_one-requires
 keep_one-requires c = drain_keep c.requires c.loop-next.invariant

@@ -1,6 +1,5 @@
 -- `validate::flat::base_flat` meets its contract. The loop's invariant: the entries before i whose end has no run are placed, marked, none twice, and counted. The measure
 -- is the number of entries left.
-use Rattle.std.specs.Prelude.{◌-◌}
 use Rattle.plain.specs.Lists.{from, count}
 use Rattle.shape.specs.Columns.{adjacency_at}
 use Rattle.validate.specs.Flat.{place_shown, EntryPlaced}
@@ -12,6 +11,3 @@ abbrev pub invariant-loop-i : goal.invariant-loop-i
 invariant-loop-i l =
     Marking (adjacency_at l.axis l.edge_capacity) (place_shown l.axis l.edge_capacity l.node_capacity) (λ k. EntryPlaced l.axis l.edge_capacity l.node_capacity l.base_nodes k (adjacency_at l.axis l.edge_capacity k)) 0 l.base l.i l.initial.seen l.seen
     × Counting (place_shown l.axis l.edge_capacity l.node_capacity) l.base (count (place_shown l.axis l.edge_capacity l.node_capacity) (from 0 l.base)) l.i l.placed
-
-abbrev pub decreases-loop-i : goal.decreases-loop-i
-decreases-loop-i l = l.base - l.i

@@ -1,6 +1,6 @@
 -- `validate::flat::ends_live` meets its contract: every node is live, or the loop has looked at every edge. Its invariant: where nothing was found the edges before e
 -- have live ends if they are live. The measure is the number of edges left.
-use Rattle.std.specs.Prelude.{ℕ, ◌-◌, ◌<◌, ◌≡◌, true}
+use Rattle.std.specs.Prelude.{ℕ, ◌<◌, ◌≡◌, true}
 use Rattle.liveness.specs.Flags.{live_bit}
 use Rattle.shape.specs.Columns.{end_at}
 use Rattle.validate.proofs.flat.ends_live.Given as goal
@@ -8,6 +8,3 @@ use Rattle.validate.proofs.flat.ends_live.Given as goal
 abbrev pub invariant-loop-e : goal.invariant-loop-e
 invariant-loop-e l =
     l.right ≡ true → (k : ℕ) → k < l.e → live_bit l.live_edges k ≡ true → live_bit l.live_nodes (end_at l.axis k) ≡ true
-
-abbrev pub decreases-loop-e : goal.decreases-loop-e
-decreases-loop-e l = l.bound - l.e

@@ -3,5 +3,4 @@ use Rattle.validate_lists.proofs.Running.{run_chain}
 use Rattle.validate_lists.proofs.runs.run_right.Goals as goal
 
 pub returns : goal.returns
-returns c =
-    rw (run_chain _ _ _ _ c.requires.1) at c.chain_right.ensures
+returns g c = rw (run_chain _ _ _ _ c.requires.1) at c.chain_right.ensures

@@ -1,52 +1,33 @@
--- `validate_lists::walks::list_right` meets its contract. The loop's invariant: the listed entries that the cursor has left are still to be followed, those before are
--- marked. The measure is how many entries are left, listed or not.
-use Rattle.std.specs.Prelude.{◌<◌, true, length}
-use Rattle.plain.specs.Library.{◌∙◌, arith}
-use Rattle.liveness.specs.Flags.{live_flags}
-use Rattle.cursor.specs.Cursor.{listed}
-use Rattle.cursor.specs.Laws.Cursor.{turn, turn_less, step_edge, step_none, step_below}
-use Rattle.marks.specs.Laws.Following.{follow_start, follow_done, enter_fails, enter_more}
+-- `validate_lists::walks::list_right` meets its contract.
+use Rattle.std.specs.Prelude.{ℕ, ◌≡◌, true, List, ◌∷◌}
+use Rattle.plain.specs.Library.{arith}
+use Rattle.plain.proofs.Laws.ListLaws.{member_first, member_later}
+use Rattle.marks.specs.Laws.Following.{follow_start, follow_done, pass_fails, pass_more}
+use Rattle.validate_lists.specs.Walks.{ListReadable}
 use Rattle.validate_lists.proofs.walks.list_right.Goals as goal
 
+-- what is read of edges is read of those after the first
+later : {list rest ends seen : List ℕ} {e : ℕ} → ListReadable list ends seen → list ≡ e ∷ rest → ListReadable rest ends seen
+later {rest = rest} {e = e} r q =
+    let t = rw q at r in record { ends_there = λ k m. t.ends_there k (member_later k e rest m); marks_there = λ k m. t.marks_there k (member_later k e rest m) }
+
 pub loop-edge-init : goal.loop-edge-init
-loop-edge-init c = (follow_start _ _ _, c.requires.seekable.ready)
+loop-edge-init c = rw c.into_iter-edge-iterator.ensures.into_iter_gives (follow_start _ _ _, c.requires)
 
-pub step-step-requires : goal.step-step-requires
-step-step-requires c = c.loop-edge.invariant.1
+pub pass-requires : goal.pass-requires
+pass-requires c =
+    let r = rw c.in-Some.ensures.steps at c.loop-edge.invariant.1 in
+    let first = member_first c.in-Some.edge _ in
+    (r.ends_there _ first, omega (arith, r.marks_there _ first, c.loop-edge.auto.seen))
 
-pub entry_right-requires : goal.entry_right-requires
-entry_right-requires c =
-    let inv = c.loop-edge.invariant in
-    let pre = c.requires in
-    let below : c.in-Edge.edge < length c.args.next.now = step_below inv.1 c.step-step.ensures c.in-Edge.is in
-    record {
-      live_long = pre.seekable.live_long;
-      end_there = omega (arith, below, pre.ends_there);
-      mark_there = omega (arith, below, inv.1.few, inv.0.long, pre.marks_long);
-    }
-
-pub shape_of-seen-then-not-entry_right : goal.shape_of-seen-then-not-entry_right
-shape_of-seen-then-not-entry_right c = c.entry_right.auto.seen ∙ c.loop-edge.invariant.0.long
-
-pub returns-then-not-entry_right : goal.returns-then-not-entry_right
-returns-then-not-entry_right c =
-    enter_fails (listed c.args.tombstoned (live_flags c.args.live.now c.args.slots)) _ c.loop-edge.invariant.0 (step_edge c.loop-edge.invariant.1 c.step-step.ensures _ c.in-Edge.is) c.entry_right.ensures
-    true c.if-not-entry_right.true
-
-pub shape_of-seen-in-Done : goal.shape_of-seen-in-Done
-shape_of-seen-in-Done c = c.loop-edge.invariant.0.long
-
-pub returns-in-Done : goal.returns-in-Done
-returns-in-Done c =
-    follow_done c.loop-edge.invariant.0 true (step_none c.loop-edge.invariant.1 c.step-step.ensures _ c.in-Done.is)
-
-pub loop-edge-smaller : goal.loop-edge-smaller
-loop-edge-smaller c =
-    turn_less c.loop-edge.invariant.1 c.step-step.ensures c.in-Edge.is
+pub returns-then-not-pass : goal.returns-then-not-pass
+returns-then-not-pass c = pass_fails c.loop-edge.invariant.0 c.in-Some.ensures.steps c.pass.ensures true c.if-not-pass.true
 
 pub loop-edge-preserved : goal.loop-edge-preserved
 loop-edge-preserved c = (
-  enter_more (listed c.args.tombstoned (live_flags c.args.live.now c.args.slots)) _ c.loop-edge.invariant.0 (step_edge c.loop-edge.invariant.1 c.step-step.ensures _ c.in-Edge.is) c.entry_right.ensures
-      c.if-not-entry_right.false c.entry_right.auto.seen,
-  (turn c.loop-edge.invariant.1 c.step-step.ensures).ready,
+  pass_more c.loop-edge.invariant.0 c.in-Some.ensures.steps c.pass.ensures c.if-not-pass.false c.pass.auto.seen,
+  later c.loop-edge.invariant.1 c.in-Some.ensures.steps,
 )
+
+pub returns : goal.returns
+returns c = follow_done c.loop-edge.invariant.0 true c.in-None.ensures.steps.0

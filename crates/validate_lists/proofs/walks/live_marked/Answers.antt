@@ -1,14 +1,13 @@
 -- `validate_lists::walks::live_marked` meets its contract. The loop's invariant: the slots from e on decide. The measure is the number of slots left.
-use Rattle.std.specs.Prelude.{ℕ, ◌/◌, ◌%◌, ◌≤◌, ◌<◌, ◌≡◌, true, List, get_or}
-use Rattle.plain.specs.Library.{sym, ◌∙◌, ⊎_elim, arith, ltb-true, eq-eqb, eqb-true}
-use Rattle.plain.proofs.Laws.Booleans.{by_test, below_or_not}
+use Rattle.std.specs.Prelude.{ℕ, ◌/◌, ◌%◌, ◌<◌, ◌≡◌, true, List, get_or}
+use Rattle.plain.specs.Library.{sym, ◌∙◌, arith, ltb-true, eq-eqb, eqb-true}
+use Rattle.plain.proofs.Laws.Booleans.{by_test}
 use Rattle.plain.proofs.Laws.ListLaws.{all_of, member_below}
 use Rattle.liveness.specs.Flags.{bit, live_bit, live_flags}
 use Rattle.liveness.specs.Laws.Flags.{flag_at}
 use Rattle.plain.specs.Lists.{all, from}
 use Rattle.validate_words.specs.Laws.Passing.{rest_first, rest_more, rest_fails, rest_none}
 use Rattle.validate_lists.specs.Walks.{Within, marked_if_live}
-use Rattle.validate_lists.proofs.Within.{within_and}
 use Rattle.validate_lists.proofs.walks.live_marked.Goals as goal
 
 -- where the words that hold the slots are within those of the other map, every live slot is marked
@@ -23,16 +22,8 @@ within_marked words seen slots within =
     (eq-eqb (bit (get_or seen (e / 64) 0) (e % 64)) 1 ((within e l).bits (e % 64) (eqb-true (bit (get_or words (e / 64) 0) (e % 64)) 1 q))))
     (λ q. rw (flag_at words slots e l, q))))
 
-pub returns-then-slots-eq0 : goal.returns-then-slots-eq0
-returns-then-slots-eq0 c =
-    within_marked _ _ _ (λ e l. c.words_within.ensures c.if-words_within.true (e / 64) (omega (arith, c.if-slots-eq0.true)))
-
-pub returns-then-words-full : goal.returns-then-words-full
-returns-then-words-full c =
-    let slots = c.args.slots in
-    within_marked _ _ _
-    (λ e l. ⊎_elim (λ b. c.words_within.ensures c.if-words_within.true (e / 64) b)
-    (λ (b : slots / 64 ≤ e / 64). let at : e / 64 ≡ slots / 64 = omega arith in rw at (within_and _ _ c.if-words-full.true)) (below_or_not (e / 64) (slots / 64)))
+pub returns-then-words_within : goal.returns-then-words_within
+returns-then-words_within c = within_marked _ _ _ (λ e l. c.words_within.ensures c.if-words_within.true (e / 64) (omega arith))
 
 pub loop-e-init : goal.loop-e-init
 loop-e-init c = rest_first _ _

