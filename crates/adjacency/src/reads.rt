@@ -18,8 +18,9 @@ pub fn edges<'a>(store: &Store<'a>, direction: TraversalDirection, node: u32) ->
     requires node_lt_bound { node < store.now.counts.nodes.bound }
     ensures { result ≡ list_of direction (lists (words store.now)) node }
 {
+    let axis = store.axis(direction);
     walk::edges(
-        store.axis(direction),
+        axis,
         store.lows.len(),
         store.nodes.len(),
         store.counts,

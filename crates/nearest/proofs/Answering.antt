@@ -1,7 +1,7 @@
 -- The nearest chain whole: each way out of it is what the call's definition says.
 use Rattle.std.specs.Option.{ok_or}
-use Rattle.std.specs.Prelude.{ℕ, zero, suc, ◌+◌, ◌*◌, ◌-◌, ◌≤◌, ◌<◌, ◌≡◌, refl, List, [], ◌++◌, length, get_or, drop, replicate, Option, None, Some, Result, Err}
-use Rattle.plain.specs.Library.{sym, ap, ◌∙◌, subst, ⊎_elim, some, length-drop, length-replicate, length-append, get_or-append, ext_get_or, arith}
+use Rattle.std.specs.Prelude.{ℕ, suc, ◌*◌, ◌≤◌, ◌<◌, ◌≡◌, refl, List, [], ◌++◌, length, get_or, drop, replicate, Option, None, Some, Result, Err}
+use Rattle.plain.specs.Library.{sym, ap, ◌∙◌, subst, some, length-replicate, arith}
 use Rattle.plain.specs.declared.TraversalDirection.TheVariants.{Outgoing, Incoming}
 use Rattle.plain.specs.declared.Answer.{Answer}
 use Rattle.plain.specs.declared.refusals.Refusal.{Refusal}

@@ -1,6 +1,6 @@
 -- One lot looked at and one lot's in-list gone through: what the loop keeps.
 use Rattle.std.specs.Prelude.{ℕ, ◌+◌, ◌≡◌, refl, Bool, true, cond, List, [], ◌∷◌, ◌++◌, length, get_or, set, eqb}
-use Rattle.plain.specs.Library.{sym, ap, ◌∙◌, subst, length-set, arith, eq-eqb, ne_eqb}
+use Rattle.plain.specs.Library.{sym, ap, ◌∙◌, subst, length-set, eq-eqb, ne_eqb}
 use Rattle.plain.specs.Lists.{member}
 use Rattle.plain.proofs.Laws.Booleans.{by_test}
 use Rattle.plain.proofs.Laws.ListLaws.{member_first, member_later}

@@ -1,6 +1,6 @@
 -- The way forward: the loop that writes the way.
 use Rattle.std.specs.Option.{IsSome}
-use Rattle.std.specs.Prelude.{ℕ, suc, ◌+◌, ◌-◌, ◌≤◌, ◌<◌, ◌≡◌, refl, true, List, [], ◌∷◌, ◌++◌, length, get_or, set, drop, eqb, Option, None, Some, unwrap_or}
+use Rattle.std.specs.Prelude.{ℕ, suc, ◌+◌, ◌-◌, ◌≤◌, ◌<◌, ◌≡◌, refl, true, List, [], ◌∷◌, ◌++◌, length, set, drop, eqb, Option, None, Some, unwrap_or}
 use Rattle.plain.specs.Library.{sym, ap, ap₂, ◌∙◌, subst, append-nil, length-append, length-set, arith}
 use lib.Seq.{get_or-take}
 use Rattle.plain.specs.declared.TraversalDirection.TheVariants.{Outgoing, Incoming}

@@ -1,5 +1,5 @@
 -- The lists of a checked store are a network that the search goes through: what the search and the way forward need of it.
-use Rattle.std.specs.Prelude.{ℕ, zero, suc, ◌≤◌, ◌<◌, ◌≡◌, refl, Bool, true, false, List, ◌∷◌, map, length, get_or, eqb}
+use Rattle.std.specs.Prelude.{ℕ, zero, suc, ◌≤◌, ◌<◌, ◌≡◌, refl, true, false, List, ◌∷◌, map, length, get_or, eqb}
 use Rattle.plain.specs.Library.{sym, ap, ap₂, ◌∙◌, subst, Option, arith, eqb-true, eq-eqb}
 use Rattle.plain.specs.declared.TraversalDirection.{TraversalDirection}
 use Rattle.plain.specs.declared.TraversalDirection.TheVariants.{Outgoing, Incoming}
@@ -12,7 +12,7 @@ use Rattle.plain.proofs.Laws.Operating.{incident, node_below, edge_below}
 use Rattle.shape.specs.Columns.{end_at}
 use Rattle.shape.specs.Shape.{Words, node_capacity, edge_capacity, axis_words, lists}
 use Rattle.shape.specs.Checked.{Checked}
-use Rattle.shape.proofs.Laws.Reading.{plain_node_bound, plain_edge_bound, plain_node_flags, plain_end}
+use Rattle.shape.proofs.Laws.Reading.{plain_node_bound, plain_edge_bound, plain_end}
 use Rattle.nearest.specs.Chains.{first_candidate, or_else, chains, nearest_from, nearest}
 use Rattle.nearest.specs.Laws.Chains.{Within}
 use Rattle.nearest.specs.Search.{Consistent}

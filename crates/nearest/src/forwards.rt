@@ -31,14 +31,7 @@ fn nearer_lot(store: &Store, lot: u32, work: &[u32], word: u32) -> Option<u32>
 }
 
 // Writes the way forward from a lot to the start of `chain`: `left` edges, each the first of its out-list that leads one nearer.
-pub fn write_way(
-    store: &Store,
-    work: &[u32],
-    goal: u32,
-    left: usize,
-    from: u32,
-    chain: &mut [u32],
-)
+pub fn write_way(store: &Store, work: &[u32], goal: u32, left: usize, from: u32, chain: &mut [u32])
     requires { Forward (words store.now) work.now goal left from chain.old }
     ensures { chain.new ≡ written (way_in (words store.now) work.now left from) chain.old }
 {

@@ -32,7 +32,13 @@ fn check_ask(store: &Store, first: u32, second: u32, room: usize) -> Result<(), 
 }
 
 // The search, and the way forward where there is one and room for it; the borrowed words are left as they come. Internal: nothing is refused before the search.
-fn find_chain(store: &Store, first: u32, second: u32, work: &mut [u32], chain: &mut [u32]) -> Result<usize, Refusal>
+fn find_chain(
+    store: &Store,
+    first: u32,
+    second: u32,
+    work: &mut [u32],
+    chain: &mut [u32],
+) -> Result<usize, Refusal>
     requires { Asked (words store.now) first second work.old }
     ensures { Found (words store.now) first second work.old chain.old (answer_of result) work.new chain.new }
 {
@@ -45,7 +51,13 @@ fn find_chain(store: &Store, first: u32, second: u32, work: &mut [u32], chain: &
 }
 
 // The nearest chain from one live lot to another, and the borrowed words clear. Internal: nothing is refused before the search.
-fn nearest_chain(store: &Store, first: u32, second: u32, work: &mut [u32], chain: &mut [u32]) -> Result<usize, Refusal>
+fn nearest_chain(
+    store: &Store,
+    first: u32,
+    second: u32,
+    work: &mut [u32],
+    chain: &mut [u32],
+) -> Result<usize, Refusal>
     requires { Asked (words store.now) first second work.old }
     ensures { Answered (words store.now) first second work.old chain.old (answer_of result) work.new chain.new }
 {
@@ -56,7 +68,13 @@ fn nearest_chain(store: &Store, first: u32, second: u32, work: &mut [u32], chain
 
 // The nearest chain from lot `first` to lot `second` as edge slots into `chain`; the value is its length. 1, first 5, 6, second 5, 6, 2 for `work`, 14, 2 for `chain`.
 // The first words of `work`, twice the lot capacity, are all zero after 0, 14 and the last 2, whatever they were; other refusals write nothing.
-pub fn nearest(store: &Store, first: u32, second: u32, work: &mut [u32], chain: &mut [u32]) -> Result<usize, Refusal>
+pub fn nearest(
+    store: &Store,
+    first: u32,
+    second: u32,
+    work: &mut [u32],
+    chain: &mut [u32],
+) -> Result<usize, Refusal>
     ensures { NearestOf (words store.now) first second work.old chain.old (answer_of result) work.new chain.new }
 {
     check_ask(store, first, second, work.len())?;

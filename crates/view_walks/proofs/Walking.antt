@@ -1,6 +1,6 @@
 -- The reads of a node's list, way out by way out: what is refused, what is answered, and what is written.
 -- ---- a node at or above the bound, and one below it
-use Rattle.std.specs.Prelude.{ℕ, ◌≤◌, ◌<◌, ◌≡◌, refl, Result, Ok, Err, List, [], map, length}
+use Rattle.std.specs.Prelude.{ℕ, ◌≤◌, ◌<◌, ◌≡◌, refl, true, false, Ok, Err, List, [], map, length, get_or}
 use Rattle.plain.specs.Library.{sym, ap, ◌∙◌, arith, length-map}
 use Rattle.plain.specs.declared.TraversalDirection.{TraversalDirection}
 use Rattle.plain.specs.declared.Sums.{Sums}
@@ -10,17 +10,20 @@ use Rattle.plain.specs.declared.refusals.Refusal.{Refusal}
 use Rattle.plain.specs.declared.refusals.Refusal.TheVariants.{TooShort}
 use Rattle.plain.specs.Answers.{answer_of, sums_total_of}
 use Rattle.plain.specs.Numbers.{NONE}
-use Rattle.plain.specs.Lists.{written}
+use Rattle.plain.specs.Lists.{member, written}
 use Rattle.plain.specs.Plain.{end_of, opposite}
 use Rattle.plain.specs.Reads.{Reply, answered, no_total, listing, walk, neighbors, degree, total}
 use Rattle.plain.specs.Refusals.{rule_number}
 use Rattle.plain.proofs.Laws.CallCases.{walk_absent, walk_there, neighbors_absent, neighbors_there, degree_absent, degree_there, total_absent, total_there}
 use Rattle.plain.proofs.Laws.ListLaws.{map_same}
-use Rattle.shape.specs.Columns.{end_at}
-use Rattle.shape.specs.Shape.{Words, edge_capacity, axis_words, lists}
+use Rattle.shape.specs.Shape.{Words, node_live, axis_words, lists}
 use Rattle.shape.specs.Checked.{Checked}
+use Rattle.shape.proofs.Laws.Reading.{plain_end}
 use Rattle.shape.proofs.Laws.Slots.{nodes_told, node_bound_of, absent_slot}
+use Rattle.cursor.specs.Cursor.{word, Within}
 use Rattle.adjacency.specs.Reads.{sums_in}
+use Rattle.adjacency.specs.Laws.Walk.{walk_below as edge_below}
+use Rattle.adjacency.specs.Laws.StoreWalks.{checked_walkable, list_is_walk}
 use Rattle.view.specs.Calls.{Answered, Totalled, Replied}
 use Rattle.view.specs.Laws.Calls.{answer_refuses, answer_done, total_refuses, total_done, reply_refuses, reply_absent, list_short, list_done}
 use Rattle.view_walks.specs.Walks.{list_in, far_ends_in, Placed, no_store, past, there, Counted, refused, short, fits}
@@ -60,7 +63,7 @@ far_ends_long : (w : Words) (d : TraversalDirection) (x : ℕ) → length (list_
 far_ends_long w d x = sym (length-map (list_in d w x) (end_of (opposite d) (lists w)))
 
 -- a broken rule is not number 0
-no_zero : (rule : Rule) → rule_number rule ≡ 0 → ⊥
+pub no_zero : (rule : Rule) → rule_number rule ≡ 0 → ⊥
 no_zero Sizes q = omega arith
 no_zero Live q = omega arith
 no_zero Ends q = omega arith
@@ -95,9 +98,8 @@ module _ {w : Words} {x : ℕ} where
     total_done_at d (there j b) is = total_done j refl (total_below w d x b is)
 
     -- a list beside the room
-    pub count_short : {d : TraversalDirection} {room n : ℕ} → Placed w x (Ok done) → n ≡ length (list_in d w x) → room < n → {answer : Result ℕ Refusal}
-        → answer ≡ Err (TooShort n) → Counted w d x room answer
-    count_short (there j b) size l is = rw is (short j b size l)
+    pub count_short : {d : TraversalDirection} {room n : ℕ} → Placed w x (Ok done) → n ≡ length (list_in d w x) → room < n → Counted w d x room (Err (TooShort n))
+    count_short (there j b) size l = short j b size l
 
     pub count_fits : {d : TraversalDirection} {room n : ℕ} → Placed w x (Ok done) → n ≡ length (list_in d w x) → n ≤ room → Counted w d x room (Ok n)
     count_fits (there j b) size l = fits j b size l
@@ -113,6 +115,21 @@ module _ {w : Words} {d : TraversalDirection} {x room n : ℕ} where
 
   pub fits_room : Counted w d x room (Ok n) → length (list_in d w x) ≤ room
   fits_room (fits j b size l) = omega (arith, size)
+
+  -- each of its edges has an end in the other direction, which is that of the plain lists
+  module _ (c : Counted w d x room (Ok n)) where
+    list_below : (e : ℕ) → member e (list_in d w x) ≡ true → e < w.counts.edges.bound
+    list_below e m =
+        edge_below (checked_walkable (fits_checked c) d x (fits_below c)) (get_or (node_live w) x false) e (rw (list_is_walk w d x (fits_below c)) at m)
+
+    pub far_within : Within (axis_words (opposite d) w) (list_in d w x)
+    far_within e m =
+        let k = fits_checked c in
+        omega (arith, list_below e m, (k.axis (opposite d)).sized.room, k.edges.bounded.bound_within)
+
+    pub far_ends_are : map (word (axis_words (opposite d) w)) (list_in d w x) ≡ far_ends_in d w x
+    far_ends_are =
+        sym (map_same (end_of (opposite d) (lists w)) (word (axis_words (opposite d) w)) (list_in d w x) (λ e m. plain_end w (opposite d) e (list_below e m)))
 
 -- a read of a node that is 5 above the bound and lists as many words below it as the node's list has entries
 module _ {w : Words} {d : TraversalDirection} {x : ℕ} {read : Words → ℕ → Reply} (list : List ℕ)

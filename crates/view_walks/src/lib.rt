@@ -30,7 +30,12 @@ fn check_node(store: &Store, node: u32) -> Result<(), Refusal>
 }
 
 // How many entries a node's list has, where `room` words are lent for them: 1, 5, 2. Internal: it writes nothing.
-fn count_list(store: &Store, direction: TraversalDirection, node: u32, room: usize) -> Result<usize, Refusal>
+fn count_list(
+    store: &Store,
+    direction: TraversalDirection,
+    node: u32,
+    room: usize,
+) -> Result<usize, Refusal>
     ensures { Counted (words store.now) direction node room result }
 {
     check_node(store, node)?;
@@ -58,7 +63,12 @@ pub fn total(store: &Store, direction: TraversalDirection, node: u32) -> Result<
 }
 
 // A node's list into `slots`.
-pub fn walk(store: &Store, direction: TraversalDirection, node: u32, slots: &mut [u32]) -> Result<usize, Refusal>
+pub fn walk(
+    store: &Store,
+    direction: TraversalDirection,
+    node: u32,
+    slots: &mut [u32],
+) -> Result<usize, Refusal>
     ensures { Replied (words store.now) (λ w room. walk_of direction (lists w) node room) slots.old (answer_of result) slots.new }
 {
     let entries = count_list(store, direction, node, slots.len())?;
@@ -67,7 +77,12 @@ pub fn walk(store: &Store, direction: TraversalDirection, node: u32, slots: &mut
 }
 
 // The far ends of a node's list into `slots`: successors, or predecessors.
-pub fn neighbors(store: &Store, direction: TraversalDirection, node: u32, slots: &mut [u32]) -> Result<usize, Refusal>
+pub fn neighbors(
+    store: &Store,
+    direction: TraversalDirection,
+    node: u32,
+    slots: &mut [u32],
+) -> Result<usize, Refusal>
     ensures { Replied (words store.now) (λ w room. neighbors_of direction (lists w) node room) slots.old (answer_of result) slots.new }
 {
     let entries = count_list(store, direction, node, slots.len())?;

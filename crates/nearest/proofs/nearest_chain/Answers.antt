@@ -1,5 +1,4 @@
 -- `nearest::nearest_chain` meets its contract: what is found, and then the borrowed words cleared.
-use Rattle.std.specs.Prelude.{◌*◌, length}
 use Rattle.plain.specs.Library.{arith}
 use Rattle.nearest.proofs.Stores.{few}
 use Rattle.nearest.proofs.Seeding.{filled}

@@ -1,5 +1,5 @@
 -- `nearest::backwards::expand_lot` meets its contract. The loop's invariant is `Expanding`.
-use Rattle.std.specs.Prelude.{◌+◌, length, get_or}
+use Rattle.std.specs.Prelude.{length}
 use Rattle.plain.specs.declared.TraversalDirection.TheVariants.{Incoming}
 use Rattle.plain.specs.Plain.{list_of}
 use Rattle.shape.specs.Columns.{end_at}

@@ -1,6 +1,6 @@
 -- `nearest::backwards::search` meets its contract: the words cleared, the goal put into the queue, the queue drained.
-use Rattle.std.specs.Prelude.{◌≤◌, length}
-use Rattle.plain.specs.Library.{sym, ap, ◌∙◌, arith}
+use Rattle.std.specs.Prelude.{length}
+use Rattle.plain.specs.Library.{arith}
 use Rattle.nearest.proofs.Stores.{lot_within}
 use Rattle.nearest.proofs.Seeding.{filled, filled_seeds, seed_drains, sought}
 use Rattle.nearest.proofs.backwards.search.Goals as goal
