@@ -3,6 +3,7 @@
 use Rattle.std.specs.Prelude.{ℕ, ◌+◌, ◌*◌, ◌^◌, ◌≤◌, ◌<◌, ◌≡◌, List, ◌++◌, length, take, drop}
 use Rattle.plain.specs.Bits.{bits_of, bits}
 use Rattle.bits.specs.declared.pen.Pen.{Pen}
+use Rattle.bits.specs.declared.pen.Writer.{Writer}
 
 -- the pen before the first bit
 abbrev pub fresh : Pen
@@ -40,3 +41,8 @@ pub record Penned (s : List ℕ) (p : Pen) (f t : List ℕ) (q : Pen) : Type 0 w
   -- bytes from the pen on are as before
   pub rest : drop (8 * q.at) (bits t) ≡ drop (8 * q.at) (bits s)
   pub ready : Ready q
+
+-- bits were put by a writer, into the slice that was lent
+pub record Written (a : Writer) (f : List ℕ) (b : Writer) : Type 0 where
+  pub same : b.bytes.ghost_name ≡ a.bytes.ghost_name
+  pub penned : Penned a.bytes.now a.pen f b.bytes.now b.pen

@@ -31,11 +31,12 @@ use Rattle.relocate.specs.Laws.Stores.{checked_end}
 use Rattle.survivors.specs.Working.{both_walks}
 use Rattle.survivors.proofs.Laws.Working.{both_length, both_live, both_renumbered}
 use Rattle.bits.specs.declared.pen.Pen.{Pen}
+use Rattle.bits.specs.declared.pen.Writer.{Writer}
 use Rattle.bits.specs.Wrote.{Wrote}
-use Rattle.bits.specs.Penned.{Ready, Penned, fresh, reach, waiting}
+use Rattle.bits.specs.Penned.{Ready, Penned, Written, fresh, reach, waiting}
 use Rattle.bits.specs.Laws.Wrote.{wrote_pack}
-use Rattle.bits.specs.Laws.Penned.{penned_then, penned_wrote}
-use Rattle.image_write.specs.Writing.{PiecesFit, NodesFit, EdgesFit, SlotsFit, ListsFit, ImageFits, live_payloads, record_at, live_records, count_bits, slot_bits}
+use Rattle.bits.specs.Laws.Penned.{written_then, penned_wrote}
+use Rattle.image_write.specs.Writing.{PiecesFit, CountsFit, NodesFit, EdgesFit, SlotsFit, ListsFit, ImageFits, live_payloads, record_at, live_records, count_bits, slot_bits}
 
 -- ---- the survivors, in words
 
@@ -111,46 +112,46 @@ ranks_room long few size = record { long = long; few = few; fits = omega arith }
 -- ---- counts, payloads and records
 
 -- the nodes start behind the counts
-counts_end : {s t : List ℕ} {q : Pen} (nodes edges : ℕ) → Penned s fresh (count_bits nodes edges) t q → reach q ≡ nodes_start
-counts_end nodes edges a = let l : length (count_bits nodes edges) ≡ nodes_start = simp (length-append, length_bits_of) in omega (arith, a.next)
+counts_end : {a b : Writer} (nodes edges : ℕ) → a.pen ≡ fresh → Written a (count_bits nodes edges) b → reach b.pen ≡ nodes_start
+counts_end nodes edges begun k =
+    let l : length (count_bits nodes edges) ≡ nodes_start = simp (length-append, length_bits_of) in omega (arith, k.penned.next, ap reach begun)
 
-module _ {w : Words} {width : ℕ} {s : List ℕ} (h : SlotsFit w width s) where
+module _ {a : Writer} {width : ℕ} {w : Words} (h : SlotsFit a width w) where
   pub node_words : w.counts.nodes.bound ≤ 64 * length w.live_nodes
   node_words = let k = h.checked.nodes in omega (arith, k.live_long, k.bounded.bound_within)
 
   pub node_slots : w.counts.nodes.bound ≤ LIMIT
   node_slots = let k = h.checked in omega (arith, k.nodes.bounded.bound_within, (k.axis Outgoing).sized.nodes_within)
 
-  pub counts_fit : (4 ≤ length s) × ((w.counts.nodes.live ≤ LIMIT) × (w.counts.edges.live ≤ LIMIT))
-  counts_fit = (omega (arith, h.room), (nodes_limit h.checked, edges_limit h.checked))
+  pub counts_fit : CountsFit a w.counts.nodes.live w.counts.edges.live
+  counts_fit = record { begun = h.begun; room = omega (arith, h.room); few_nodes = nodes_limit h.checked; few_edges = edges_limit h.checked }
 
   -- after the counts the nodes have room
-  pub nodes_fit : {t : List ℕ} {q : Pen} → Penned s fresh (count_bits w.counts.nodes.live w.counts.edges.live) t q
-      → NodesFit t q w.nodes w.live_nodes w.counts.nodes.bound
-  nodes_fit {q = q} a =
+  pub nodes_fit : {b : Writer} → Written a (count_bits w.counts.nodes.live w.counts.edges.live) b → NodesFit b w.nodes w.live_nodes w.counts.nodes.bound
+  nodes_fit {b} counted =
       let k = h.checked in
-      let place : reach q ≡ nodes_start = counts_end w.counts.nodes.live w.counts.edges.live a in
+      let place : reach b.pen ≡ nodes_start = counts_end w.counts.nodes.live w.counts.edges.live h.begun counted in
       let right = k.nodes.live.live_right in
       record {
         long = node_words;
         there = k.nodes.bounded.bound_within;
-        room = record { ready = a.ready; within = omega (arith, h.room, a.long) };
+        room = record { ready = counted.penned.ready; within = omega (arith, h.room, counted.penned.long) };
       }
 
   -- after the nodes the edges have room
-  pub edges_fit : {t u : List ℕ} {q r : Pen} → Penned s fresh (count_bits w.counts.nodes.live w.counts.edges.live) t q
-      → Penned t q (row node_payload_width (live_payloads w.nodes w.live_nodes w.counts.nodes.bound)) u r
-      → EdgesFit u r width w.live_nodes w.counts.nodes.bound w
-  edges_fit {u = u} {q = q} {r} counted a =
+  pub edges_fit : {b c : Writer} → Written a (count_bits w.counts.nodes.live w.counts.edges.live) b
+      → Written b (row node_payload_width (live_payloads w.nodes w.live_nodes w.counts.nodes.bound)) c
+      → EdgesFit c width w.live_nodes w.counts.nodes.bound w
+  edges_fit {b} {c} counted paid =
       let k = h.checked in
       let n = w.counts.nodes.live in
       let m = w.counts.edges.live in
-      let first : reach q ≡ nodes_start = counts_end n m counted in
-      let place : reach r ≡ edges_start n = a.next
+      let first : reach b.pen ≡ nodes_start = counts_end n m h.begun counted in
+      let place : reach c.pen ≡ edges_start n = paid.penned.next
       ∙ ap₂ (λ (x y : ℕ). x + y) first (length_row node_payload_width (live_payloads w.nodes w.live_nodes w.counts.nodes.bound)
       ∙ ap (λ (z : ℕ). node_payload_width * z) (length-map (live_slots (node_live w)) (λ x. get_or w.nodes x 0) ∙ length_live_slots (node_live w) ∙ sym k.nodes.live.live_right)) in
-      let room : PiecesFit u r (record_width (least_width n)) m =
-      record { ready = a.ready; within = omega (arith, h.room, a.long, counted.long) } in
+      let room : PiecesFit c (record_width (least_width n)) m =
+      record { ready = paid.penned.ready; within = omega (arith, h.room, paid.penned.long, counted.penned.long) } in
       record {
         ranks_fit = record {
           narrow = rw h.holds (width_few n (nodes_limit k));
@@ -167,101 +168,105 @@ module _ {w : Words} {width : ℕ} {s : List ℕ} (h : SlotsFit w width s) where
       }
 
   -- the three parts follow each other
-  pub penned_slots : {t u v : List ℕ} {q r z : Pen} → Penned s fresh (count_bits w.counts.nodes.live w.counts.edges.live) t q
-      → Penned t q (row node_payload_width (live_payloads w.nodes w.live_nodes w.counts.nodes.bound)) u r
-      → Penned u r (edge_bits width
-      (live_records w.live_nodes w.counts.nodes.bound w)) v z
-      → Penned s fresh (slot_bits width (survivors (lists w))) v z
-  penned_slots a b c = let k = h.checked in rw (many_nodes k, many_edges k, left_nodes k, left_edges k) (penned_then a (penned_then b c))
+  pub slots_written : {b c d : Writer} → Written a (count_bits w.counts.nodes.live w.counts.edges.live) b
+      → Written b (row node_payload_width (live_payloads w.nodes w.live_nodes w.counts.nodes.bound)) c
+      → Written c (edge_bits width (live_records w.live_nodes w.counts.nodes.bound w)) d
+      → Written a (slot_bits width (survivors (lists w))) d
+  slots_written x y z = let k = h.checked in rw (many_nodes k, many_edges k, left_nodes k, left_edges k) (written_then x (written_then y z))
 
 -- ---- the whole
 
+-- a writer with nothing written
+pub record Begun (s : List ℕ) (a : Writer) : Type 0 where
+  pub lent : a.bytes.now ≡ s
+  pub pen : a.pen ≡ fresh
+
 module _ {w : Words} {work s : List ℕ} (h : ImageFits w work s) where
-  module _ {width entry-width : ℕ} (node-holds : width ≡ least_width w.counts.nodes.live) (edge-holds : entry-width ≡ least_width w.counts.edges.live) where
-    abbrev here : Survivors
-    here = survivors (lists w)
+  abbrev here : Survivors
+  here = survivors (lists w)
 
-    abbrev bits : List ℕ
-    bits = image_bits (least_width (length here.nodes)) (least_width (length here.edges)) here
+  abbrev bits : List ℕ
+  bits = image_bits (least_width (length here.nodes)) (least_width (length here.edges)) here
 
-    pub slots_fit : SlotsFit w width s
-    slots_fit = record { checked = h.checked; holds = node-holds; room = omega (arith, h.room) }
+  bits_length : length bits ≡ image_size w.counts.nodes.live w.counts.edges.live
+  bits_length =
+      let k = h.checked in
+      let sound = left_sound k in
+      length_image_bits (least_width (length here.nodes)) (least_width (length here.edges)) here
+      (fitted_joined sound.outs ∙ length-map here.edges source_of) (fitted_joined sound.ins ∙ length-map here.edges target_of)
+      ∙ ap₂ image_size (many_nodes k) (many_edges k)
+
+  -- the joined lists, by ranks, are those of the survivors
+  lists_bits : (width : ℕ) → row width (map (rank (edge_live w)) (take (2 * w.counts.edges.live) work)) ≡ row width (joined here.outs) ++ row width (joined here.ins)
+  unfolding adjacency
+  lists_bits width =
+      ap (λ (entries : List ℕ). row width (map (rank (edge_live w)) entries)) h.listed
+      ∙ ap (row width) (both_renumbered h.checked)
+      ∙ row_append width (joined here.outs) (joined here.ins)
+
+  module _ {a : Writer} (begun : Begun s a) {width : ℕ} (node-holds : width ≡ least_width w.counts.nodes.live) where
+    pub slots_fit : SlotsFit a width w
+    slots_fit = record { begun = begun.pen; checked = h.checked; holds = node-holds; room = omega (arith, h.room, ap length begun.lent) }
 
     slots_length : length (slot_bits width here) ≡ outs_start w.counts.nodes.live w.counts.edges.live
     slots_length =
         simp (length-append, length_bits_of, length_row, length_edge_bits)
         (rw (many_nodes h.checked, many_edges h.checked, node-holds) (omega arith))
 
-    -- after the slots the lists have room, and the width holds every entry
-    pub lists_fit : {t : List ℕ} {q : Pen} → Penned s fresh (slot_bits width here) t q → ListsFit t q entry-width w (take (2 * w.counts.edges.live) work)
-    lists_fit {t} {q = q} a =
-        let k = h.checked in
-        let n = w.counts.nodes.live in
-        let m = w.counts.edges.live in
-        let place : reach q ≡ outs_start n m = a.next ∙ zero-add (length (slot_bits width here)) ∙ slots_length in
-        let few_edges = edges_limit k in
-        let size : length (take (2 * m) work) ≡ 2 * m = ap length h.listed ∙ both_length k in
-        let room : PiecesFit t q (least_width m) (2 * m) = record { ready = a.ready; within = omega (arith, h.room, a.long) } in
-        record {
-          narrow = rw edge-holds (width_few m few_edges);
-          long = omega (arith, k.edges.live_long, k.edges.bounded.bound_within);
-          few = omega (arith, k.edges.bounded.bound_within, (k.axis Outgoing).sized.edges_within);
-          right = k.edges.live.live_right;
-          wide = rw edge-holds (omega (arith, width_holds m (omega arith), k.edges.live.live_right));
-          entries_live = λ i l. subst (λ (entries : List ℕ). get_or (edge_live w) (get_or entries i 0) false ≡ true) (sym h.listed)
-              (both_live k (get_or (both_walks w) i 0) (member_at (both_walks w) i 0 (omega (arith, size, both_length k))));
-          room = rw (edge-holds, size) room;
-        }
+    module _ {entry-width : ℕ} (edge-holds : entry-width ≡ least_width w.counts.edges.live) {b : Writer} (slotted : Written a (slot_bits width here) b) where
+      -- after the slots the lists have room, and the width holds every entry
+      pub lists_fit : ListsFit b entry-width w (take (2 * w.counts.edges.live) work)
+      lists_fit =
+          let k = h.checked in
+          let n = w.counts.nodes.live in
+          let m = w.counts.edges.live in
+          let place : reach b.pen ≡ outs_start n m =
+          slotted.penned.next ∙ ap (λ (p : Pen). reach p + length (slot_bits width here)) begun.pen ∙ zero-add (length (slot_bits width here)) ∙ slots_length in
+          let few_edges = edges_limit k in
+          let size : length (take (2 * m) work) ≡ 2 * m = ap length h.listed ∙ both_length k in
+          let room : PiecesFit b (least_width m) (2 * m) =
+          record { ready = slotted.penned.ready; within = omega (arith, h.room, slotted.penned.long, ap length begun.lent) } in
+          record {
+            narrow = rw edge-holds (width_few m few_edges);
+            long = omega (arith, k.edges.live_long, k.edges.bounded.bound_within);
+            few = omega (arith, k.edges.bounded.bound_within, (k.axis Outgoing).sized.edges_within);
+            right = k.edges.live.live_right;
+            wide = rw edge-holds (omega (arith, width_holds m (omega arith), k.edges.live.live_right));
+            entries_live = λ i l. subst (λ (entries : List ℕ). get_or (edge_live w) (get_or entries i 0) false ≡ true) (sym h.listed)
+                (both_live k (get_or (both_walks w) i 0) (member_at (both_walks w) i 0 (omega (arith, size, both_length k))));
+            room = rw (edge-holds, size) room;
+          }
 
-    -- the joined lists, by ranks, are those of the survivors
-    lists_bits : row entry-width (map (rank (edge_live w)) (take (2 * w.counts.edges.live) work)) ≡ row entry-width (joined here.outs) ++ row entry-width (joined here.ins)
-    unfolding adjacency
-    lists_bits =
-        ap (λ (entries : List ℕ). row entry-width (map (rank (edge_live w)) entries)) h.listed
-        ∙ ap (row entry-width) (both_renumbered h.checked)
-        ∙ row_append entry-width (joined here.outs) (joined here.ins)
+      module _ {c : Writer} (listed : Written b (row entry-width (map (rank (edge_live w)) (take (2 * w.counts.edges.live) work))) c) where
+        -- all bits are there
+        penned_all : Penned s fresh bits c.bytes.now c.pen
+        unfolding image_bits
+        penned_all =
+            let k = h.checked in
+            let narrow : width ≡ least_width (length here.nodes) = node-holds ∙ ap least_width (sym (many_nodes k)) in
+            let wide : entry-width ≡ least_width (length here.edges) = edge-holds ∙ ap least_width (sym (many_edges k)) in
+            let all = rw (begun.lent, begun.pen) at (written_then slotted listed).penned in
+            subst (λ (l : List ℕ). Penned s fresh l c.bytes.now c.pen)
+            (ap (λ (l : List ℕ). slot_bits width here ++ l) (lists_bits entry-width)
+            ∙ ap₂ (λ (x y : ℕ). slot_bits x here ++ (row y (joined here.outs) ++ row y (joined here.ins))) narrow wide ∙ simp append_assoc) all
 
-    -- all bits are there
-    penned_all : {t u : List ℕ} {q r : Pen} → Penned s fresh (slot_bits width here) t q
-        → Penned t q (row entry-width (map (rank (edge_live w)) (take (2 * w.counts.edges.live) work))) u r → Penned s fresh bits u r
-    unfolding image_bits
-    penned_all {u = u} {r = r} a b =
-        let k = h.checked in
-        let narrow : width ≡ least_width (length here.nodes) = node-holds ∙ ap least_width (sym (many_nodes k)) in
-        let wide : entry-width ≡ least_width (length here.edges) = edge-holds ∙ ap least_width (sym (many_edges k)) in
-        subst (λ (l : List ℕ). Penned s fresh l u r)
-        (ap (λ (l : List ℕ). slot_bits width here ++ l) lists_bits
-        ∙ ap₂ (λ (x y : ℕ). slot_bits x here ++ (row y (joined here.outs) ++ row y (joined here.ins))) narrow wide ∙ simp append_assoc)
-        (penned_then a b)
+        -- and what waits in the pen has room
+        pub end_fits : Ready c.pen × (reach c.pen ≤ 8 * length c.bytes.now)
+        end_fits =
+            let all = penned_all in
+            let size = image_size w.counts.nodes.live w.counts.edges.live in
+            let place : reach c.pen ≡ size = all.next ∙ zero-add (length bits) ∙ bits_length in
+            (all.ready, omega (arith, h.room, all.long))
 
-    bits_length : length bits ≡ image_size w.counts.nodes.live w.counts.edges.live
-    bits_length =
-        let k = h.checked in
-        let sound = left_sound k in
-        length_image_bits (least_width (length here.nodes)) (least_width (length here.edges)) here
-        (fitted_joined sound.outs ∙ length-map here.edges source_of) (fitted_joined sound.ins ∙ length-map here.edges target_of)
-        ∙ ap₂ image_size (many_nodes k) (many_edges k)
-
-    -- and what waits in the pen has room
-    pub end_fits : {t u : List ℕ} {q r : Pen} → Penned s fresh (slot_bits width here) t q
-        → Penned t q (row entry-width (map (rank (edge_live w)) (take (2 * w.counts.edges.live) work))) u r
-        → Ready r × (reach r ≤ 8 * length u)
-    end_fits {r = r} a b =
-        let all = penned_all a b in
-        let size = image_size w.counts.nodes.live w.counts.edges.live in
-        let place : reach r ≡ size = all.next ∙ zero-add (length bits) ∙ bits_length in
-        (all.ready, omega (arith, h.room, all.long))
-
-    -- the image is at the start, and the bytes past it are as before
-    pub wrote_image : {t u e : List ℕ} {q r : Pen} → Penned s fresh (slot_bits width here) t q
-        → Penned t q (row entry-width (map (rank (edge_live w)) (take (2 * w.counts.edges.live) work))) u r
-        → Wrote u (8 * r.at) (waiting r ++ bits_of (padding (reach r)) 0) e → Below 256 s → Below 256 e → e ≡ written (image here) s
-    unfolding image
-    wrote_image {r = r} a b d hs he =
-        let all = penned_all a b in
-        let place : reach r ≡ length bits = all.next ∙ zero-add (length bits) in
-        wrote_pack hs he (below_image_bits (least_width (length here.nodes)) (least_width (length here.edges)) here)
-        (rw place at (penned_wrote (bits_of (padding (reach r)) 0) all d))
+        -- the image is at the start, and the bytes past it are as before
+        pub wrote_image : {e : List ℕ} → Wrote c.bytes.now (8 * c.pen.at) (waiting c.pen ++ bits_of (padding (reach c.pen)) 0) e → Below 256 s → Below 256 e
+            → e ≡ written (image here) s
+        unfolding image
+        wrote_image d hs he =
+            let all = penned_all in
+            let place : reach c.pen ≡ length bits = all.next ∙ zero-add (length bits) in
+            wrote_pack hs he (below_image_bits (least_width (length here.nodes)) (least_width (length here.edges)) here)
+            (rw place at (penned_wrote (bits_of (padding (reach c.pen)) 0) all d))
 
 -- as many bytes as the counts say
 pub image_bytes_of : {w : Words} → Checked w → bytes_for (image_size w.counts.nodes.live w.counts.edges.live) ≡ length (image (survivors (lists w)))

@@ -11,13 +11,21 @@ use Rattle.liveness.specs.Flags.{live_flags}
 use Rattle.shape.specs.Shape.{Words, edge_live}
 use Rattle.shape.specs.Checked.{Checked}
 use Rattle.survivors.specs.Working.{both_walks}
-use Rattle.bits.specs.declared.pen.Pen.{Pen}
-use Rattle.bits.specs.Penned.{Ready, reach}
+use Rattle.bits.specs.declared.pen.Writer.{Writer}
+use Rattle.bits.specs.Penned.{Ready, fresh, reach}
 
--- n pieces of so many bits have room behind a pen
-pub record PiecesFit (s : List ℕ) (p : Pen) (step n : ℕ) : Type 0 where
-  pub ready : Ready p
-  pub within : reach p + step * n ≤ 8 * length s
+-- n pieces of so many bits have room behind the pen
+pub record PiecesFit (a : Writer) (step n : ℕ) : Type 0 where
+  pub ready : Ready a.pen
+  pub within : reach a.pen + step * n ≤ 8 * length a.bytes.now
+
+-- ---- the counts
+
+pub record CountsFit (a : Writer) (n m : ℕ) : Type 0 where
+  pub begun : a.pen ≡ fresh
+  pub room : 4 ≤ length a.bytes.now
+  pub few_nodes : n ≤ LIMIT
+  pub few_edges : m ≤ LIMIT
 
 -- "node count n and edge count m (16 bits each)"
 abbrev pub count_bits : ℕ → ℕ → List ℕ
@@ -29,10 +37,10 @@ count_bits n m = bits_of count_width n ++ bits_of count_width m
 abbrev pub live_payloads : List ℕ → List ℕ → ℕ → List ℕ
 live_payloads nodes live bound = map (λ x. get_or nodes x 0) (live_slots (live_flags live bound))
 
-pub record NodesFit (s : List ℕ) (p : Pen) (nodes live : List ℕ) (bound : ℕ) : Type 0 where
+pub record NodesFit (a : Writer) (nodes live : List ℕ) (bound : ℕ) : Type 0 where
   pub long : bound ≤ 64 * length live
   pub there : bound ≤ length nodes
-  pub room : PiecesFit s p node_payload_width (live_count (live_flags live bound))
+  pub room : PiecesFit a node_payload_width (live_count (live_flags live bound))
 
 -- ---- the live edges' records
 
@@ -45,11 +53,11 @@ abbrev pub written_record : DeclaredRecord → EdgeRecord
 written_record r = record { source = r.source; target = r.target; payload = r.payload }
 
 -- The ends of an edge, at width w, and a record's room. Both ends are put as one value.
-pub record RecordFits (s : List ℕ) (p : Pen) (w source target : ℕ) : Type 0 where
+pub record RecordFits (a : Writer) (w source target : ℕ) : Type 0 where
   pub narrow : w ≤ 16
   pub small_source : source < 2 ^ w
   pub small_target : target < 2 ^ w
-  pub room : PiecesFit s p (record_width w) 1
+  pub room : PiecesFit a (record_width w) 1
 
 -- the record of an edge, its ends by their ranks among live nodes
 abbrev pub ranked_record : List ℕ → ℕ → ℕ → ℕ → EdgePayload → EdgeRecord
@@ -62,11 +70,11 @@ pub record RanksFit (live : List ℕ) (slots : ℕ) (w : ℕ) : Type 0 where
   pub wide : live_count (live_flags live slots) ≤ 2 ^ w
 
 -- one live edge
-pub record EdgeFits (s : List ℕ) (p : Pen) (w : ℕ) (live : List ℕ) (slots source target : ℕ) : Type 0 where
+pub record EdgeFits (a : Writer) (w : ℕ) (live : List ℕ) (slots source target : ℕ) : Type 0 where
   pub ranks_fit : RanksFit live slots w
   pub source_live : get_or (live_flags live slots) source false ≡ true
   pub target_live : get_or (live_flags live slots) target false ≡ true
-  pub room : PiecesFit s p (record_width w) 1
+  pub room : PiecesFit a (record_width w) 1
 
 -- an edge slot of a store
 pub record EdgeThere (v : Words) (e : ℕ) : Type 0 where
@@ -81,7 +89,7 @@ edge_of v e =
     record { source = get_or v.outgoing e 0; target = get_or v.incoming e 0; payload = record { low = get_or v.lows e 0; high = get_or v.highs e 0 } }
 
 -- all live edges of a store
-pub record EdgesFit (s : List ℕ) (p : Pen) (w : ℕ) (live : List ℕ) (slots : ℕ) (v : Words) : Type 0 where
+pub record EdgesFit (a : Writer) (w : ℕ) (live : List ℕ) (slots : ℕ) (v : Words) : Type 0 where
   pub ranks_fit : RanksFit live slots w
   pub long : v.counts.edges.bound ≤ 64 * length v.live_edges
   pub sources_there : v.counts.edges.bound ≤ length v.outgoing
@@ -90,7 +98,7 @@ pub record EdgesFit (s : List ℕ) (p : Pen) (w : ℕ) (live : List ℕ) (slots 
   pub highs_there : v.counts.edges.bound ≤ length v.highs
   pub sources_live : (e : ℕ) → get_or (edge_live v) e false ≡ true → get_or (live_flags live slots) (get_or v.outgoing e 0) false ≡ true
   pub targets_live : (e : ℕ) → get_or (edge_live v) e false ≡ true → get_or (live_flags live slots) (get_or v.incoming e 0) false ≡ true
-  pub room : PiecesFit s p (record_width w) (live_count (edge_live v))
+  pub room : PiecesFit a (record_width w) (live_count (edge_live v))
 
 -- the record of edge e, and those of all live edges in slot order
 abbrev pub record_at : List ℕ → ℕ → Words → ℕ → EdgeRecord
@@ -107,28 +115,29 @@ abbrev pub slot_bits : ℕ → Survivors → List ℕ
 slot_bits w s = count_bits (length s.nodes) (length s.edges) ++ (row node_payload_width s.nodes ++ edge_bits w s.edges)
 
 -- a width that holds every live node's number, and room up to the lists
-pub record SlotsFit (w : Words) (width : ℕ) (s : List ℕ) : Type 0 where
+pub record SlotsFit (a : Writer) (width : ℕ) (w : Words) : Type 0 where
+  pub begun : a.pen ≡ fresh
   pub checked : Checked w
   pub holds : width ≡ least_width w.counts.nodes.live
-  pub room : outs_start w.counts.nodes.live w.counts.edges.live ≤ 8 * length s
+  pub room : outs_start w.counts.nodes.live w.counts.edges.live ≤ 8 * length a.bytes.now
 
 -- ---- the lists' entries
 
 -- entries that are live edges, written by their ranks
-pub record EntriesFit (s : List ℕ) (p : Pen) (w : ℕ) (live : List ℕ) (slots : ℕ) (entries : List ℕ) : Type 0 where
+pub record EntriesFit (a : Writer) (w : ℕ) (live : List ℕ) (slots : ℕ) (entries : List ℕ) : Type 0 where
   pub ranks_fit : RanksFit live slots w
   pub entries_live : (i : ℕ) → i < length entries → get_or (live_flags live slots) (get_or entries i 0) false ≡ true
-  pub room : PiecesFit s p w (length entries)
+  pub room : PiecesFit a w (length entries)
 
 -- the same of a store's live edges, before the ranks are there
-pub record ListsFit (s : List ℕ) (p : Pen) (width : ℕ) (v : Words) (entries : List ℕ) : Type 0 where
+pub record ListsFit (a : Writer) (width : ℕ) (v : Words) (entries : List ℕ) : Type 0 where
   pub narrow : width ≤ 16
   pub long : v.counts.edges.bound ≤ 64 * length v.live_edges
   pub few : v.counts.edges.bound ≤ LIMIT
   pub right : v.counts.edges.live ≡ live_count (edge_live v)
   pub wide : live_count (edge_live v) ≤ 2 ^ width
   pub entries_live : (i : ℕ) → i < length entries → get_or (edge_live v) (get_or entries i 0) false ≡ true
-  pub room : PiecesFit s p width (length entries)
+  pub room : PiecesFit a width (length entries)
 
 -- ---- the whole
 

@@ -16,9 +16,10 @@ ghost use Rattle.plain.specs.Image.{edge_bits, image, node_payload_width};
 ghost use Rattle.liveness.specs.Flags.{live_flags};
 ghost use Rattle.shape.specs.Shape.{edge_live, lists};
 ghost use Rattle.shape.specs.Stores.{words};
-ghost use Rattle.bits.specs.Penned.{Penned, fresh};
+ghost use Rattle.bits.specs.Penned.{Written};
 ghost use Rattle.image_write.specs.Calls.{WriteOf};
 ghost use Rattle.image_write.specs.Writing.{
+  CountsFit,
   NodesFit,
   RecordFits,
   EdgeFits,
@@ -39,7 +40,7 @@ ghost use Rattle.image_write.specs.Writing.{
 };
 
 use crate::ranking::Numbering;
-use bits::pen::{Pen, finish, put};
+use bits::pen::Writer;
 use bits::{least_width, raise};
 use image_check::places::{COUNT_WIDTH, NODE_PAYLOAD_WIDTH, WEIGHT_WIDTH, image_bytes};
 use liveness::live_slots::LiveSlots;
@@ -53,55 +54,48 @@ use validate::judging::check_store;
 const LIVE_WORDS: usize = 512;
 
 // Writes the two counts, the first bits of an image, as one value. Internal.
-fn write_counts(bytes: &mut [u8], nodes: u32, edges: u32) -> Pen
-    requires { (4 ≤ length bytes.old) × ((nodes ≤ LIMIT) × (edges ≤ LIMIT)) }
-    ensures { Penned bytes.old fresh (count_bits nodes edges) bytes.new result }
+fn write_counts(out: &mut Writer, nodes: u32, edges: u32)
+    requires { CountsFit out.old nodes edges }
+    ensures { Written out.old (count_bits nodes edges) out.new }
 {
-    let pen = Pen {
-        at: 0,
-        pending: 0,
-        count: 0,
-    };
     let both = raise(nodes as u64, COUNT_WIDTH) + edges as u64;
-    put(bytes, pen, 2 * COUNT_WIDTH, both)
+    out.put(2 * COUNT_WIDTH, both);
 }
 
-// Writes the payloads of the live nodes in slot order, and answers the pen after them. Internal: they have room.
-fn write_nodes(bytes: &mut [u8], pen: Pen, nodes: &[u32], live: &[u64], bound: usize) -> Pen
-    requires { NodesFit bytes.old pen nodes.now live.now bound }
-    ensures { Penned bytes.old pen (row node_payload_width (live_payloads nodes.now live.now bound)) bytes.new result }
+// Writes the payloads of the live nodes in slot order. Internal: they have room.
+fn write_nodes(out: &mut Writer, nodes: &[u32], live: &[u64], bound: usize)
+    requires { NodesFit out.old nodes.now live.now bound }
+    ensures { Written out.old (row node_payload_width (live_payloads nodes.now live.now bound)) out.new }
 {
-    let mut at = pen;
     for node in LiveSlots::new(live, bound) {
-        at = put(bytes, at, NODE_PAYLOAD_WIDTH, nodes[node] as u64);
+        out.put(NODE_PAYLOAD_WIDTH, nodes[node] as u64);
     }
-    at
 }
 
 // Writes an edge's ends, in `width` bits each, and its payload: its low, then its high. Internal.
-fn write_record(bytes: &mut [u8], pen: Pen, width: u32, edge: EdgeRecord) -> Pen
-    requires { RecordFits bytes.old pen width edge.source edge.target }
-    ensures { Penned bytes.old pen (record_bits width (written_record edge)) bytes.new result }
+fn write_record(out: &mut Writer, width: u32, edge: EdgeRecord)
+    requires { RecordFits out.old width edge.source edge.target }
+    ensures { Written out.old (record_bits width (written_record edge)) out.new }
 {
     let ends = raise(edge.source as u64, width) + edge.target as u64;
-    let second = put(bytes, pen, 2 * width, ends);
     let payload = edge.payload;
-    let third = put(bytes, second, WEIGHT_WIDTH, payload.low as u64);
-    put(bytes, third, WEIGHT_WIDTH, payload.high as u64)
+    out.put(2 * width, ends);
+    out.put(WEIGHT_WIDTH, payload.low as u64);
+    out.put(WEIGHT_WIDTH, payload.high as u64);
 }
 
 // Writes the record of a live edge, its ends by their new numbers. Internal.
-fn write_edge(bytes: &mut [u8], pen: Pen, width: u32, nodes: &Numbering, edge: EdgeRecord) -> Pen
-    requires { EdgeFits bytes.old pen width nodes.now.live.now nodes.now.slots edge.source edge.target }
-    ensures { Penned bytes.old pen
-        (record_bits width (ranked_record nodes.now.live.now nodes.now.slots edge.source edge.target edge.payload)) bytes.new result }
+fn write_edge(out: &mut Writer, width: u32, nodes: &Numbering, edge: EdgeRecord)
+    requires { EdgeFits out.old width nodes.now.live.now nodes.now.slots edge.source edge.target }
+    ensures { Written out.old
+        (record_bits width (ranked_record nodes.now.live.now nodes.now.slots edge.source edge.target edge.payload)) out.new }
 {
     let numbered = EdgeRecord {
         source: nodes.new_number(edge.source),
         target: nodes.new_number(edge.target),
         payload: edge.payload,
     };
-    write_record(bytes, pen, width, numbered)
+    write_record(out, width, numbered);
 }
 
 // The record of an edge. Internal: there is one.
@@ -119,55 +113,51 @@ fn edge_at(store: &Store, edge: usize) -> EdgeRecord
     }
 }
 
-// Writes the records of the live edges in slot order, and answers the pen after them. Internal.
-fn write_edges(bytes: &mut [u8], pen: Pen, width: u32, nodes: &Numbering, store: &Store) -> Pen
-    requires { EdgesFit bytes.old pen width nodes.now.live.now nodes.now.slots (words store.now) }
-    ensures { Penned bytes.old pen (edge_bits width (live_records nodes.now.live.now nodes.now.slots (words store.now))) bytes.new result }
+// Writes the records of the live edges in slot order. Internal.
+fn write_edges(out: &mut Writer, width: u32, nodes: &Numbering, store: &Store)
+    requires { EdgesFit out.old width nodes.now.live.now nodes.now.slots (words store.now) }
+    ensures { Written out.old (edge_bits width (live_records nodes.now.live.now nodes.now.slots (words store.now))) out.new }
 {
     let bound = store.counts.edges.bound as usize;
-    let mut at = pen;
     for e in LiveSlots::new(store.live_edges, bound) {
-        at = write_edge(bytes, at, width, nodes, edge_at(store, e));
+        write_edge(out, width, nodes, edge_at(store, e));
     }
-    at
 }
 
-// Writes entries of lists by their new numbers, one after the other, and answers the pen after them. Internal.
-fn write_entries(bytes: &mut [u8], pen: Pen, width: u32, edges: &Numbering, entries: &[u32]) -> Pen
-    requires { EntriesFit bytes.old pen width edges.now.live.now edges.now.slots entries.now }
-    ensures { Penned bytes.old pen (row width (map (rank (live_flags edges.now.live.now edges.now.slots)) entries.now)) bytes.new result }
+// Writes entries of lists by their new numbers, one after the other. Internal.
+fn write_entries(out: &mut Writer, width: u32, edges: &Numbering, entries: &[u32])
+    requires { EntriesFit out.old width edges.now.live.now edges.now.slots entries.now }
+    ensures { Written out.old (row width (map (rank (live_flags edges.now.live.now edges.now.slots)) entries.now)) out.new }
 {
-    let mut at = pen;
     for entry in entries {
-        at = put(bytes, at, width, edges.new_number(*entry) as u64);
+        out.put(width, edges.new_number(*entry) as u64);
     }
-    at
 }
 
-// Writes the counts, the nodes' payloads and the edges' records of what is live in a store, a node in `width` bits, and answers the pen after them. Internal.
-fn write_slots(store: &Store, width: u32, bytes: &mut [u8]) -> Pen
-    requires { SlotsFit (words store.now) width bytes.old }
-    ensures { Penned bytes.old fresh (slot_bits width (survivors (lists (words store.now)))) bytes.new result }
+// Writes the counts, the nodes' payloads and the edges' records of what is live in a store, a node in `width` bits. Internal.
+fn write_slots(out: &mut Writer, width: u32, store: &Store)
+    requires { SlotsFit out.old width (words store.now) }
+    ensures { Written out.old (slot_bits width (survivors (lists (words store.now)))) out.new }
 {
     let counts = store.counts;
     // No heap: a fixed array.
     let mut ranks: [u32; LIVE_WORDS] = [0; LIVE_WORDS];
     let nodes = Numbering::new(store.live_nodes, counts.nodes, &mut ranks);
-    let first = write_counts(bytes, counts.nodes.live, counts.edges.live);
     let bound = counts.nodes.bound as usize;
-    let second = write_nodes(bytes, first, store.nodes, store.live_nodes, bound);
-    write_edges(bytes, second, width, &nodes, store)
+    write_counts(out, counts.nodes.live, counts.edges.live);
+    write_nodes(out, store.nodes, store.live_nodes, bound);
+    write_edges(out, width, &nodes, store);
 }
 
-// Writes the joined lists of both directions, an entry in `width` bits, and answers the pen after them. Internal.
-fn write_lists(bytes: &mut [u8], pen: Pen, width: u32, store: &Store, entries: &[u32]) -> Pen
-    requires { ListsFit bytes.old pen width (words store.now) entries.now }
-    ensures { Penned bytes.old pen (row width (map (rank (edge_live (words store.now))) entries.now)) bytes.new result }
+// Writes the joined lists of both directions, an entry in `width` bits. Internal.
+fn write_lists(out: &mut Writer, width: u32, store: &Store, entries: &[u32])
+    requires { ListsFit out.old width (words store.now) entries.now }
+    ensures { Written out.old (row width (map (rank (edge_live (words store.now))) entries.now)) out.new }
 {
     // No heap: a fixed array.
     let mut ranks: [u32; LIVE_WORDS] = [0; LIVE_WORDS];
     let edges = Numbering::new(store.live_edges, store.counts.edges, &mut ranks);
-    write_entries(bytes, pen, width, &edges, entries)
+    write_entries(out, width, &edges, entries);
 }
 
 // Writes the image of what is live in a store to the start of `bytes`; the work slice holds the lists of both directions by old numbers. Internal: there is room.
@@ -177,12 +167,11 @@ fn write_survivors(store: &Store, work: &[u32], bytes: &mut [u8])
 {
     let live_nodes = store.counts.nodes.live;
     let live_edges = store.counts.edges.live;
-    let width = least_width(live_nodes);
-    let entry_width = least_width(live_edges);
-    let pen = write_slots(store, width, bytes);
     let count = 2 * live_edges as usize;
-    let end = write_lists(bytes, pen, entry_width, store, &work[..count]);
-    finish(bytes, end);
+    let mut out = Writer::new(bytes);
+    write_slots(&mut out, least_width(live_nodes), store);
+    write_lists(&mut out, least_width(live_edges), store, &work[..count]);
+    out.finish();
 }
 
 // The image of the store, into `bytes`: "1; 2 for the work slice, twice the live transfer count; 2 for the image's slice". The work slice takes the lists of both

@@ -5,10 +5,12 @@
 
 ghost use Rattle.std.specs.Prelude.{◌*◌, ◌≤◌, ◌≡◌, false, length, get_or};
 ghost use Rattle.plain.specs.declared.refusals.Refusal.TheVariants.{OutOfRangeNode, RemovedNode, OutOfRangeEdge, RemovedEdge};
-ghost use Rattle.shape.specs.Shape.{axis_words, node_live, edge_live};
+ghost use Rattle.memory.specs.Lengths.{measured};
+ghost use Rattle.shape.specs.Shape.{axis_words, edge_live, lengths_of, node_live};
 ghost use Rattle.shape.specs.Stores.{words, words_mut, slot_refused};
 
 use liveness::is_live;
+use memory::Lengths;
 use plain::refusals::Refusal;
 use plain::{Counts, TraversalDirection};
 
@@ -33,6 +35,21 @@ impl<'a> Store<'a> {
         match direction {
             TraversalDirection::Outgoing => self.outgoing,
             TraversalDirection::Incoming => self.incoming,
+        }
+    }
+
+    // The lengths of its slices.
+    pub fn lengths(&self) -> Lengths
+        ensures { measured result ≡ lengths_of (words self.now) }
+    {
+        Lengths {
+            nodes: self.nodes.len(),
+            lows: self.lows.len(),
+            highs: self.highs.len(),
+            live_nodes: self.live_nodes.len(),
+            live_edges: self.live_edges.len(),
+            outgoing: self.outgoing.len(),
+            incoming: self.incoming.len(),
         }
     }
 

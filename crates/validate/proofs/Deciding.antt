@@ -1,5 +1,5 @@
 -- What rule 1 establishes, the first broken rule in parts, what each rule takes from the rules before it, and rule 7 by the words of each direction.
-use Rattle.std.specs.Prelude.{ℕ, zero, suc, ◌*◌, ◌^◌, ◌≤◌, ◌<◌, ◌≡◌, refl, Bool, true, false, cond, ◌&&◌, ◌||◌, not, List, length, get_or, eqb, ltb}
+use Rattle.std.specs.Prelude.{ℕ, zero, suc, ◌*◌, ◌^◌, ◌≤◌, ◌<◌, ◌≡◌, refl, Bool, true, false, ◌&&◌, ◌||◌, not, List, length, get_or, eqb, ltb}
 use Rattle.plain.specs.Library.{sym, ap, ap₂, ◌∙◌, arith, ltb-true}
 use Rattle.plain.specs.declared.Answer.{Answer}
 use Rattle.plain.specs.declared.Slots.{Slots}
@@ -11,7 +11,7 @@ use Rattle.plain.specs.Plain.{Plain, node_bound, edge_bound, node_flags, edge_fl
 use Rattle.shape.specs.Columns.{end_at}
 use Rattle.shape.specs.Shape.{Words, node_capacity, edge_capacity, node_live, edge_live, axis_words, shape_of, plain_of}
 use Rattle.plain.proofs.Laws.Booleans.{and_left, and_right}
-use Rattle.shape.specs.Rules.{both_axes, ends_right, weights_right, index_right, ring_right, walks_right, rule_1, rule_2, rule_3, rule_4, rule_5, rule_6, broken}
+use Rattle.shape.specs.Rules.{both_axes, ends_right, weights_right, index_right, ring_right, walks_right, rule_1, rule_3, rule_4, rule_5, rule_6, broken}
 use Rattle.shape.proofs.Laws.Checking.{all_below, ring_sound, ring_own, index_sound}
 use Rattle.shape.specs.Laws.Judging.{Structured, SlotsRight}
 use Rattle.shape.proofs.Laws.Judging.{unbroken_checked, sizes_sound, nodes_live_sound, edges_live_sound, axis_sound}
@@ -21,7 +21,7 @@ use Rattle.adjacency.specs.Laws.Walk.{walk_below}
 use Rattle.adjacency.specs.Laws.StoreWalks.{list_is_walk}
 use Rattle.validate_words.specs.Laws.Passing.{entries_agree, slots_agree}
 use Rattle.validate_words.specs.Sizes.{AxisSized}
-use Rattle.validate.specs.Broken.{Threaded, broken_lists, broken_axes}
+use Rattle.validate.specs.Rules.{Threaded}
 use Rattle.validate.specs.Judging.{Judged}
 use Rattle.validate_lists.specs.Runs.{RunsReadable}
 use Rattle.validate.specs.Flat.{ListsReadable}
@@ -47,12 +47,7 @@ weights_there w h =
 
 -- rules 1 to 6 hold
 pub structured : {w : Words} → Threaded w → rule_6 w ≡ true → Structured w
-structured t h = record { r1 = t.counted.r1; r2 = t.counted.r2; r3 = t.r3; r4 = t.r4; r5 = t.r5; r6 = h }
-
--- the first of all
-pub broken_parts : (w : Words) → cond (not (rule_1 w)) 1 (cond (not (rule_2 w)) 2 (broken_axes w)) ≡ broken w
-unfolding broken broken_axes broken_lists
-broken_parts w = refl
+structured t h = record { r1 = t.r1; r2 = t.r2; r3 = t.r3; r4 = t.r4; r5 = t.r5; r6 = h }
 
 -- a slice's payload words are words of 32 bits, so words of which no rule is broken are a checked store
 pub judges : {w : Words} {rule : ℕ} → rule ≡ broken w → ((x : ℕ) → get_or w.nodes x 0 < 2 ^ 32) → ((e : ℕ) → get_or w.highs e 0 < 2 ^ 32) → Judged w rule
@@ -113,20 +108,20 @@ module _ (w : Words) (d : TraversalDirection) where
   pub lists_readable : Threaded w → ListsReadable ws ce cn w.counts w.live_nodes w.live_edges
   unfolding rule_3 rule_4 rule_5
   lists_readable t =
-      let s = sizes_sound w t.counted.r1 in
+      let s = sizes_sound w t.r1 in
       let nb = w.counts.nodes.bound in
       let be = w.counts.edges.base in
       let eb = w.counts.edges.bound in
       let ring = all_below (ring_right ce be eb ws) nb (axis_passes (λ a. all (ring_right ce be eb a) (from 0 nb)) w t.r5 d) in
       let three = axis_passes (ends_right w.counts) w (and_left (both_axes (ends_right w.counts) w) (weights_right eb w.lows w.highs) t.r3) d in
       record {
-        axis = axis_sized w t.counted.r1 d;
+        axis = axis_sized w t.r1 d;
         index = index_sound ce cn w.counts.nodes.base be ws (axis_passes (index_right ce cn w.counts.nodes.base be) w t.r4 d);
         rings = record { ring = λ x l. ring_sound ce be eb ws x (ring x l); own = λ x e l. ring_own ce be eb ws x (ring x l) e };
         ends_below = λ e l. ltb-true (end_at ws e) nb (all_below (λ e. ltb (end_at ws e) nb) eb three e l);
         nodes_long = live_there s.nodes;
         edges_long = live_there s.edges;
-        live = nodes_live_sound w t.counted.r2;
+        live = nodes_live_sound w t.r2;
       }
 
   module _ (t : Structured w) where

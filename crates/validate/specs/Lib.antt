@@ -1,4 +1,4 @@
 pub mod Flat
-pub mod Broken
+pub mod Rules
 pub mod Judging
 pub mod Laws

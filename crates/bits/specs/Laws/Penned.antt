@@ -6,8 +6,9 @@ use Rattle.std.proofs.Math.Pow.{high, low}
 use Rattle.plain.specs.Bits.{bits_of, bits}
 use Rattle.plain.proofs.Laws.Bits.{length_bits_of, bits_of_split, bits_of_ext}
 use Rattle.bits.specs.declared.pen.Pen.{Pen}
+use Rattle.bits.specs.declared.pen.Writer.{Writer}
 use Rattle.bits.specs.Wrote.{Wrote}
-use Rattle.bits.specs.Penned.{Ready, Penned, fresh, waiting, stream}
+use Rattle.bits.specs.Penned.{Ready, Penned, fresh, waiting, stream, Written}
 
 -- bits, and a value's bits behind them, as one number
 pub bits_behind : (c w x v : ℕ) → v < 2 ^ w → bits_of (c + w) (x * 2 ^ w + v) ≡ bits_of c x ++ bits_of w v
@@ -37,6 +38,13 @@ penned_then {s} {t} {u} {f} {g} {p} {q} {r} a b = record {
   rest = b.rest ∙ past (8 * q.at) (8 * r.at) (bits t) (bits s) (omega (arith, b.later)) a.rest;
   ready = b.ready;
 }
+
+-- the same of a writer
+pub written_none : (a : Writer) → Ready a.pen → Written a [] a
+written_none a h = record { same = refl; penned = penned_none a.bytes.now a.pen h }
+
+pub written_then : {a b c : Writer} {f g : List ℕ} → Written a f b → Written b g c → Written a (f ++ g) c
+written_then h k = record { same = k.same ∙ h.same; penned = penned_then h.penned k.penned }
 
 -- Put from the first bit on, it is all that is there, and with what waits in the pen it was written from bit 0 on.
 pub penned_wrote : {s t u f : List ℕ} {q : Pen} (g : List ℕ) → Penned s fresh f t q → Wrote t (8 * q.at) (waiting q ++ g) u → Wrote s 0 (f ++ g) u

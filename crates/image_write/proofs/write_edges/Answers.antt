@@ -13,23 +13,20 @@ use Rattle.image_write.proofs.write_edges.Goals as goal
 pub loop-e-init : goal.loop-e-init
 loop-e-init c =
     let a = c.args in
-    live_none a.bytes.now a.pen (record_width a.width) (piece a.width a.nodes.now.live.now a.nodes.now.slots (words a.store.now))
+    live_none a.out.now (record_width a.width) (piece a.width a.nodes.now.live.now a.nodes.now.slots (words a.store.now))
     (ap left c.into_iter-e-iterator.ensures.into_iter_gives ∙ c.new-e-items.ensures) c.requires.room
 
 pub edge_at-requires : goal.edge_at-requires
 edge_at-requires c = edge_there c.requires c.loop-e.invariant c.in-Some.ensures.steps
 
-pub write_edge-at-requires : goal.write_edge-at-requires
-write_edge-at-requires c = rw c.edge_at.ensures (edge_room c.requires c.loop-e.invariant c.in-Some.ensures.steps)
+pub write_edge-requires : goal.write_edge-requires
+write_edge-requires c = rw c.edge_at.ensures (edge_room c.requires c.loop-e.invariant c.in-Some.ensures.steps)
 
 pub loop-e-preserved : goal.loop-e-preserved
 loop-e-preserved c =
     let a = c.args in
     live_more c.loop-e.invariant c.in-Some.ensures.steps
-    (λ e. length_record_bits a.width (record_at a.nodes.now.live.now a.nodes.now.slots (words a.store.now) e)) (rw c.edge_at.ensures at c.write_edge-at.ensures)
-
-pub shape_of-bytes : goal.shape_of-bytes
-shape_of-bytes c = c.loop-e.invariant.written.penned.long
+    (λ e. length_record_bits a.width (record_at a.nodes.now.live.now a.nodes.now.slots (words a.store.now) e)) (rw c.edge_at.ensures at c.write_edge.ensures)
 
 pub returns : goal.returns
 returns c =

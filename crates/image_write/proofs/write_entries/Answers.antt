@@ -11,24 +11,21 @@ use Rattle.image_write.proofs.write_entries.Goals as goal
 pub loop-entry-init : goal.loop-entry-init
 loop-entry-init c =
     let a = c.args in
-    entry_none a.bytes.now a.pen a.width (entry_bits a.width a.edges.now.live.now a.edges.now.slots) a.entries.now c.requires.room
+    entry_none a.out.now a.width (entry_bits a.width a.edges.now.live.now a.edges.now.slots) a.entries.now c.requires.room
 
 pub new_number-requires : goal.new_number-requires
 new_number-requires c =
     (rank_there c.requires.ranks_fit (get_or c.args.entries.now c.loop-entry.entry-index 0) (c.requires.entries_live c.loop-entry.entry-index (omega arith))).0
 
-pub put-at-requires : goal.put-at-requires
-put-at-requires c =
+pub put-requires : goal.put-requires
+put-requires c =
     next_entry c.requires c.loop-entry.invariant (omega arith) c.new_number.ensures
 
 pub loop-entry-preserved : goal.loop-entry-preserved
 loop-entry-preserved c =
     let a = c.args in
     entry_more c.loop-entry.invariant (λ e. length_bits_of a.width (rank (live_flags a.edges.now.live.now a.edges.now.slots) e)) (omega arith)
-    (rw c.new_number.ensures at c.put-at.ensures)
-
-pub shape_of-bytes : goal.shape_of-bytes
-shape_of-bytes c = c.loop-entry.invariant.front.penned.long
+    (rw c.new_number.ensures at c.put.ensures)
 
 pub returns : goal.returns
 returns c =

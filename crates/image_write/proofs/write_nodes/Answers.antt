@@ -12,7 +12,7 @@ use Rattle.image_write.proofs.write_nodes.Goals as goal
 
 pub loop-node-init : goal.loop-node-init
 loop-node-init c =
-    live_none c.args.bytes.now c.args.pen node_payload_width (node_bits c.args.nodes.now)
+    live_none c.args.out.now node_payload_width (node_bits c.args.nodes.now)
     (ap left c.into_iter-node-iterator.ensures.into_iter_gives ∙ c.new-node-items.ensures) c.requires.room
 
 pub offset_bounds-nodes-node : goal.offset_bounds-nodes-node
@@ -21,16 +21,14 @@ offset_bounds-nodes-node c = omega (arith, node_there c.requires c.loop-node.inv
 pub bounds-nodes-node : goal.bounds-nodes-node
 bounds-nodes-node c = node_there c.requires c.loop-node.invariant c.in-Some.ensures.steps
 
-pub put-at-requires : goal.put-at-requires
-put-at-requires c =
+pub put-requires : goal.put-requires
+put-requires c =
     node_room c.requires c.loop-node.invariant c.in-Some.ensures.steps (omega (arith, c.type_inv.nodes c.in-Some.node))
 
 pub loop-node-preserved : goal.loop-node-preserved
 loop-node-preserved c =
-    live_more c.loop-node.invariant c.in-Some.ensures.steps (λ x. length_bits_of node_payload_width (get_or c.args.nodes.now x 0)) c.put-at.ensures
-
-pub shape_of-bytes : goal.shape_of-bytes
-shape_of-bytes c = c.loop-node.invariant.written.penned.long
+    live_more c.loop-node.invariant c.in-Some.ensures.steps (λ x. length_bits_of node_payload_width (get_or c.args.nodes.now x 0))
+    c.put.ensures
 
 pub returns : goal.returns
 returns c =

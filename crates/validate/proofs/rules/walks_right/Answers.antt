@@ -1,4 +1,4 @@
--- `validate::walks_hold` meets its contract.
+-- `validate::rules::walks_right` meets its contract.
 use Rattle.std.specs.Prelude.{◌≡◌}
 use Rattle.plain.specs.Library.{sym, ◌∙◌}
 use Rattle.plain.specs.declared.TraversalDirection.TheVariants.{Outgoing, Incoming}
@@ -6,14 +6,14 @@ use Rattle.shape.specs.Shape.{shape_of, plain_of}
 use Rattle.shape.specs.Stores.{words}
 use Rattle.shape.specs.Rules.{walks_right, rule_7}
 use Rattle.validate.proofs.Deciding.{walks_readable, walks_rule}
-use Rattle.validate.proofs.walks_hold.Goals.{Joined-out, then-out, else-out}
-use Rattle.validate.proofs.walks_hold.Goals as goal
+use Rattle.validate.proofs.rules.walks_right.Goals.{Joined-out, then-out, else-out}
+use Rattle.validate.proofs.rules.walks_right.Goals as goal
 
 -- one direction: its walks are known to be right, or followed
 outgoing : (c : Joined-out) → c.if-out.value ≡ walks_right (plain_of (shape_of (words c.args.store.now))) Outgoing
 outgoing c =
     elim c.if-out.branch [
-      | then-out w ↦ w.value-is ∙ w.if-out.true ∙ sym (c.requires.of_out w.if-out.true)
+      | then-out w ↦ w.value-is ∙ w.if-out.true ∙ sym (c.requires.out_seen w.if-out.true)
       | else-out w ↦ w.value-is ∙ w.walks_right.ensures ∙ walks_rule _ Outgoing c.requires.structured
     ]
 
@@ -25,7 +25,7 @@ walks_right-requires-else-back c = walks_readable _ Incoming c.requires.structur
 
 pub returns-then-back : goal.returns-then-back
 unfolding rule_7
-returns-then-back c = rw (sym (outgoing (goal.at.returns-then-back c).Joined-out) ∙ c.if-walks_right.true) (c.if-back.true ∙ sym (c.requires.of_back c.if-back.true))
+returns-then-back c = rw (sym (outgoing (goal.at.returns-then-back c).Joined-out) ∙ c.if-walks_right.true) (c.if-back.true ∙ sym (c.requires.back_seen c.if-back.true))
 
 pub returns-else-back : goal.returns-else-back
 unfolding rule_7

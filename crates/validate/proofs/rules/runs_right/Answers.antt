@@ -1,0 +1,11 @@
+-- `validate::rules::runs_right` meets its contract.
+use Rattle.plain.specs.declared.TraversalDirection.TheVariants.{Outgoing, Incoming}
+use Rattle.shape.specs.Stores.{words}
+use Rattle.validate.proofs.Deciding.{runs_readable}
+use Rattle.validate.proofs.rules.runs_right.Goals as goal
+
+pub runs_right-requires : goal.runs_right-requires
+runs_right-requires c = runs_readable (words c.args.store.now) Outgoing c.requires.r1
+
+pub runs_right-requires-else-back : goal.runs_right-requires-else-back
+runs_right-requires-else-back c = runs_readable (words c.args.store.now) Incoming c.requires.r1
