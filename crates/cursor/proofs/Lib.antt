@@ -1,3 +1,3 @@
 mod Going
-pub mod Writing
+mod Writing
 mod Summing

@@ -1,25 +1,54 @@
 -- Listing the live slots: what the loop asks, and what the two reads answer.
-use Rattle.std.specs.Prelude.{ℕ, ◌≤◌, ◌<◌, ◌≡◌, true, Bool, List, length}
-use Rattle.plain.specs.Library.{sym, ap, ◌∙◌, arith}
+use Rattle.std.specs.Prelude.{ℕ, ◌+◌, ◌≤◌, ◌<◌, ◌≡◌, Bool, true, List, [], ◌∷◌, ◌++◌, length, set, drop}
+use Rattle.plain.specs.Library.{sym, ap, ◌∙◌, length-append, length-set, append_snoc, arith}
 use Rattle.plain.specs.declared.TraversalDirection.TheVariants.{Outgoing}
 use Rattle.plain.specs.declared.Slots.{Slots}
 use Rattle.plain.specs.declared.Answer.{Answer}
 use Rattle.plain.specs.Numbers.{LIMIT}
 use Rattle.plain.specs.Lists.{member}
 use Rattle.plain.specs.Reads.{listing, live_slots, node_slots, edge_slots}
-use Rattle.plain.proofs.Laws.ListLaws.{count_length}
+use Rattle.plain.proofs.Laws.Booleans.{or_true}
+use Rattle.plain.proofs.Laws.ListLaws.{count_length, member_first, member_append}
 use Rattle.plain.proofs.Laws.Rank.{length_live_slots, member_live_slots, live_below}
 use Rattle.liveness.specs.Flags.{live_flags}
 use Rattle.liveness.specs.Laws.Flags.{length_flags}
 use Rattle.shape.specs.Checked.{SlotsChecked}
 use Rattle.shape.specs.Shape.{Words, node_live, edge_live, lists}
 use Rattle.shape.proofs.Laws.Slots.{nodes_told, edges_told}
+use Rattle.cursor.specs.Laws.Reading.{write_one}
 use Rattle.validate.specs.Judging.{Judged}
 use Rattle.view.specs.Calls.{Listed, Replied}
 use Rattle.view.specs.Ids.{LiveFits, LiveTold}
 use Rattle.view.specs.Laws.Calls.{list_replies}
 
 -- ---- the loop
+
+-- Of all slots those of `past` are written, n from the slice's start on, and those of `rest` are not.
+pub record Writing (all past rest out₀ out : List ℕ) (n : ℕ) : Type 0 where
+  pub whole : all ≡ past ++ rest
+  pub counted : n ≡ length past
+  pub wrote : out ≡ past ++ drop n out₀
+  pub long : length out ≡ length out₀
+
+module _ {all past rest out₀ out : List ℕ} {n : ℕ} (w : Writing all past rest out₀ out n) {slot : ℕ} {later : List ℕ} (q : rest ≡ slot ∷ later) where
+  -- there is room for one more
+  pub writing_room : length all ≤ length out₀ → n < length out
+  writing_room fits =
+      let size : length all ≡ length past + (1 + length later) = rw (w.whole, q) (simp length-append (omega arith)) in
+      omega (arith, w.long, w.counted)
+
+  -- one more
+  pub writing_on : length all ≤ length out₀ → Writing all (past ++ (slot ∷ [])) later out₀ (set out n slot) (n + 1)
+  writing_on fits = record {
+    whole = w.whole ∙ rw q (sym (append_snoc past slot later));
+    counted = simp length-append (omega (arith, w.counted));
+    wrote = rw w.wrote (write_one past out₀ n slot w.counted (let room = writing_room fits in omega (arith, w.long)));
+    long = length-set out n slot ∙ w.long;
+  }
+
+  -- it is one of all
+  pub writing_in : member slot all ≡ true
+  writing_in = rw (w.whole, q, member_append slot past (slot ∷ later), member_first slot later) (or_true (member slot past))
 
 -- there is room for the live slots
 pub live_room : (words : List ℕ) (bound : ℕ) (slots : List ℕ) → LiveFits words bound slots → length (live_slots (live_flags words bound)) ≤ length slots

@@ -1,10 +1,9 @@
--- `view::ids::write_live` meets its contract. The loop's invariant is `Writing`, with each slot itself.
+-- `view::ids::write_live` meets its contract. The loop's invariant is `Writing`.
 use Rattle.plain.specs.Library.{ap, ◌∙◌, inl, arith}
 use Rattle.std.specs.Iterator.Adapters.{enumerate_source, enumerate_count}
 use Rattle.liveness.specs.LiveSlots.{left}
 use Rattle.plain.proofs.Laws.ListLaws.{map_snoc}
-use Rattle.cursor.proofs.Writing.{writing_in, writing_room, writing_on}
-use Rattle.view.proofs.Listing.{left_few, live_room, live_few}
+use Rattle.view.proofs.Listing.{left_few, live_room, live_few, writing_in, writing_room, writing_on}
 use Rattle.view.proofs.ids.write_live.Goals as goal
 
 pub loop-n-init-derived : goal.loop-n-init-derived
