@@ -1,5 +1,7 @@
 // Which slots are live: a bit a slot, packed into lent words, 64 slots a word, the lowest bit first. All functions are internal: where
 // the words may be shorter than the slots need, the length is required. What the words mean is `live_flags` of specs/Flags.antt.
+// `words` and `slots` stay two parameters: a store holds its words and its counts apart, so that a value of both, with the length in its type, would be made and its
+// length proved at each call, which is no plainer. `LiveSlots` is such a value where all slots are passed, and `Store` asks of its own.
 
 #![tactic(auto)]
 
@@ -126,7 +128,8 @@ pub fn write_ranks(words: &[u64], slots: usize, ranks: &mut [u32])
     }
 }
 
-// How many live slots stand before a slot, in constant time: those before its word, and those of its word's low bits.
+// How many live slots stand before a slot, in constant time: those before its word, and those of its word's low bits. The three first parameters are one value in crate
+// image_write's `Numbering`, which alone calls it.
 pub fn rank_by(words: &[u64], slots: usize, ranks: &[u32], slot: usize) -> u32
     requires { Ranked words.now slots ranks.now × (slot < slots) }
     ensures { result ≡ rank_of (live_flags words.now slots) slot }
