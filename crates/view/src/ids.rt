@@ -16,7 +16,7 @@ use plain::refusals::Refusal;
 use shape::Store;
 use validate::judging::check_store;
 
-// Writes the live slots below `bound` to the start of `slots`, in slot order. Internal: there is room for them.
+// Writes the live slots below `bound` to the start of `slots`, in slot order, from one live slot to the next. Internal: there is room for them.
 fn write_live(words: &[u64], bound: usize, slots: &mut [u32])
     requires { LiveFits words.now bound slots.old }
     ensures { slots.new ≡ written (live_slots (live_flags words.now bound)) slots.old }

@@ -1,10 +1,11 @@
 -- `view::ids::edge_ids` meets its contract: the check, and then the list of one kind of slot.
-use Rattle.std.specs.Prelude.{refl}
+use Rattle.plain.specs.Library.{ap}
+use Rattle.plain.specs.Refusals.{rule_of}
 use Rattle.view.proofs.Listing.{edge_ids_told, edge_ids_listed}
 use Rattle.view.proofs.ids.edge_ids.Goals as goal
 
 pub list_live-requires : goal.list_live-requires
-list_live-requires c = edge_ids_told c.in_ok-check_store.ensures refl
+list_live-requires c = edge_ids_told c.check_store.ensures (ap rule_of c.in_ok-check_store.was)
 
 pub returns : goal.returns
-returns c = edge_ids_listed c.in_ok-check_store.ensures refl c.list_live.ensures
+returns c = edge_ids_listed c.check_store.ensures (ap rule_of c.in_ok-check_store.was) c.list_live.ensures
