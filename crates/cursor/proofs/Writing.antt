@@ -1,5 +1,5 @@
 -- A list of edges read one by one, and written to a slice, turn by turn.
-use Rattle.std.specs.Prelude.{ℕ, ◌+◌, ◌≤◌, ◌<◌, ◌≡◌, refl, List, [], ◌∷◌, ◌++◌, map, length, set, drop}
+use Rattle.std.specs.Prelude.{ℕ, ◌+◌, ◌≤◌, ◌<◌, ◌≡◌, List, [], ◌∷◌, ◌++◌, map, length, set, drop}
 use Rattle.plain.specs.Library.{sym, ◌∙◌, append-nil, length-append, length-set, length-map, append_snoc, arith}
 use Rattle.plain.specs.Lists.{written}
 use Rattle.plain.proofs.Laws.Booleans.{or_true}
@@ -15,10 +15,6 @@ pub record Writing (f : ℕ → ℕ) (all left out₀ out : List ℕ) (n : ℕ) 
   pub counted : n ≡ length past
   pub wrote : out ≡ map f past ++ drop n out₀
   pub long : length out ≡ length out₀
-
--- where it starts
-pub writing_start : {f : ℕ → ℕ} {all left out : List ℕ} → all ≡ left → Writing f all left out out 0
-writing_start q = record { past = []; whole = q; counted = refl; wrote = refl; long = refl }
 
 module _ {f : ℕ → ℕ} {all left out₀ out : List ℕ} {n : ℕ} (w : Writing f all left out₀ out n) where
   module _ {e : ℕ} {rest : List ℕ} (q : left ≡ e ∷ rest) where

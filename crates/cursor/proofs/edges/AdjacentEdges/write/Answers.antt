@@ -2,11 +2,8 @@
 use Rattle.plain.specs.Library.{sym, ◌∙◌}
 use mathlib.Core.List.{map-id}
 use Rattle.cursor.specs.Laws.Reading.{keep_first, keep_past, keep_none}
-use Rattle.cursor.proofs.Writing.{writing_start, writing_room, writing_on, writing_skip, writing_end}
+use Rattle.cursor.proofs.Writing.{writing_room, writing_on, writing_skip, writing_end}
 use Rattle.cursor.proofs.edges.AdjacentEdges.write.Goals as goal
-
-pub loop-edge-init : goal.loop-edge-init
-loop-edge-init c = writing_start (sym c.self.view_is ∙ rw c.into_iter-edge-iterator.ensures.into_iter_gives)
 
 pub bounds-out-n : goal.bounds-out-n
 bounds-out-n c =
