@@ -6,7 +6,7 @@ use Rattle.plain.specs.declared.Counts.{Counts}
 use Rattle.plain.specs.declared.Answer.{Answer}
 use Rattle.plain.specs.declared.refusals.Refusal.{Refusal}
 use Rattle.plain.specs.Answers.{answer_of, done_of}
-use Rattle.plain.proofs.Laws.Numbered.{done_ok}
+use Rattle.lotstrip_text.proofs.Numbered.{done_ok}
 use Rattle.plain.specs.Lists.{written}
 use Rattle.plain.specs.Operations.{operations}
 use Rattle.plain.specs.Plain.{Plain, EdgeSlot, edge_flags}

@@ -23,7 +23,6 @@ pub mod Width
 pub mod Cutting
 pub mod ImageBits
 pub mod Refusals
-pub mod Numbered
 pub mod Exits
 pub mod Lending
 pub mod ImageLaws

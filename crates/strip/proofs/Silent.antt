@@ -7,8 +7,7 @@ use Rattle.plain.specs.declared.TraversalDirection.{TraversalDirection}
 use Rattle.plain.specs.declared.Operation.{Operation}
 use Rattle.plain.specs.declared.Operation.TheVariants.{AddNode, AddEdge, RemoveEdge, RemoveNode, Redirect, Move, SetPayload, Unknown}
 use Rattle.plain.specs.Numbers.{NONE}
-use Rattle.plain.specs.Refusals.{value_of}
-use Rattle.plain.proofs.Laws.Numbered.{numbered}
+use Rattle.plain.specs.Refusals.{number_of, value_of}
 use Rattle.plain.specs.Answers.{answer_of}
 use Rattle.plain.specs.Plain.{Plain, node_bound, edge_bound, list_of, end_of}
 use Rattle.plain.specs.Step.{Capacities, Outcome, unless, node_fault, node_missing, edge_fault, edge_missing, room_fault, self_fault, payload_fault, removing, redirecting, moving, step}
@@ -58,6 +57,24 @@ silent caps p (Move d old new) =
 silent caps p (SetPayload e payload) =
     silent_unless (payload_fault payload) p _ (silent_unless (edge_missing p e) p _ (silent_done _ refl))
 silent caps p Unknown = record { silence = λ h. refl }
+
+-- a refusal has a number
+pub numbered : (refusal : Refusal) → 0 < number_of refusal
+numbered (NoStore rule) = omega arith
+numbered (TooShort needed) = omega arith
+numbered (Ragged length) = omega arith
+numbered UnknownCode = omega arith
+numbered OutOfRangeNode = omega arith
+numbered RemovedNode = omega arith
+numbered OutOfRangeEdge = omega arith
+numbered RemovedEdge = omega arith
+numbered OntoItself = omega arith
+numbered Full = omega arith
+numbered (Unreadable rule) = omega arith
+numbered (AboveLimit capacity) = omega arith
+numbered Unreachable = omega arith
+numbered (AboveSkid asked) = omega arith
+numbered Inverted = omega arith
 
 -- so an operation that is refused has none
 pub untold : {operation : Operation} {w v : Words} (came : Result ℕ Refusal) → StepOf operation w v (answer_of came).number (answer_of came).value

@@ -1,8 +1,7 @@
 -- `image_read::check_image` meets its contract: the first broken rule, then the counts.
-use Rattle.plain.specs.Library.{ap, ◌∙◌, arith}
+use Rattle.plain.specs.Library.{ap, ◌∙◌}
 use Rattle.plain.specs.Image.{nodes_in, edges_in}
-use Rattle.plain.proofs.Laws.Numbered.{rule_numbered}
-use Rattle.image_read.proofs.Answering.{whole_told, broken_told}
+use Rattle.image_read.proofs.Answering.{whole_told, broken_told, rule_broke}
 use Rattle.image_read.proofs.check_image.Goals as goal
 
 pub returns-in-Ok : goal.returns-in-Ok
@@ -11,4 +10,4 @@ returns-in-Ok c =
     c.check_reading.ensures
 
 pub returns-in-Err : goal.returns-in-Err
-returns-in-Err c = broken_told _ _ _ c.in-Err.ensures (λ e. omega (arith, rule_numbered c.in-Err.rule)) c.check_reading-in-Err.ensures
+returns-in-Err c = broken_told _ _ _ c.in-Err.ensures (rule_broke c.in-Err.rule) c.check_reading-in-Err.ensures

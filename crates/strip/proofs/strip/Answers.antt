@@ -2,7 +2,7 @@
 use Rattle.std.specs.Prelude.{refl}
 use Rattle.plain.specs.Library.{arith}
 use Rattle.plain.proofs.Laws.Exits.{refused_exit}
-use Rattle.plain.proofs.Laws.Numbered.{numbered}
+use Rattle.strip.proofs.Silent.{numbered}
 use Rattle.strip.proofs.Ending.{strip_refused, strip_runnable, strip_run}
 use Rattle.strip.proofs.strip.Goals as goal
 

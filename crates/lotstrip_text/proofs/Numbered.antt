@@ -1,14 +1,12 @@
--- A refusal has a number, and an image's broken rule too: what is answered with number 0 was not refused.
+-- A refusal has a number: what is answered with number 0 was not refused.
 use Rattle.std.specs.Prelude.{ℕ, ◌<◌, ◌≡◌, refl, Result, Ok, Err, IsOk}
 use Rattle.plain.specs.Library.{arith}
-use Rattle.plain.specs.declared.refusals.ImageRule.{ImageRule}
-use Rattle.plain.specs.declared.refusals.ImageRule.TheVariants.{Counts, Limits, Length, Padding, Records, Lists}
 use Rattle.plain.specs.declared.refusals.Refusal.{Refusal}
 use Rattle.plain.specs.declared.refusals.Refusal.TheVariants.{NoStore, TooShort, Ragged, UnknownCode, OutOfRangeNode, RemovedNode, OutOfRangeEdge, RemovedEdge, OntoItself, Full, Unreadable, AboveLimit, Unreachable, AboveSkid, Inverted}
-use Rattle.plain.specs.Refusals.{image_rule_number, number_of}
+use Rattle.plain.specs.Refusals.{number_of}
 use Rattle.plain.specs.Answers.{answer_by}
 
-pub numbered : (refusal : Refusal) → 0 < number_of refusal
+numbered : (refusal : Refusal) → 0 < number_of refusal
 numbered (NoStore rule) = omega arith
 numbered (TooShort needed) = omega arith
 numbered (Ragged length) = omega arith
@@ -24,14 +22,6 @@ numbered (AboveLimit capacity) = omega arith
 numbered Unreachable = omega arith
 numbered (AboveSkid asked) = omega arith
 numbered Inverted = omega arith
-
-pub rule_numbered : (rule : ImageRule) → 0 < image_rule_number rule
-rule_numbered Counts = omega arith
-rule_numbered Limits = omega arith
-rule_numbered Length = omega arith
-rule_numbered Padding = omega arith
-rule_numbered Records = omega arith
-rule_numbered Lists = omega arith
 
 -- so what came is there
 pub done_ok : {A : Type 0} (value_is : A → ℕ) (came : Result A Refusal) → (answer_by value_is came).number ≡ 0 → IsOk came
