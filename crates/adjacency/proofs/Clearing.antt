@@ -1,7 +1,6 @@
 -- The edges of a walk made dead, turn by turn; then those of a node's whole walk.
 use Rattle.std.specs.Prelude.{ℕ, ◌+◌, ◌/◌, ◌≤◌, ◌≡◌, refl, Bool, true, false, cond, List, [], ◌∷◌, ◌++◌, length, get_or, eqb}
-use Rattle.plain.specs.Library.{sym, ap, ◌∙◌, subst, append-nil, length-set, append_snoc, get_or-set_other, arith}
-use Rattle.plain.specs.declared.Counts.{Counts}
+use Rattle.plain.specs.Library.{sym, ap, ◌∙◌, length-set, append_snoc, get_or-set_other, arith}
 use Rattle.plain.specs.Lists.{member}
 use Rattle.plain.specs.Reads.{live_count}
 use Rattle.plain.proofs.Laws.Booleans.{by_test, or_false}
@@ -10,7 +9,7 @@ use Rattle.plain.proofs.Laws.Rank.{live_count_removed}
 use Rattle.liveness.specs.Flags.{live_flags}
 use Rattle.liveness.specs.Laws.Flags.{length_flags}
 use Rattle.liveness.specs.Calls.{Cleared}
-use Rattle.adjacency.specs.Clear.{Retired, LeftClearable, Clearable}
+use Rattle.adjacency.specs.Clear.{Retired}
 use Rattle.adjacency.specs.Laws.Clear.{get_or_cleared, retired_none, retired_then}
 
 -- ---- edges made dead
@@ -60,18 +59,4 @@ module _ {all past left : List ℕ} {slots : ℕ} {live₀ live : List ℕ} {n :
   clearing_on {e} {rest = rest} q gone = record {
     whole = i.whole ∙ rw q (sym (append_snoc past e rest));
     retired = retired_then i.retired gone;
-  }
-
-  -- at the end all are past
-  pub clearing_end : left ≡ [] → Retired slots all live₀ live n
-  clearing_end q = subst (λ (l : List ℕ). Retired slots l live₀ live n) (sym (i.whole ∙ rw q (append-nil past))) i.retired
-
--- ---- a node's walk
-
-module _ {ws : List ℕ} {ce cn : ℕ} {counts : Counts} {live_edges : List ℕ} {x : ℕ} (p : Clearable ws ce cn counts live_edges x) where
-  -- entries can be made dead
-  pub entries_clearable : LeftClearable live_edges counts.edges.bound
-  entries_clearable = record {
-    live_long = p.live_long;
-    few = let bounded = p.readable.edges in let sized = p.readable.sized in omega arith;
   }

@@ -1,4 +1,4 @@
-// The degree and the total of a node, by the plain lists of a checked store (crate `plain`, Reads.antt).
+// A node's list, its degree and its total, by the plain lists of a checked store (crate `plain`, Reads.antt).
 
 ghost use Rattle.std.specs.Prelude.{◌<◌, ◌≡◌, length};
 ghost use Rattle.plain.specs.Plain.{list_of};
@@ -8,8 +8,27 @@ ghost use Rattle.shape.specs.Stores.{words};
 ghost use Rattle.adjacency.specs.Reads.{sums_in};
 
 use crate::walk;
+use cursor::edges::AdjacentEdges;
 use plain::{Sums, TraversalDirection};
 use shape::Store;
+
+// A node's list, an edge at a time, of a node slot below the bound.
+pub fn edges<'a>(store: &Store<'a>, direction: TraversalDirection, node: u32) -> AdjacentEdges<'a>
+    requires checked { Checked (words store.now) }
+    requires node_lt_bound { node < store.now.counts.nodes.bound }
+    ensures { result ≡ list_of direction (lists (words store.now)) node }
+{
+    let axis = store.axis(direction);
+    walk::edges(
+        axis,
+        store.lows.len(),
+        store.nodes.len(),
+        store.counts,
+        store.live_edges,
+        node as usize,
+        store.is_node_live(node),
+    )
+}
 
 // How many edges a node's list has, of a node slot below the bound.
 pub fn degree(store: &Store, direction: TraversalDirection, node: u32) -> usize

@@ -1,6 +1,6 @@
 // The rings: of each node the edges appended since its base part was built or its run took them over. A ring is circular; the node has its last edge, and that
-// edge's link leads to the first. So an append takes constant time and the ring is read in the order of appending. What a call asks and promises of the words
-// is a record of specs/Rings.antt; `edge_capacity` and `node_capacity` are those of the axis.
+// edge's link leads to the first; NONE in its place is the empty ring, since the words are lent. So an append takes constant time and the ring is read in the
+// order of appending. What a call asks and promises of the words is a record of specs/Rings.antt; `edge_capacity` and `node_capacity` are those of the axis.
 
 ghost use Rattle.adjacency.specs.Rings.{Appendable, Appended, Openable, Opened, EndsReadable, EndsRead, Detachable, Detached};
 

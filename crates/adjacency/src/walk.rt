@@ -1,7 +1,6 @@
 // Walks over one node's adjacency in one direction, from the packed axis: where a walk starts, the walk into a lent slice with its length, degrees, and far
 // ends. Both directions use the same functions with the one axis or the other. `edge_capacity` and `node_capacity` are those of the axis; `live` says whether the node
-// is live. The parameters of an axis stay apart: a store is one value where it is lent whole (`shape::Store`), and a struct of one axis would be taken apart again by
-// every call that lends an axis to be written beside live words that are read.
+// is live.
 
 ghost use Rattle.std.specs.Prelude.{◌≤◌, ◌≡◌, cond, [], map, length, unwrap_or};
 ghost use Rattle.plain.specs.Numbers.{NONE as none};

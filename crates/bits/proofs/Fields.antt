@@ -1,15 +1,17 @@
 -- How a field is read in parts, and out of a window of whole bytes.
-use Rattle.std.specs.Prelude.{ℕ, suc, ◌+◌, ◌-◌, ◌*◌, ◌/◌, ◌%◌, ◌^◌, ◌≤◌, ◌<◌, ◌≡◌, List, ◌∷◌, ◌++◌, length, take, drop, get_or}
-use Rattle.plain.specs.Library.{sym, ap, ap₂, ◌∙◌, length-drop, take_at, lt_of_lt_of_le, arith}
+use Rattle.std.specs.Prelude.{ℕ, zero, suc, refl, ◌+◌, ◌-◌, ◌*◌, ◌/◌, ◌%◌, ◌^◌, ◌≤◌, ◌<◌, ◌≡◌, List, ◌∷◌, ◌++◌, length, take, drop, get_or}
+use Rattle.plain.specs.Library.{sym, ap, ◌∙◌, length-drop, take_at, lt_of_lt_of_le, arith}
 use native.Mathlib.Nat.{mod-eq_of_lt, one-mul}
+use native.Mathlib.Numerals.{add-one}
+use Rattle.std.specs.Int.{from_be_bytes}
+use mir.Syntax.{w64}
 use lib.ListN.{length-take}
 use Rattle.std.proofs.Common.{get_or-take, get_or-drop}
 use lib.Seq.{drop_at, take-add, drop-drop, split_at}
 use lib.Pow.{pow_mono, shl_exact, shr-shr, high, low}
-use lib.Bits.{bit_or, or_shifted}
 use lib.Dec.{lit<}
 use Rattle.plain.specs.Bits.{bits_of, value_of, bits, field_at}
-use Rattle.plain.proofs.Laws.Bits.{length_bits_of, value_of_append, value_of_bits_of, length_bits, bits_append, field_at_lt}
+use Rattle.plain.proofs.Laws.Bits.{length_bits_of, value_of_append, value_of_bits_of, length_bits, bits_append, field_at_lt, field_at_zero}
 
 -- `1 << k` at a width of w bits
 pub one_shl : (k w : ℕ) → k < w → 1 * 2 ^ k % 2 ^ w ≡ 2 ^ k
@@ -44,41 +46,40 @@ window_join : (s : List ℕ) (i j v : ℕ) → 8 * i + (8 * j + v) ≤ 8 * lengt
     → field_at s (8 * i) (8 * j) * 2 ^ v + field_at s (8 * (i + j)) v ≡ field_at s (8 * i) (8 * j + v)
 window_join s i j v h = let e : 8 * (i + j) ≡ 8 * i + 8 * j = omega arith in rw e (sym (field_at_add s (8 * i) (8 * j) v h))
 
--- four bytes, each shifted to its place
-pub window_four : (s : List ℕ) (i : ℕ) {a b c d : ℕ} → i + 4 ≤ length s → a ≡ field_at s (8 * i) 8 → b ≡ field_at s (8 * (i + 1)) 8
-    → c ≡ field_at s (8 * (i + 2)) 8 → d ≡ field_at s (8 * (i + 3)) 8
-    → bit_or (bit_or (bit_or (a * 2 ^ 24 % 2 ^ 64) (b * 2 ^ 16 % 2 ^ 64)) (c * 2 ^ 8 % 2 ^ 64)) d ≡ field_at s (8 * i) 32
-window_four s i {a} {b} {c} {d} h ea eb ec ed =
-    let la : a < 2 ^ 8 = rw ea (field_at_lt s (8 * i) 8) in
-    let lb : b < 2 ^ 8 = rw eb (field_at_lt s (8 * (i + 1)) 8) in
-    let lc : c < 2 ^ 8 = rw ec (field_at_lt s (8 * (i + 2)) 8) in
-    let ld : d < 2 ^ 8 = rw ed (field_at_lt s (8 * (i + 3)) 8) in
-    let first : bit_or (a * 2 ^ 24 % 2 ^ 64) (b * 2 ^ 16 % 2 ^ 64) ≡ (a * 2 ^ 8 + b) * 2 ^ 16 =
-    let x : a * 2 ^ 24 % 2 ^ 64 ≡ a * 2 ^ 24 = omega arith in
-    let y : b * 2 ^ 16 % 2 ^ 64 ≡ b * 2 ^ 16 = omega arith in
-    let l : b * 2 ^ 16 < 2 ^ 24 = omega arith in
-    let e : a * 2 ^ 24 + b * 2 ^ 16 ≡ (a * 2 ^ 8 + b) * 2 ^ 16 = omega arith in
-    ap₂ bit_or x y ∙ or_shifted a 24 (b * 2 ^ 16) l ∙ e in
-    let second : bit_or ((a * 2 ^ 8 + b) * 2 ^ 16) (c * 2 ^ 8 % 2 ^ 64) ≡ ((a * 2 ^ 8 + b) * 2 ^ 8 + c) * 2 ^ 8 =
-    let y : c * 2 ^ 8 % 2 ^ 64 ≡ c * 2 ^ 8 = omega arith in
-    let l : c * 2 ^ 8 < 2 ^ 16 = omega arith in
-    let e : (a * 2 ^ 8 + b) * 2 ^ 16 + c * 2 ^ 8 ≡ ((a * 2 ^ 8 + b) * 2 ^ 8 + c) * 2 ^ 8 = omega arith in
-    ap (bit_or ((a * 2 ^ 8 + b) * 2 ^ 16)) y ∙ or_shifted (a * 2 ^ 8 + b) 16 (c * 2 ^ 8) l ∙ e in
-    let two = window_join s i 1 8 (omega arith) in
-    let three = window_join s i 2 8 (omega arith) in
-    let four = window_join s i 3 8 (omega arith) in
-    ap (λ (z : ℕ). bit_or (bit_or z (c * 2 ^ 8 % 2 ^ 64)) d) first ∙ ap (λ (z : ℕ). bit_or z d) second ∙ or_shifted ((a * 2 ^ 8 + b) * 2 ^ 8 + c) 8 d ld
-    ∙ omega (arith, ea, eb, ec, ed, two, three, four)
+-- a byte of the window is one of all
+pub window_item : (s : List ℕ) (i n j : ℕ) → j < n → get_or (take n (drop i s)) j 0 ≡ get_or s (i + j) 0
+window_item s i n j h = rw (get_or-take, get_or-drop)
 
--- eight bytes: four and four
-pub window_eight : (s : List ℕ) (i : ℕ) {a b : ℕ} → i + 8 ≤ length s → a ≡ field_at s (8 * i) 32 → b ≡ field_at s (8 * (i + 4)) 32
-    → bit_or (a * 2 ^ 32 % 2 ^ 64) b ≡ field_at s (8 * i) 64
-window_eight s i {a} {b} h ea eb =
-    let la : a < 2 ^ 32 = rw ea (field_at_lt s (8 * i) 32) in
-    let lb : b < 2 ^ 32 = rw eb (field_at_lt s (8 * (i + 4)) 32) in
-    let x : a * 2 ^ 32 % 2 ^ 64 ≡ a * 2 ^ 32 = omega arith in
-    let joined = window_join s i 4 32 (omega arith) in
-    ap (λ (z : ℕ). bit_or z b) x ∙ or_shifted a 32 b lb ∙ omega (arith, ea, eb, joined)
+-- one byte more
+pub window_more : (s : List ℕ) (i j : ℕ) {v b : ℕ} → i + j < length s → get_or s (i + j) 0 < 256 → v ≡ field_at s (8 * i) (8 * j) → b ≡ get_or s (i + j) 0
+    → v * 2 ^ 8 + b ≡ field_at s (8 * i) (8 * (j + 1))
+window_more s i j {v} {b} h l ev eb =
+    let e : 8 * (j + 1) ≡ 8 * j + 8 = omega arith in
+    rw (ev, eb, e, window_byte s (i + j) h l) (window_join s i j 8 (omega arith))
+
+-- n bytes from byte i on as one number, the first the highest
+joined : List ℕ → ℕ → ℕ → ℕ
+joined s i zero = 0
+joined s i (suc n) = joined s i n * 256 + get_or s (i + n) 0
+
+joined_is : (s : List ℕ) (i n : ℕ) → i + n ≤ length s → ((k : ℕ) → get_or s k 0 < 256) → joined s i n ≡ field_at s (8 * i) (8 * n)
+unfolding joined
+joined_is s i zero h bytes = sym (field_at_zero s (8 * i))
+joined_is s i (suc n) h bytes = rw add-one at (window_more s i n (omega arith) (bytes (i + n)) (joined_is s i n (omega arith) bytes) refl)
+
+-- eight of them
+pub window_eight : (s : List ℕ) (i : ℕ) (bs : List ℕ) → i + 8 ≤ length s → ((k : ℕ) → get_or s k 0 < 256) → bs ≡ take 8 (drop i s)
+    → from_be_bytes w64 bs ≡ field_at s (8 * i) 64
+unfolding joined
+window_eight s i bs h bytes is =
+    let item : (k : ℕ) → k < 8 → get_or bs k 0 ≡ get_or s (i + k) 0 = λ k l. ap (λ (x : List ℕ). get_or x k 0) is ∙ window_item s i 8 k l in
+    let sum : from_be_bytes w64 bs
+    ≡ get_or bs 0 0 * 256 ^ 7 + get_or bs 1 0 * 256 ^ 6 + get_or bs 2 0 * 256 ^ 5 + get_or bs 3 0 * 256 ^ 4 + get_or bs 4 0 * 256 ^ 3 + get_or bs 5 0 * 256 ^ 2 + get_or bs 6 0 * 256
+    + get_or bs 7 0
+    = refl in
+    let all : from_be_bytes w64 bs ≡ joined s i 8 =
+    sum ∙ omega (arith, item 0 (omega arith), item 1 (omega arith), item 2 (omega arith), item 3 (omega arith), item 4 (omega arith), item 5 (omega arith), item 6 (omega arith), item 7 (omega arith)) in
+    all ∙ joined_is s i 8 h bytes
 
 -- a field in a window of n bits
 pub window_field : (s : List ℕ) (p o w r n : ℕ) → o + w + r ≡ n → p + n ≤ 8 * length s → field_at s p n / 2 ^ r % 2 ^ w ≡ field_at s (p + o) w
@@ -102,17 +103,6 @@ window_past s p w h l =
     ∙ window_at s p w 64 (omega arith) l
 
 -- ---- a window byte by byte
-
--- a byte of the window is one of all
-pub window_item : (s : List ℕ) (i n j : ℕ) → j < n → get_or (take n (drop i s)) j 0 ≡ get_or s (i + j) 0
-window_item s i n j h = rw (get_or-take, get_or-drop)
-
--- one byte more
-pub window_more : (s : List ℕ) (i j : ℕ) {v b : ℕ} → i + j < length s → get_or s (i + j) 0 < 256 → v ≡ field_at s (8 * i) (8 * j) → b ≡ get_or s (i + j) 0
-    → v * 2 ^ 8 + b ≡ field_at s (8 * i) (8 * (j + 1))
-window_more s i j {v} {b} h l ev eb =
-    let e : 8 * (j + 1) ≡ 8 * j + 8 = omega arith in
-    rw (ev, eb, e, window_byte s (i + j) h l) (window_join s i j 8 (omega arith))
 
 -- a window of up to four bytes has room for one more in a number of 64 bits
 pub window_room : (s : List ℕ) (i j : ℕ) {v : ℕ} → j ≤ 4 → v ≡ field_at s (8 * i) (8 * j) → v < 2 ^ 32

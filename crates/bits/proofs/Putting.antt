@@ -1,10 +1,10 @@
 -- What a put does to the stream: the value's bits wait with the others, or four bytes of them are written; and what finishing writes.
-use Rattle.std.specs.Prelude.{ℕ, ◌+◌, ◌*◌, ◌/◌, ◌%◌, ◌^◌, ◌≤◌, ◌<◌, ◌≡◌, refl, List, ◌++◌, length, take, drop}
+use Rattle.std.specs.Prelude.{ℕ, ◌+◌, ◌-◌, ◌*◌, ◌/◌, ◌%◌, ◌^◌, ◌≤◌, ◌<◌, ◌≡◌, refl, List, ◌++◌, length, take, drop}
 use Rattle.plain.specs.Library.{sym, ap, ap₂, ◌∙◌, append_assoc, length-append, take_at, pow_pos, lt_of_lt_of_le, arith}
 use native.Mathlib.Nat.{mod-lt, mod-eq_of_lt}
 use lib.ListN.{length-take}
 use lib.Seq.{drop_at}
-use lib.Pow.{pow-add, pow_mono, shl_lt}
+use lib.Pow.{pow-add, pow_mono, shl_lt, shr_lt}
 use lib.Arith.{digits_lt}
 use Rattle.plain.specs.Bits.{bits_of, bits, padding}
 use Rattle.plain.proofs.Laws.Bits.{length_bits_of, bits_of_split, bits_of_ext, length_bits}
@@ -36,6 +36,10 @@ module _ {s : List ℕ} {p : Pen} {w v : ℕ} (h : Puts s p w v) where
   -- it is a number of 64 bits
   pub all_fits : all < 2 ^ 64
   all_fits = let l : p.count + w ≤ 64 = omega (arith, h.narrow, h.ready.few) in lt_of_lt_of_le all_small (pow_mono l)
+
+  -- its first four bytes are a number of 32 bits
+  pub front_fits : 32 ≤ p.count + w → all / 2 ^ (p.count + w - 32) < 2 ^ 32
+  front_fits many = let e : 32 + (p.count + w - 32) ≡ p.count + w = omega arith in shr_lt 32 (p.count + w - 32) (rw e all_small)
 
   -- fewer than four bytes
   pub put_waits : p.count + w < 32 → Penned s p (bits_of w v) s (record { at = p.at; pending = all; count = p.count + w })
@@ -72,6 +76,9 @@ module _ {s : List ℕ} {p : Pen} {w v : ℕ} (h : Puts s p w v) where
 pub waiting_fits : {p : Pen} {zeros : ℕ} → Ready p → p.count + zeros ≤ 32 → (zeros < 64) × (p.pending * 2 ^ zeros < 2 ^ 64)
 waiting_fits {p} {zeros} h few =
     let l : p.count + zeros ≤ 64 = omega arith in (omega arith, lt_of_lt_of_le (shl_lt p.count zeros h.small) (pow_mono l))
+
+pub waiting_small : {p : Pen} (zeros : ℕ) → Ready p → p.count + zeros ≤ 32 → p.pending * 2 ^ zeros < 2 ^ 32
+waiting_small {p} zeros h few = lt_of_lt_of_le (shl_lt p.count zeros h.small) (pow_mono few)
 
 -- as one number
 pub finishing : (p : Pen) {n zeros : ℕ} → n ≡ p.count + zeros → zeros ≡ padding (reach p)

@@ -10,7 +10,8 @@ ghost use Rattle.plain.specs.Numbers.{LIMIT};
 ghost use Rattle.plain.specs.Bits.{field_at, least_width};
 ghost use Rattle.bits.specs.Fields.{Room};
 
-// The width of a lot number, or of a transfer number, by how many there are: the weighing inspector's sheet, line by line.
+// The width of a lot number, or of a transfer number, by how many there are: the weighing inspector's sheet, line by line. It stays a table, as the documents ask for it
+// in the sheet's form.
 pub fn least_width(n: u32) -> u32
     requires { n ≤ LIMIT }
     ensures { result ≡ least_width n }
@@ -51,36 +52,6 @@ pub fn raise(x: u64, zeros: u32) -> u64
     x << zeros
 }
 
-// The byte at i, as a field.
-#[tactic(auto, using(crate::proofs::Fields::window_byte))]
-fn byte(bytes: &[u8], i: usize) -> u64
-    requires { i < length bytes.now }
-    ensures { result ≡ field_at bytes.now (8 * i) 8 }
-{
-    bytes[i] as u64
-}
-
-// The four bytes from i on: one expression of shifts and ors, which the compiler makes one load.
-#[tactic(auto, using(crate::proofs::Fields::window_four))]
-fn four_bytes(bytes: &[u8], i: usize) -> u64
-    requires { i + 4 ≤ length bytes.now }
-    ensures { result ≡ field_at bytes.now (8 * i) 32 }
-{
-    (byte(bytes, i) << 24)
-        | (byte(bytes, i + 1) << 16)
-        | (byte(bytes, i + 2) << 8)
-        | byte(bytes, i + 3)
-}
-
-// The eight bytes from i on: a window that holds a field of up to 32 bits, wherever in its first byte the field starts.
-#[tactic(auto, using(crate::proofs::Fields::window_eight))]
-fn eight_bytes(bytes: &[u8], i: usize) -> u64
-    requires { i + 8 ≤ length bytes.now }
-    ensures { result ≡ field_at bytes.now (8 * i) 64 }
-{
-    (four_bytes(bytes, i) << 32) | four_bytes(bytes, i + 4)
-}
-
 // A field out of the bytes that it lies in: for the last bytes, where a window of eight does not fit.
 fn read_bytewise(bytes: &[u8], position: usize, width: u32) -> u32
     requires { Room bytes.now position width }
@@ -96,17 +67,16 @@ fn read_bytewise(bytes: &[u8], position: usize, width: u32) -> u32
     cut(window, behind as u32, width) as u32
 }
 
-// The field of `width` bits at bit `position`.
+// The field of `width` bits at bit `position`: out of a window of eight bytes, which the compiler makes one load, and which holds a field of up to 32 bits wherever in its
+// first byte the field starts.
 pub fn read_field(bytes: &[u8], position: usize, width: u32) -> u32
     requires { Room bytes.now position width }
     ensures { result ≡ field_at bytes.now position width }
 {
-    let i = position / 8;
-    if i + 8 <= bytes.len() {
-        let offset = (position % 8) as u32;
-        // a shift of one first: a field of no bits at a byte's first bit would need one of 64
-        let window = eight_bytes(bytes, i) >> 1;
-        return cut(window, 63 - offset - width, width) as u32;
-    }
-    read_bytewise(bytes, position, width)
+    let Some(window) = bytes[position / 8..].first_chunk() else {
+        return read_bytewise(bytes, position, width);
+    };
+    let offset = (position % 8) as u32;
+    // a shift of one first: a field of no bits at a byte's first bit would need one of 64
+    cut(u64::from_be_bytes(*window) >> 1, 63 - offset - width, width) as u32
 }

@@ -16,66 +16,13 @@ pub struct Pen {
     pub count: u32,
 }
 
-// Writes the low byte of x at byte i.
-fn write_byte(bytes: &mut [u8], i: usize, x: u64)
-    requires { i < length bytes.old }
-    ensures { Wrote bytes.old (8 * i) (bits_of 8 x) bytes.new }
+// Writes the `count` low bytes of x from byte i on: at a count of four the compiler makes one store of it.
+fn write_low(bytes: &mut [u8], i: usize, x: u32, count: usize)
+    requires room { i + count ≤ length bytes.old }
+    requires few { count ≤ 4 }
+    ensures { Wrote bytes.old (8 * i) (bits_of (8 * count) x) bytes.new }
 {
-    bytes[i] = (x & 255) as u8;
-}
-
-// Writes the two low bytes of x from byte i on.
-fn write_two(bytes: &mut [u8], i: usize, x: u64)
-    requires { i + 2 ≤ length bytes.old }
-    ensures { Wrote bytes.old (8 * i) (bits_of 16 x) bytes.new }
-{
-    write_byte(bytes, i, x >> 8);
-    write_byte(bytes, i + 1, x);
-}
-
-// Writes the four low bytes of x from byte i on.
-fn write_four(bytes: &mut [u8], i: usize, x: u64)
-    requires { i + 4 ≤ length bytes.old }
-    ensures { Wrote bytes.old (8 * i) (bits_of 32 x) bytes.new }
-{
-    write_two(bytes, i, x >> 16);
-    write_two(bytes, i + 2, x);
-}
-
-// Puts a value behind what was put, in `width` bits.
-pub fn put(bytes: &mut [u8], pen: Pen, width: u32, value: u64) -> Pen
-    requires { Puts bytes.old pen width value }
-    ensures { Penned bytes.old pen (bits_of width value) bytes.new result }
-{
-    let at = pen.at;
-    let pending = raise(pen.pending, width) + value;
-    let count = pen.count + width;
-    if count < 32 {
-        return Pen { at, pending, count };
-    }
-    let left = count - 32;
-    write_four(bytes, at, pending >> left);
-    Pen {
-        at: at + 4,
-        pending: cut(pending, 0, left),
-        count: left,
-    }
-}
-
-// Writes what waits in the pen, and zero bits up to a byte.
-pub fn finish(bytes: &mut [u8], pen: Pen)
-    requires { Ready pen × (reach pen ≤ 8 * length bytes.old) }
-    ensures { Wrote bytes.old (8 * pen.at) (waiting pen ++ bits_of (padding (reach pen)) 0) bytes.new }
-{
-    let parts = pen.count.div_ceil(8);
-    let all = raise(pen.pending, 8 * parts - pen.count);
-    for part in 0..parts {
-        write_byte(
-            bytes,
-            pen.at + part as usize,
-            all >> (8 * (parts - 1 - part)),
-        );
-    }
+    bytes[i..i + count].copy_from_slice(&x.to_be_bytes()[4 - count..]);
 }
 
 // The pen over the bytes that it writes. A function that is lent a writer ensures that its bytes keep their ghost name, as `put` does: else its callers know nothing of
@@ -108,8 +55,21 @@ impl<'a> Writer<'a> {
         requires { Puts self.old.bytes.now self.old.pen width value }
         ensures { Written self.old (bits_of width value) self.new }
     {
+        let Pen { at, pending, count } = self.pen;
+        let pending = raise(pending, width) + value;
+        let count = count + width;
+        if count < 32 {
+            self.pen = Pen { at, pending, count };
+            return;
+        }
+        let left = count - 32;
         let bytes = &mut *self.bytes;
-        self.pen = put(bytes, self.pen, width, value);
+        write_low(bytes, at, (pending >> left) as u32, 4);
+        self.pen = Pen {
+            at: at + 4,
+            pending: cut(pending, 0, left),
+            count: left,
+        };
     }
 
     // Writes what waits in the pen, and zero bits up to a byte.
@@ -118,6 +78,8 @@ impl<'a> Writer<'a> {
         ensures { Wrote self.entry.bytes.now (8 * self.entry.pen.at) (waiting self.entry.pen ++ bits_of (padding (reach self.entry.pen)) 0) self.exit.0.now }
     {
         let Writer { bytes, pen } = self;
-        finish(bytes, pen);
+        let parts = pen.count.div_ceil(8);
+        let all = raise(pen.pending, 8 * parts - pen.count);
+        write_low(bytes, pen.at, all as u32, parts as usize);
     }
 }

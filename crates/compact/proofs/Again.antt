@@ -14,6 +14,7 @@ use Rattle.plain.specs.declared.Counts.{Counts}
 use Rattle.plain.specs.declared.Slots.{Slots}
 use Rattle.plain.specs.declared.TraversalDirection.{TraversalDirection}
 use Rattle.plain.specs.declared.TraversalDirection.TheVariants.{Outgoing, Incoming}
+use Rattle.plain.specs.Based.{based}
 use Rattle.plain.specs.Compaction.{survivors, of_survivors, compacted}
 use Rattle.plain.specs.Lists.{joined, from, written}
 use Rattle.plain.specs.Plain.{Plain, list_of}
@@ -27,7 +28,7 @@ use Rattle.shape.specs.Columns.{cell, end_at}
 use Rattle.shape.specs.Index.{Rewritten, before, ends_of}
 use Rattle.shape.specs.Shape.{Words, capacities, node_live, edge_live, axis_words, lists, node_capacity, edge_capacity}
 use Rattle.shape.proofs.Laws.Reading.{plain_node_bound, plain_edge_bound, plain_node_flags, plain_edge_flags}
-use Rattle.compact.specs.Bases.{Compactable, AxisCompacted, based}
+use Rattle.compact.specs.Bases.{Compactable, AxisCompacted}
 use Rattle.compact.specs.Calls.{AxisCanonical, Canonical}
 use Rattle.compact.specs.Dropping.{Droppable, Dropped}
 use Rattle.survivors.specs.Slots.{kept_word}

@@ -4,6 +4,7 @@ use Rattle.plain.specs.Library.{sym, ap, ap₂, subst, subst₂, ◌∙◌, map-
 use Rattle.plain.specs.declared.Counts.{Counts}
 use Rattle.plain.specs.declared.TraversalDirection.{TraversalDirection}
 use Rattle.plain.specs.declared.TraversalDirection.TheVariants.{Outgoing, Incoming}
+use Rattle.plain.specs.Based.{based}
 use Rattle.plain.specs.Compaction.{Survivors, rank, survivors, source_of, target_of}
 use Rattle.plain.specs.Lists.{joined, from}
 use Rattle.plain.specs.Reads.{live_count, live_slots}
@@ -18,7 +19,7 @@ use Rattle.shape.specs.Index.{Rewritten, ends_of}
 use Rattle.shape.specs.Kept.{AxisRenewed, Renewed, same_nodes, same_edges, same_highs, same_live_nodes, same_live_edges, same_axis}
 use Rattle.shape.specs.Shape.{Words, node_live, edge_live, axis_words, lists, node_capacity, edge_capacity}
 use Rattle.shape.specs.Laws.NewBase.{NewBase}
-use Rattle.compact.specs.Bases.{based, Compactable, AxisCompacted}
+use Rattle.compact.specs.Bases.{Compactable, AxisCompacted}
 use Rattle.compact.specs.Dropping.{Droppable, Dropped}
 use Rattle.survivors.specs.Slots.{kept_word, live_words_of}
 use Rattle.compact.specs.Laws.Bases.{rebuilt_base, rebuilt_renewed}

@@ -9,7 +9,7 @@ use Rattle.plain.proofs.Laws.Rank.{live_below, rank_live}
 use Rattle.shape.specs.Checked.{Checked, SlotsChecked}
 use Rattle.shape.specs.Columns.{end_at}
 use Rattle.shape.specs.Shape.{Words, axis_words, edge_capacity, edge_live, node_capacity, node_live}
-use Rattle.relocate.specs.Laws.Stores.{checked_end}
+use Rattle.shape.proofs.Laws.Ends.{checked_end}
 use Rattle.compact.specs.Bases.{AxisCompacted, Compactable}
 use Rattle.compact.specs.Dropping.{Droppable}
 use Rattle.survivors.specs.Slots.{Keepable, WeightsKeepable}

@@ -1,6 +1,5 @@
 -- What putting a new base into an axis, and compacting an axis, ask and promise.
 use Rattle.std.specs.Prelude.{ℕ, ◌*◌, ◌+◌, ◌<◌, ◌≤◌, ◌≡◌, false, true, List, get_or, length}
-use Rattle.plain.specs.declared.Slots.{Slots}
 use Rattle.plain.specs.Numbers.{NONE}
 use Rattle.plain.specs.Reads.{live_count}
 use Rattle.liveness.specs.Flags.{live_flags}
@@ -44,7 +43,3 @@ pub record AxisCompacted (ws : List ℕ) (ce cn : ℕ) (live : List ℕ) (bound 
   pub moves : Rewritten ws moved 0 m (kept_word ws (live_flags live bound))
   pub renumbers : Rewritten moved renumbered 0 m (translated_word moved node_map)
   pub rebuilds : Rebuilt renumbered ce cn n m entries ws'
-
--- the counts of slots that are all live and all in the base
-abbrev pub based : ℕ → Slots
-based n = record { bound = n; base = n; live = n }

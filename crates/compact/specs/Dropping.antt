@@ -1,5 +1,6 @@
 -- What dropping the dead slots asks and promises.
 use Rattle.std.specs.Prelude.{ℕ, ◌*◌, ◌≤◌, ◌≡◌, false, true, List, drop, get_or, length}
+use Rattle.plain.specs.Based.{based}
 use Rattle.plain.specs.Compaction.{rank}
 use Rattle.plain.specs.Reads.{live_count}
 use Rattle.liveness.specs.Calls.{Reset}
@@ -7,7 +8,7 @@ use Rattle.shape.specs.Checked.{Checked}
 use Rattle.shape.specs.Index.{Rewritten}
 use Rattle.shape.specs.Kept.{SameLengths}
 use Rattle.shape.specs.Shape.{Words, edge_capacity, edge_live, node_capacity, node_live}
-use Rattle.compact.specs.Bases.{AxisCompacted, based}
+use Rattle.compact.specs.Bases.{AxisCompacted}
 use Rattle.survivors.specs.Slots.{WeightsKept, kept_word}
 
 -- A checked store, the number of every live node in the node map, and room for both directions' lists.

@@ -1,27 +1,19 @@
--- What a compaction answers before it begins; and what compacting a checked store asks and promises, with its answers: the two maps, the work slice, and the store
--- without its dead slots.
-use Rattle.std.specs.Prelude.{ℕ, ◌*◌, ◌≤◌, ◌<◌, ◌≡◌, List, length}
-use Rattle.plain.specs.declared.Answer.{Answer}
+-- The slices that a compaction is lent, by the counts of its store; and what compacting a checked store asks and promises, with its answers: the two maps, the work
+-- slice, and the store without its dead slots.
+use Rattle.std.specs.Prelude.{ℕ, ◌*◌, ◌≤◌, ◌≡◌, List, [], ◌∷◌, length}
 use Rattle.plain.specs.declared.Counts.{Counts}
-use Rattle.plain.specs.Numbers.{done, no_store, too_short}
 use Rattle.plain.specs.Compaction.{adjacency, renumbering, survivors}
 use Rattle.plain.specs.Lists.{written}
+use Rattle.plain.specs.Memory.{Slice}
 use Rattle.shape.specs.Checked.{Checked}
 use Rattle.shape.specs.Shape.{Words, edge_live, lists, node_live}
 use Rattle.compact.specs.Dropping.{Dropped}
 
--- "1, then 2 in that order" of the node map, the edge map and the work slice, by the rule that the store breaks, its counts and their lengths; else 0.
-pub data Opening (rule : ℕ) (counts : Counts) (node_map edge_map work : ℕ) : Answer → Type 0 where
-  -- "words are no store | 1 | rule 1 to 7 | everything"
-  unsound : (rule ≡ 0 → ⊥) → Opening rule counts node_map edge_map work (record { number = no_store; value = rule })
-  -- "a lent slice too short | 2 | length needed | everything"
-  nodes_short : rule ≡ 0 → node_map < counts.nodes.bound → Opening rule counts node_map edge_map work (record { number = too_short; value = counts.nodes.bound })
-  edges_short : rule ≡ 0 → counts.nodes.bound ≤ node_map → edge_map < counts.edges.bound
-      → Opening rule counts node_map edge_map work (record { number = too_short; value = counts.edges.bound })
-  work_short : rule ≡ 0 → counts.nodes.bound ≤ node_map → counts.edges.bound ≤ edge_map → work < 2 * counts.edges.live
-      → Opening rule counts node_map edge_map work (record { number = too_short; value = 2 * counts.edges.live })
-  opens : rule ≡ 0 → counts.nodes.bound ≤ node_map → counts.edges.bound ≤ edge_map → 2 * counts.edges.live ≤ work
-      → Opening rule counts node_map edge_map work (record { number = done; value = 0 })
+-- "A node map and an edge map, as long as the bounds before, and a work slice of twice the live edge count", with the lengths that are lent
+abbrev pub lent_slices : Counts → ℕ → ℕ → ℕ → List Slice
+lent_slices counts node_map edge_map work =
+    record { needs = counts.nodes.bound; has = node_map } ∷ record { needs = counts.edges.bound; has = edge_map }
+    ∷ record { needs = 2 * counts.edges.live; has = work } ∷ []
 
 -- A checked store, "a node map and an edge map, as long as the bounds before, and a work slice of twice the live edge count".
 pub record Settleable (w : Words) (node_map edge_map work : List ℕ) : Type 0 where

@@ -13,11 +13,11 @@ use std::marker::Model;
 // The listed edges that are left, seen as their list.
 #[derive(Drop)]
 pub struct AdjacentEdges<'a> {
-    entries: Entries<'a>,
+    pub(crate) entries: Entries<'a>,
     // Whether some edge is removed: if not, no live bit is read.
-    tombstoned: bool,
-    live: &'a [u64],
-    slots: usize,
+    pub(crate) tombstoned: bool,
+    pub(crate) live: &'a [u64],
+    pub(crate) slots: usize,
 }
 
 impl<'a> Model for AdjacentEdges<'a> {

@@ -26,7 +26,8 @@ pub struct AdjacencyCursor {
     pub delta_last: u32,
 }
 
-// Where a walk starts, and whether it reads a run.
+// Where a walk starts, and whether it reads a run. That stands beside the cursor, and not in an enum of both kinds of part, since a cursor is four numbers in the
+// layout for C.
 #[repr(C)]
 #[derive(Clone, Copy)]
 pub struct Start {

@@ -1,6 +1,6 @@
 // What is read of the listed edges of a walk: the edges or their ends written to a slice, the sums of their weights, and the first that ends at a node.
 
-ghost use Rattle.std.specs.Prelude.{◌*◌, ◌≤◌, ◌≡◌, map, length, unwrap_or};
+ghost use Rattle.std.specs.Prelude.{◌*◌, ◌^◌, ◌≤◌, ◌<◌, ◌≡◌, map, length, unwrap_or};
 ghost use Rattle.plain.specs.Numbers.{NONE as none};
 ghost use Rattle.plain.specs.Lists.{keep, written};
 ghost use Rattle.liveness.specs.Flags.{live_flags};
@@ -14,15 +14,34 @@ use crate::is_listed;
 use plain::Sums;
 
 impl<'a> AdjacentEdges<'a> {
+    // How many edges are left. It goes along the entries itself, as writing does: where one entry in eight is removed, a search for each next edge took three
+    // times as long.
+    pub fn count(self) -> usize
+        requires { length self < 2 ^ 64 }
+        ensures { result ≡ length self.entry }
+    {
+        let (tombstoned, live, slots) = (self.tombstoned, self.live, self.slots);
+        let mut count = 0;
+        for edge in self.entries {
+            if is_listed(tombstoned, live, slots, edge) {
+                count += 1;
+            }
+        }
+        count
+    }
+
     // Writes the edges to the start of `out`, and answers how many they are.
     pub fn write(self, out: &mut [u32]) -> usize
         requires { length self ≤ length out.old }
         ensures { ListWritten self.entry out.old result out.new }
     {
+        let (tombstoned, live, slots) = (self.tombstoned, self.live, self.slots);
         let mut n = 0;
-        for edge in self {
-            out[n] = edge;
-            n += 1;
+        for edge in self.entries {
+            if is_listed(tombstoned, live, slots, edge) {
+                out[n] = edge;
+                n += 1;
+            }
         }
         n
     }

@@ -2,13 +2,13 @@
 -- answer rules 4 to 6.
 use Rattle.std.specs.Prelude.{ℕ, ◌+◌, ◌-◌, ◌*◌, ◌^◌, ◌≤◌, ◌<◌, ◌≡◌, refl, Bool, true, false, cond, ◌&&◌, List, [], ◌∷◌, map, length, get_or, eqb, leb, ltb}
 use Rattle.plain.specs.Library.{sym, ap, ap₂, subst, ◌∙◌, inl, inr, arith, leb-true, ltb-true, lt-ltb, eqb-true, eqb-false}
-use native.Mathlib.Nat.{mul-le-mul, mul-le-mul_left}
+use native.Mathlib.Nat.{mul-le-mul}
 use borrow.Author.Tests.{leb-false, ltb-false}
 use Rattle.plain.specs.Numbers.{LIMIT}
 use Rattle.plain.specs.Lists.{member, distinct, all, from}
 use Rattle.plain.specs.Compaction.{source_of, target_of}
 use Rattle.plain.specs.Bits.{field_at, fields_at, bytes_for, least_width}
-use Rattle.plain.specs.Image.{weight_width, nodes_in, edges_in, edges_start, outs_start, image_size, record_width, cut, list_lengths, parsed, lists_right, broken_image}
+use Rattle.plain.specs.Image.{weight_width, nodes_in, edges_in, edges_start, outs_start, image_size, cut, list_lengths, parsed, lists_right, broken_image}
 use Rattle.plain.proofs.Laws.Booleans.{by_test, true_false}
 use Rattle.plain.proofs.Laws.ListLaws.{all_member, map_same, member_first, member_later, member_below}
 use Rattle.plain.specs.Laws.Below.{Below}
@@ -20,7 +20,7 @@ use Rattle.plain.proofs.Laws.Ascending.{right_by_order}
 use Rattle.plain.specs.Laws.Refusals.{Counted, Sized, Padded, Ended, sources_in, targets_in, lows_in, highs_in, size_in, padding_in}
 use Rattle.plain.proofs.Laws.Refusals.{length_edges_in, refused_3, refused_4, refused_5, refused_6, accepted}
 use Rattle.image_check.specs.Laws.Spread.{spread_at, sources_spread, targets_spread, lows_spread, highs_spread}
-use Rattle.image_check.specs.Checks.{field_in, end_in, ends_within, weights_ordered, ordered, Few, Filled, Column, Ends, Weights, Entries, Whole}
+use Rattle.image_check.specs.Checks.{field_in, end_in, ends_within, weights_ordered, ordered, Few, Filled, Ends, Weights, Entries, Whole}
 
 -- ---- sizes
 
@@ -35,12 +35,6 @@ small n m f =
     let a : least_width n * m ≤ 32 * LIMIT = mul-le-mul (width_most n) f.edges in
     let b : least_width m * m ≤ 32 * LIMIT = mul-le-mul (width_most m) f.edges in
     record { nodes = a; edges = b; size = omega arith }
-
--- the records of fewer edges
-pub column_fewer : {bytes : List ℕ} {at w width m : ℕ} (e : ℕ) → Column bytes at w width m → e < m → Column bytes at w width (e + 1)
-column_fewer {bytes} {at} {w} {width} {m} e t h =
-    let fewer : record_width w * (e + 1) ≤ record_width w * m = mul-le-mul_left (record_width w) (omega arith) in
-    record { narrow = t.narrow; within = omega arith; small = t.small }
 
 -- ---- rules 1 to 3
 

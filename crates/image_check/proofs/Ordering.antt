@@ -8,7 +8,7 @@ use Rattle.plain.proofs.Laws.Booleans.{and_false}
 use Rattle.plain.specs.Laws.Ascending.{ascending}
 use Rattle.marks.specs.Marks.{marked, Marked, passes}
 use Rattle.marks.specs.Laws.Fresh.{clear_map, fresh_clear, passes_none, passes_fails, passes_marked, passes_more}
-use Rattle.image_check.specs.Checks.{end_in, ordered}
+use Rattle.image_check.specs.Checks.{ordered}
 
 -- ---- fields, one after the other
 
@@ -72,26 +72,26 @@ module _ (end : ℕ → ℕ) (m : ℕ) where
 -- ---- the loop
 
 -- The entries from number i on decide, the first of which stands at bit `at`; those before are marked, and `last` is the last one's end.
-pub record Ordering (bytes : List ℕ) (ends w list v m : ℕ) (seen : List ℕ) (last at i : ℕ) : Type 0 where
-  pub answers : ordered (end_in bytes ends w) m (fields_at bytes list v m) ≡ right_from (end_in bytes ends w) m (marked seen) last (fields_at bytes at v (m - i))
+pub record Ordering (bytes : List ℕ) (value : ℕ → ℕ) (list v m : ℕ) (seen : List ℕ) (last at i : ℕ) : Type 0 where
+  pub answers : ordered value m (fields_at bytes list v m) ≡ right_from value m (marked seen) last (fields_at bytes at v (m - i))
   pub long : length seen ≡ 512
   pub room : at + v * (m - i) ≤ 8 * length bytes
 
-module _ (bytes : List ℕ) (ends w list v m : ℕ) where
+module _ (bytes : List ℕ) (value : ℕ → ℕ) (list v m : ℕ) where
   -- at the start
-  pub order_start : list + v * m ≤ 8 * length bytes → Ordering bytes ends w list v m (replicate 512 0) 0 (list + v * 0) 0
+  pub order_start : list + v * m ≤ 8 * length bytes → Ordering bytes value list v m (replicate 512 0) 0 (list + v * 0) 0
   order_start room = let first : list + v * 0 ≡ list = omega arith in rw first record {
-    answers = right_first (end_in bytes ends w) m (marked (replicate 512 0)) (fields_at bytes list v m) (clear_map 512)
-        ∙ ap (λ (z : ℕ). right_from (end_in bytes ends w) m (marked (replicate 512 0)) 0 (fields_at bytes list v z)) (omega arith);
+    answers = right_first value m (marked (replicate 512 0)) (fields_at bytes list v m) (clear_map 512)
+        ∙ ap (λ (z : ℕ). right_from value m (marked (replicate 512 0)) 0 (fields_at bytes list v z)) (omega arith);
     long = refl;
     room = rw sub-zero room;
   }
 
-module _ {bytes : List ℕ} {ends w list v m : ℕ} {seen : List ℕ} {last at i : ℕ} (o : Ordering bytes ends w list v m seen last at i) where
+module _ {bytes : List ℕ} {value : ℕ → ℕ} {list v m : ℕ} {seen : List ℕ} {last at i : ℕ} (o : Ordering bytes value list v m seen last at i) where
   -- no entry is left
-  pub order_done : m ≤ i → true ≡ ordered (end_in bytes ends w) m (fields_at bytes list v m)
+  pub order_done : m ≤ i → true ≡ ordered value m (fields_at bytes list v m)
   order_done l =
-      sym (o.answers ∙ ap (right_from (end_in bytes ends w) m (marked seen) last) (fields_none bytes at v i m l) ∙ right_none (end_in bytes ends w) m (marked seen) last)
+      sym (o.answers ∙ ap (right_from value m (marked seen) last) (fields_none bytes at v i m l) ∙ right_none value m (marked seen) last)
 
   module _ (l : i < m) where
     -- there is room for an entry
@@ -100,33 +100,33 @@ module _ {bytes : List ℕ} {ends w list v m : ℕ} {seen : List ℕ} {last at i
 
     module _ {e : ℕ} (read : e ≡ field_at bytes at v) where
       -- what the entry and those after it decide
-      at_entry : ordered (end_in bytes ends w) m (fields_at bytes list v m)
-          ≡ right_from (end_in bytes ends w) m (marked seen) last (e ∷ fields_at bytes (at + v) v (m - (i + 1)))
-      at_entry = o.answers ∙ ap (right_from (end_in bytes ends w) m (marked seen) last)
+      at_entry : ordered value m (fields_at bytes list v m)
+          ≡ right_from value m (marked seen) last (e ∷ fields_at bytes (at + v) v (m - (i + 1)))
+      at_entry = o.answers ∙ ap (right_from value m (marked seen) last)
           (fields_more bytes at v i m l ∙ ap (λ (z : ℕ). z ∷ fields_at bytes (at + v) v (m - (i + 1))) (sym read))
 
       -- the entry is not below m
-      pub order_past : m ≤ e → false ≡ ordered (end_in bytes ends w) m (fields_at bytes list v m)
-      order_past h = sym (at_entry ∙ right_past (end_in bytes ends w) m (marked seen) last e _ (le-ltb e m h))
+      pub order_past : m ≤ e → false ≡ ordered value m (fields_at bytes list v m)
+      order_past h = sym (at_entry ∙ right_past value m (marked seen) last e _ (le-ltb e m h))
 
-      module _ {end : ℕ} (there : end ≡ end_in bytes ends w e) where
+      module _ {end : ℕ} (there : end ≡ value e) where
         -- its end is lower than the last
-        pub order_descends : end < last → false ≡ ordered (end_in bytes ends w) m (fields_at bytes list v m)
-        order_descends h = sym (at_entry ∙ right_descends (end_in bytes ends w) m (marked seen) last e _ (ap (leb last) (sym there) ∙ lt-leb last end h))
+        pub order_descends : end < last → false ≡ ordered value m (fields_at bytes list v m)
+        order_descends h = sym (at_entry ∙ right_descends value m (marked seen) last e _ (ap (leb last) (sym there) ∙ lt-leb last end h))
 
         -- it is right
         pub order_more : {exit : List ℕ} {answer : Bool} → e < m → last ≤ end → Marked seen e answer exit → answer ≡ true → length exit ≡ length seen
-            → Ordering bytes ends w list v m exit end (at + v) (i + 1)
+            → Ordering bytes value list v m exit end (at + v) (i + 1)
         order_more {exit} h k s a long = record {
-          answers = at_entry ∙ right_more (end_in bytes ends w) m (marked seen) last e _ (marked exit) s.marks (lt-ltb e m h) (ap (leb last) (sym there) ∙ le-leb last end k)
+          answers = at_entry ∙ right_more value m (marked seen) last e _ (marked exit) s.marks (lt-ltb e m h) (ap (leb last) (sym there) ∙ le-leb last end k)
               (not-true (marked seen e) (sym s.answers ∙ a))
-              ∙ ap (λ (z : ℕ). right_from (end_in bytes ends w) m (marked exit) z (fields_at bytes (at + v) v (m - (i + 1)))) (sym there);
+              ∙ ap (λ (z : ℕ). right_from value m (marked exit) z (fields_at bytes (at + v) v (m - (i + 1)))) (sym there);
           long = long ∙ o.long;
           room = omega (arith, bits_more v i m l, o.room);
         }
 
       -- it is marked already
       pub order_marked : {exit : List ℕ} {answer : Bool} → Marked seen e answer exit → answer ≡ false
-          → false ≡ ordered (end_in bytes ends w) m (fields_at bytes list v m)
+          → false ≡ ordered value m (fields_at bytes list v m)
       order_marked s a =
-          sym (at_entry ∙ right_marked (end_in bytes ends w) m (marked seen) last e _ (not-false (marked seen e) (sym s.answers ∙ a)))
+          sym (at_entry ∙ right_marked value m (marked seen) last e _ (not-false (marked seen e) (sym s.answers ∙ a)))

@@ -1,3 +1,4 @@
 pub mod Checks
+pub mod Columns
 pub mod Spread
 pub mod Laws

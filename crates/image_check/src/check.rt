@@ -2,15 +2,16 @@
 // entries of a direction: they are right exactly when they are below m, none comes twice, and their ends do not descend. As in document 01, w is the width of a
 // node's number and v that of an edge's.
 
-ghost use Rattle.std.specs.Prelude.{◌+◌, ◌-◌, ◌*◌, ◌≡◌, length, eqb};
+ghost use Rattle.std.specs.Prelude.{◌-◌, ◌*◌, ◌≡◌, length, eqb};
 ghost use Rattle.plain.specs.Bits.{field_at, fields_at};
 ghost use Rattle.plain.specs.Image.{broken_image};
 ghost use Rattle.plain.specs.Refusals.{image_rule_of};
-ghost use Rattle.image_check.specs.Checks.{Filled, Column, Ends, Weights, Entries, Whole, field_in, end_in, ends_within, weights_ordered, ordered};
+ghost use Rattle.image_check.specs.Checks.{Filled, Whole, ordered};
+ghost use Rattle.image_check.specs.Columns.{Listed, value, values_below, values_ordered};
 
+use crate::columns::RecordField;
 use crate::places::{
-    COUNT_WIDTH, EDGE_COUNT_START, EDGE_PAYLOAD_WIDTH, WEIGHT_WIDTH, edges_start, image_bytes,
-    lists_size, outs_start,
+    COUNT_WIDTH, EDGE_COUNT_START, WEIGHT_WIDTH, edges_start, image_bytes, lists_size, outs_start,
 };
 use bits::{least_width, read_field};
 use marks::mark;
@@ -25,40 +26,26 @@ fn padding_clear(bytes: &[u8], size: usize) -> bool
     read_field(bytes, size, (8 * bytes.len() - size) as u32) == 0
 }
 
-// A field of an edge's record, of `width` bits; that of the first edge stands at bit `at`.
-fn field_of(bytes: &[u8], at: usize, w: u32, width: u32, edge: u32) -> u32
-    requires { Column bytes.now at w width (edge + 1) }
-    ensures { result ≡ field_in bytes.now at w width edge }
+// Rule 5 of one direction: no edge's end is not below n.
+fn ends_below(ends: RecordField, n: u32) -> bool
+    ensures { result ≡ values_below ends.entry n }
 {
-    read_field(
-        bytes,
-        at + (2 * w as usize + EDGE_PAYLOAD_WIDTH as usize) * edge as usize,
-        width,
-    )
-}
-
-// Rule 5 of one direction: the ends of the m edges are below n.
-fn ends_below(bytes: &[u8], at: usize, w: u32, n: u32, m: u32) -> bool
-    requires { Ends bytes.now at w m }
-    ensures { result ≡ ends_within bytes.now at w n m }
-{
-    for edge in 0..m {
-        if field_of(bytes, at, w, w, edge) >= n {
+    for edge in 0..ends.edges {
+        if ends.get(edge) >= n {
             return false;
         }
     }
     true
 }
 
-// Rule 5 of the weights: the low of none of the m edges is above its high. The first low stands at bit `at`.
-fn weights_right(bytes: &[u8], at: usize, w: u32, m: u32) -> bool
-    requires { Weights bytes.now at w m }
-    ensures { result ≡ weights_ordered bytes.now at w m }
+// Rule 5 of the weights: no edge's low is above its high.
+fn weights_right(lows: RecordField, highs: RecordField) -> bool
+    requires { highs.edges ≡ lows.edges }
+    ensures { result ≡ values_ordered lows.entry highs.entry }
 {
-    let highs = at + WEIGHT_WIDTH as usize;
-    for edge in 0..m {
-        let low = field_of(bytes, at, w, WEIGHT_WIDTH, edge);
-        let high = field_of(bytes, highs, w, WEIGHT_WIDTH, edge);
+    for edge in 0..lows.edges {
+        let low = lows.get(edge);
+        let high = highs.get(edge);
         if low > high {
             return false;
         }
@@ -66,19 +53,19 @@ fn weights_right(bytes: &[u8], at: usize, w: u32, m: u32) -> bool
     true
 }
 
-// Rule 6 of one direction: the m entries from bit `list` on are below m, none comes twice, and their ends, the first of which stands at bit `ends`, do not descend.
-fn lists_right(bytes: &[u8], ends: usize, w: u32, list: usize, v: u32, m: u32) -> bool
-    requires { Entries bytes.now ends w list v m }
-    ensures { result ≡ ordered (end_in bytes.now ends w) m (fields_at bytes.now list v m) }
+// Rule 6 of one direction: the entries from bit `list` on, one of each edge, are below the edge count, none comes twice, and their ends do not descend.
+fn lists_right(ends: RecordField, list: usize, v: u32) -> bool
+    requires { Listed ends list v }
+    ensures { result ≡ ordered (value ends.entry) ends.entry.edges (fields_at ends.entry.bytes.now list v ends.entry.edges) }
 {
     let mut seen = [0u64; 512];
     let mut last: u32 = 0;
-    for i in 0..m {
-        let edge = read_field(bytes, list + v as usize * i as usize, v);
-        if edge >= m {
+    for i in 0..ends.edges {
+        let edge = read_field(ends.bytes, list + v as usize * i as usize, v);
+        if edge >= ends.edges {
             return false;
         }
-        let end = field_of(bytes, ends, w, w, edge);
+        let end = ends.get(edge);
         if end < last {
             return false;
         }
@@ -97,28 +84,54 @@ fn broken_content(bytes: &[u8], n: u32, m: u32) -> Result<(), ImageRule>
 {
     let w = least_width(n);
     let v = least_width(m);
-    let sources = edges_start(n);
-    let targets = sources + w as usize;
-    let weights = targets + w as usize;
+    let records = edges_start(n);
     let size = lists_size(m);
     let outs = outs_start(n, m);
     let ins = outs + size;
+    let sources = RecordField {
+        bytes,
+        at: records,
+        w,
+        width: w,
+        edges: m,
+    };
+    let targets = RecordField {
+        bytes,
+        at: sources.at + w as usize,
+        w,
+        width: w,
+        edges: m,
+    };
+    let lows = RecordField {
+        bytes,
+        at: targets.at + w as usize,
+        w,
+        width: WEIGHT_WIDTH,
+        edges: m,
+    };
+    let highs = RecordField {
+        bytes,
+        at: lows.at + WEIGHT_WIDTH as usize,
+        w,
+        width: WEIGHT_WIDTH,
+        edges: m,
+    };
     if !padding_clear(bytes, ins + size) {
         return Err(ImageRule::Padding);
     }
-    if !ends_below(bytes, sources, w, n, m) {
+    if !ends_below(sources, n) {
         return Err(ImageRule::Records);
     }
-    if !ends_below(bytes, targets, w, n, m) {
+    if !ends_below(targets, n) {
         return Err(ImageRule::Records);
     }
-    if !weights_right(bytes, weights, w, m) {
+    if !weights_right(lows, highs) {
         return Err(ImageRule::Records);
     }
-    if !lists_right(bytes, sources, w, outs, v, m) {
+    if !lists_right(sources, outs, v) {
         return Err(ImageRule::Lists);
     }
-    if !lists_right(bytes, targets, w, ins, v, m) {
+    if !lists_right(targets, ins, v) {
         return Err(ImageRule::Lists);
     }
     Ok(())

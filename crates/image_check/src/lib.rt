@@ -3,4 +3,5 @@
 #![tactic(auto)]
 
 pub mod check;
+mod columns;
 pub mod places;

@@ -1,4 +1,5 @@
 mod Directions
+mod Counting
 mod Reading
 mod Answering
 mod ReadCases

@@ -8,7 +8,7 @@ use Rattle.plain.specs.declared.Counts.{Counts}
 use Rattle.plain.specs.Lists.{from}
 use Rattle.plain.specs.Bits.{fields_at, least_width}
 use Rattle.plain.specs.Compaction.{EdgeRecord, source_of, target_of}
-use Rattle.plain.specs.Image.{count_width, node_payload_width, weight_width, edge_payload_width, record_width, nodes_in, edges_in, nodes_start, edges_start, outs_start, ins_start, image_size, cut, list_lengths, parsed, broken_image}
+use Rattle.plain.specs.Image.{node_payload_width, weight_width, edge_payload_width, record_width, nodes_in, edges_in, nodes_start, edges_start, outs_start, ins_start, image_size, cut, list_lengths, parsed}
 use Rattle.plain.specs.Memory.{Lengths, axis_length}
 use Rattle.plain.specs.WellFormed.{Fitted, Sound}
 use Rattle.plain.proofs.Laws.Bits.{length_fields_at}
@@ -25,9 +25,8 @@ use Rattle.shape.specs.Kept.{AxisRenewed, Renewed, same_nodes, same_edges, same_
 use Rattle.shape.specs.Laws.NewBase.{NewBase}
 use Rattle.survivors.proofs.Laws.Slots.{rewritten_range}
 use Rattle.compact.specs.Laws.Bases.{rebuilt_renewed}
-use Rattle.compact.specs.Bases.{based}
+use Rattle.plain.specs.Based.{based}
 use Rattle.compact.specs.Laws.Holding.{front, Holding, reset_same, reset_word, sized_as}
-use Rattle.bits.specs.Fields.{Room}
 use Rattle.image_check.specs.Spread.{spread, SpreadFits}
 use Rattle.image_read.specs.Directions.{AxisReadable, AxisRead}
 use Rattle.image_read.specs.Reading.{Accepted, PayloadsReadable, PayloadsRead, AxesReadable, AxesRead, ImagePlaced}
@@ -50,12 +49,6 @@ pub reset_of : {entry exit : List ℕ} {n n' : ℕ} → n ≡ n' → Reset entry
 reset_of {entry} {exit} a r = subst (λ (n : ℕ). Reset entry n exit) a r
 
 -- ---- what the calls ask
-
--- the counts are there to be read
-pub count_room : (bytes : List ℕ) → broken_image bytes ≡ 0 → (position : ℕ) → position ≤ count_width → Room bytes position count_width
-count_room bytes image position h =
-    let four = (readable bytes image).ended.padded.sized.counted.four in
-    record { narrow = omega arith; within = omega arith; counted = omega arith }
 
 module _ {l : Lengths} {bytes : List ℕ} (a : Accepted l bytes) where
   abbrev n : ℕ

@@ -10,7 +10,7 @@ use Rattle.liveness.specs.Calls.{Reset}
 use Rattle.shape.specs.Shape.{Words, node_capacity, edge_capacity}
 use Rattle.shape.specs.Kept.{SameLengths}
 use Rattle.shape.specs.Index.{Rewritten}
-use Rattle.compact.specs.Bases.{based}
+use Rattle.plain.specs.Based.{based}
 use Rattle.image_check.specs.Spread.{spread, SpreadFits}
 use Rattle.image_read.specs.Directions.{AxisReadable, AxisRead}
 

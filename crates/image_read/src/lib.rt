@@ -3,25 +3,32 @@
 
 #![tactic(auto)]
 
-ghost use Rattle.std.specs.Prelude.{◌≡◌, length};
+mod whole;
+
+ghost use Rattle.std.specs.Prelude.{◌≡◌};
+ghost use Rattle.plain.specs.Answers.{done_of};
 ghost use Rattle.plain.specs.Bits.{fields_at};
-ghost use Rattle.plain.specs.Devices.{box, skid, Proper};
 ghost use Rattle.plain.specs.Calls.{read_image};
-ghost use Rattle.memory.specs.Lengths.{lengths, measured, device_of};
-ghost use Rattle.shape.specs.Lent.{at_entry, at_exit};
+ghost use Rattle.memory.specs.Lengths.{measured, device_of};
 ghost use Rattle.shape.specs.Index.{Rewritten};
+ghost use Rattle.shape.specs.Shape.{lengths_of};
+ghost use Rattle.shape.specs.Stores.{SameSlices, words_mut};
 ghost use Rattle.compact.specs.Bases.{Rebuilt};
 ghost use Rattle.image_check.specs.Spread.{spread, SpreadFits};
 ghost use Rattle.image_read.specs.Directions.{BaseReadable, AxisReadable, AxisRead};
 ghost use Rattle.image_read.specs.Calls.{ReadOf};
 ghost use Rattle.image_read.specs.Reading.{Accepted, WeightsReadable, WeightsRead, PayloadsReadable, PayloadsRead, AxesReadable, AxesRead, ImagePlaced};
 
+use crate::whole::Image;
 use adjacency::index;
-use compact;
-use image_check::{check, places};
-use liveness;
-use memory::{Lengths, Limits};
-use plain::{Answer, Changed, Counts, NONE};
+use bits::{least_width, read_field};
+use image_check::check::first_broken;
+use image_check::places;
+use liveness::reset_all_live;
+use memory::{Device, Lengths, check_reading};
+use plain::refusals::Refusal;
+use plain::{Counts, NONE, Slots};
+use shape::StoreMut;
 
 // Reads `count` fields of `width` bits, the first at bit `position` and each `stride` bits further, into words from `at` on.
 fn read_fields(
@@ -37,11 +44,9 @@ fn read_fields(
     ensures { Rewritten words.old words.new at count (spread bytes.now position stride width) }
 {
     let mut from = position;
-    let mut i: usize = 0;
-    while i < count {
-        words[at + i] = bits::read_field(bytes, from, width);
+    for i in 0..count {
+        words[at + i] = read_field(bytes, from, width);
         from += stride;
-        i += 1;
     }
 }
 
@@ -78,90 +83,56 @@ fn read_axis(
     axis: &mut [u32],
     edge_capacity: usize,
     node_capacity: usize,
-    count_nodes: u32,
-    count_edges: u32,
-    bytes: &[u8],
+    image: &Image,
     ends: usize,
     lists: usize,
 )
-    requires { AxisReadable axis.old edge_capacity node_capacity count_nodes count_edges bytes.now ends lists }
-    ensures { AxisRead axis.old edge_capacity node_capacity count_nodes count_edges bytes.now ends lists axis.new }
+    requires { AxisReadable axis.old edge_capacity node_capacity image.now.nodes image.now.edges image.now.bytes.now ends lists }
+    ensures { AxisRead axis.old edge_capacity node_capacity image.now.nodes image.now.edges image.now.bytes.now ends lists axis.new }
 {
-    let n = count_nodes as usize;
-    let m = count_edges as usize;
-    let node_width = bits::least_width(count_nodes);
-    let edge_width = bits::least_width(count_edges);
-    let stride = places::record_width(count_nodes);
-    read_fields(bytes, ends, stride, node_width, axis, 0, m);
+    let n = image.nodes as usize;
+    let m = image.edges as usize;
+    let node_width = least_width(image.nodes);
+    let edge_width = least_width(image.edges);
+    let stride = places::record_width(image.nodes);
+    read_fields(image.bytes, ends, stride, node_width, axis, 0, m);
     read_base(
         axis,
         edge_capacity,
         node_capacity,
         n,
         m,
-        bytes,
+        image.bytes,
         lists,
         edge_width,
     );
 }
 
 // Reads the weights of the edges out of their records: the lows, and the highs, each behind its low.
-fn read_weights(
-    lows: &mut [u32],
-    highs: &mut [u32],
-    bytes: &[u8],
-    count_nodes: u32,
-    count_edges: u32,
-)
-    requires { WeightsReadable lows.old highs.old bytes.now count_nodes count_edges }
-    ensures { WeightsRead lows.old highs.old bytes.now count_nodes count_edges lows.new highs.new }
+fn read_weights(lows: &mut [u32], highs: &mut [u32], image: &Image)
+    requires { WeightsReadable lows.old highs.old image.now.bytes.now image.now.nodes image.now.edges }
+    ensures { WeightsRead lows.old highs.old image.now.bytes.now image.now.nodes image.now.edges lows.new highs.new }
 {
-    let width = bits::least_width(count_nodes) as usize;
-    let stride = places::record_width(count_nodes);
-    let first = places::edges_start(count_nodes) + (width + width);
-    read_fields(
-        bytes,
-        first,
-        stride,
-        places::WEIGHT_WIDTH,
-        lows,
-        0,
-        count_edges as usize,
-    );
-    read_fields(
-        bytes,
-        first + places::WEIGHT_WIDTH as usize,
-        stride,
-        places::WEIGHT_WIDTH,
-        highs,
-        0,
-        count_edges as usize,
-    );
+    let m = image.edges as usize;
+    let width = places::WEIGHT_WIDTH;
+    let end = least_width(image.nodes) as usize;
+    let stride = places::record_width(image.nodes);
+    let first = places::edges_start(image.nodes) + (end + end);
+    let second = first + width as usize;
+    read_fields(image.bytes, first, stride, width, lows, 0, m);
+    read_fields(image.bytes, second, stride, width, highs, 0, m);
 }
 
 // Reads the payloads of nodes and edges.
-fn read_payloads(
-    nodes: &mut [u32],
-    lows: &mut [u32],
-    highs: &mut [u32],
-    bytes: &[u8],
-    count_nodes: u32,
-    count_edges: u32,
-)
-    requires { PayloadsReadable nodes.old lows.old highs.old bytes.now count_nodes count_edges }
-    ensures { PayloadsRead nodes.old lows.old highs.old bytes.now count_nodes count_edges
-        nodes.new lows.new highs.new }
+fn read_payloads(nodes: &mut [u32], lows: &mut [u32], highs: &mut [u32], image: &Image)
+    requires { PayloadsReadable nodes.old lows.old highs.old image.now.bytes.now image.now.nodes image.now.edges }
+    ensures { PayloadsRead nodes.old lows.old highs.old image.now.bytes.now image.now.nodes image.now.edges nodes.new lows.new highs.new }
 {
-    read_fields(
-        bytes,
-        places::NODES_START,
-        places::NODE_PAYLOAD_WIDTH as usize,
-        places::NODE_PAYLOAD_WIDTH,
-        nodes,
-        0,
-        count_nodes as usize,
-    );
-    read_weights(lows, highs, bytes, count_nodes, count_edges);
+    let n = image.nodes as usize;
+    let width = places::NODE_PAYLOAD_WIDTH;
+    let first = places::NODES_START;
+    read_fields(image.bytes, first, width as usize, width, nodes, 0, n);
+    read_weights(lows, highs, image);
 }
 
 // Reads both directions.
@@ -170,198 +141,64 @@ fn read_axes(
     incoming: &mut [u32],
     edge_capacity: usize,
     node_capacity: usize,
-    bytes: &[u8],
-    count_nodes: u32,
-    count_edges: u32,
+    image: &Image,
 )
-    requires { AxesReadable outgoing.old incoming.old edge_capacity node_capacity bytes.now count_nodes count_edges }
-    ensures { AxesRead outgoing.old incoming.old edge_capacity node_capacity bytes.now count_nodes count_edges outgoing.new incoming.new }
+    requires { AxesReadable outgoing.old incoming.old edge_capacity node_capacity image.now.bytes.now image.now.nodes image.now.edges }
+    ensures { AxesRead outgoing.old incoming.old edge_capacity node_capacity image.now.bytes.now image.now.nodes image.now.edges
+        outgoing.new incoming.new }
 {
-    let sources = places::edges_start(count_nodes);
-    let targets = sources + bits::least_width(count_nodes) as usize;
-    let outs = places::outs_start(count_nodes, count_edges);
-    let ins = places::ins_start(count_nodes, count_edges);
-    read_axis(
-        outgoing,
-        edge_capacity,
-        node_capacity,
-        count_nodes,
-        count_edges,
-        bytes,
-        sources,
-        outs,
-    );
-    read_axis(
-        incoming,
-        edge_capacity,
-        node_capacity,
-        count_nodes,
-        count_edges,
-        bytes,
-        targets,
-        ins,
-    );
+    let sources = places::edges_start(image.nodes);
+    let targets = sources + least_width(image.nodes) as usize;
+    let outs = places::outs_start(image.nodes, image.edges);
+    let ins = places::ins_start(image.nodes, image.edges);
+    read_axis(outgoing, edge_capacity, node_capacity, image, sources, outs);
+    read_axis(incoming, edge_capacity, node_capacity, image, targets, ins);
 }
 
-// Puts what an image's bytes hold in place of all: payloads, both directions, every slot live and in the base.
-fn place(
-    nodes: &mut [u32],
-    lows: &mut [u32],
-    highs: &mut [u32],
-    live_nodes: &mut [u64],
-    live_edges: &mut [u64],
-    outgoing: &mut [u32],
-    incoming: &mut [u32],
-    bytes: &[u8],
-) -> Counts
-    requires { Accepted (lengths (length nodes.old) (length lows.old) (length highs.old) (length live_nodes.old) (length live_edges.old) (length outgoing.old) (length incoming.old)) bytes.now }
-    ensures { ImagePlaced
-        (at_entry result nodes.old lows.old highs.old live_nodes.old live_edges.old outgoing.old incoming.old)
-        bytes.now
-        (at_exit result nodes.new lows.new highs.new live_nodes.new live_edges.new outgoing.new incoming.new) }
+// Puts what an image holds in place of all: payloads, both directions, every slot live and in the base.
+fn place(store: &mut StoreMut, image: &Image)
+    requires { Accepted (lengths_of (words_mut store.old)) image.now.bytes.now }
+    ensures placed { ImagePlaced (words_mut store.old) image.now.bytes.now (words_mut store.new) }
+    ensures same { SameSlices store.old store.new }
 {
-    let count_nodes = bits::read_field(bytes, 0, places::COUNT_WIDTH);
-    let count_edges = bits::read_field(bytes, places::EDGE_COUNT_START, places::COUNT_WIDTH);
-    read_axes(
-        outgoing,
-        incoming,
-        lows.len(),
-        nodes.len(),
-        bytes,
-        count_nodes,
-        count_edges,
-    );
-    read_payloads(nodes, lows, highs, bytes, count_nodes, count_edges);
-    liveness::reset_all_live(live_nodes, count_nodes as usize);
-    liveness::reset_all_live(live_edges, count_edges as usize);
-    Counts {
-        nodes: compact::all_based(count_nodes),
-        edges: compact::all_based(count_edges),
+    let edge_capacity = store.lows.len();
+    let node_capacity = store.nodes.len();
+    let outgoing = &mut *store.outgoing;
+    let incoming = &mut *store.incoming;
+    let nodes = &mut *store.nodes;
+    let lows = &mut *store.lows;
+    let highs = &mut *store.highs;
+    read_axes(outgoing, incoming, edge_capacity, node_capacity, image);
+    read_payloads(nodes, lows, highs, image);
+    reset_all_live(store.live_nodes, image.nodes as usize);
+    reset_all_live(store.live_edges, image.edges as usize);
+    store.counts = Counts {
+        nodes: Slots::all_based(image.nodes),
+        edges: Slots::all_based(image.edges),
+    };
+}
+
+// Refuses bytes that are no image, or that a device does not take, or for which the memory of these lengths has no room: "13, 12, 2", and on the skid 15 "in place of 13"
+// and "right after 12".
+fn check_image(device: Device, lengths: Lengths, bytes: &[u8]) -> Result<(), Refusal>
+    ensures { done_of result ≡ read_image (device_of device) (measured lengths) bytes.now }
+{
+    match first_broken(bytes) {
+        Ok(()) => {
+            let image = Image::new(bytes);
+            check_reading(device, lengths, Ok(()), image.nodes, image.edges)
+        }
+        Err(rule) => check_reading(device, lengths, Err(rule), 0, 0),
     }
 }
 
-// The answer of a reading, by a device's limits, the lengths of the memory and the bytes: "13, 12, 2", and on the skid 15 "in place of 13" and "right after 12".
-fn answer(limits: Limits, lengths: Lengths, bytes: &[u8]) -> Answer
-    ensures { result ≡ read_image (device_of limits) (measured lengths) bytes.now }
+// Reads an image into a store's memory on a device, whatever stands there: on a box "13, 12, 2", on the skid 15 for the memory, 12, 15 for the image, 2. Refused, nothing
+// is written.
+pub fn read_image(device: Device, store: &mut StoreMut, bytes: &[u8]) -> Result<(), Refusal>
+    ensures read { ReadOf (device_of device) (words_mut store.old) bytes.now (done_of result).number (done_of result).value (words_mut store.new) }
+    ensures same { SameSlices store.old store.new }
 {
-    let rule = check::first_broken(bytes);
-    if rule != 0 {
-        return memory::reading_answer(limits, lengths, rule, 0, 0);
-    }
-    let count_nodes = bits::read_field(bytes, 0, places::COUNT_WIDTH);
-    let count_edges = bits::read_field(bytes, places::EDGE_COUNT_START, places::COUNT_WIDTH);
-    memory::reading_answer(limits, lengths, rule, count_nodes, count_edges)
-}
-
-// Reads an image into a store's memory, whatever stands there, on a device of these limits. Refused, nothing is written. Internal.
-fn read_within(
-    limits: Limits,
-    counts: Counts,
-    nodes: &mut [u32],
-    lows: &mut [u32],
-    highs: &mut [u32],
-    live_nodes: &mut [u64],
-    live_edges: &mut [u64],
-    outgoing: &mut [u32],
-    incoming: &mut [u32],
-    bytes: &[u8],
-) -> Changed
-    requires { Proper (device_of limits) }
-    ensures { ReadOf (device_of limits)
-        (at_entry counts nodes.old lows.old highs.old live_nodes.old live_edges.old outgoing.old incoming.old)
-        bytes.now result.number result.value
-        (at_exit result.counts nodes.new lows.new highs.new live_nodes.new live_edges.new outgoing.new incoming.new) }
-{
-    let told = answer(
-        limits,
-        Lengths {
-            nodes: nodes.len(),
-            lows: lows.len(),
-            highs: highs.len(),
-            live_nodes: live_nodes.len(),
-            live_edges: live_edges.len(),
-            outgoing: outgoing.len(),
-            incoming: incoming.len(),
-        },
-        bytes,
-    );
-    let number = told.number;
-    let value = told.value;
-    if number != 0 {
-        return Changed {
-            number,
-            value,
-            counts,
-        };
-    }
-    let after = place(
-        nodes, lows, highs, live_nodes, live_edges, outgoing, incoming, bytes,
-    );
-    Changed {
-        number,
-        value,
-        counts: after,
-    }
-}
-
-// Reads an image into a box's memory, whatever stands there: "13, 12, 2".
-pub fn read_image(
-    counts: Counts,
-    nodes: &mut [u32],
-    lows: &mut [u32],
-    highs: &mut [u32],
-    live_nodes: &mut [u64],
-    live_edges: &mut [u64],
-    outgoing: &mut [u32],
-    incoming: &mut [u32],
-    bytes: &[u8],
-) -> Changed
-    ensures { ReadOf box
-        (at_entry counts nodes.old lows.old highs.old live_nodes.old live_edges.old outgoing.old incoming.old)
-        bytes.now result.number result.value
-        (at_exit result.counts nodes.new lows.new highs.new live_nodes.new live_edges.new outgoing.new incoming.new) }
-{
-    read_within(
-        Limits::BOX,
-        counts,
-        nodes,
-        lows,
-        highs,
-        live_nodes,
-        live_edges,
-        outgoing,
-        incoming,
-        bytes,
-    )
-}
-
-// Reads an image into the skid's memory, whatever stands there: 15 for the memory, 12, 15 for the image, 2.
-pub fn skid_read_image(
-    counts: Counts,
-    nodes: &mut [u32],
-    lows: &mut [u32],
-    highs: &mut [u32],
-    live_nodes: &mut [u64],
-    live_edges: &mut [u64],
-    outgoing: &mut [u32],
-    incoming: &mut [u32],
-    bytes: &[u8],
-) -> Changed
-    ensures { ReadOf skid
-        (at_entry counts nodes.old lows.old highs.old live_nodes.old live_edges.old outgoing.old incoming.old)
-        bytes.now result.number result.value
-        (at_exit result.counts nodes.new lows.new highs.new live_nodes.new live_edges.new outgoing.new incoming.new) }
-{
-    read_within(
-        Limits::SKID,
-        counts,
-        nodes,
-        lows,
-        highs,
-        live_nodes,
-        live_edges,
-        outgoing,
-        incoming,
-        bytes,
-    )
+    check_image(device, store.as_store().lengths(), bytes)?;
+    place(store, &Image::new(bytes));
+    Ok(())
 }

@@ -1,15 +1,22 @@
 -- The two ways that joining ends: refused, or with the survivors of both in the third memory.
-use Rattle.std.specs.Prelude.{ℕ, zero, suc, ◌≡◌, refl, Bool, cond, List, length}
+use Rattle.std.specs.Prelude.{ℕ, ◌≡◌, refl, Bool, cond, List, length, Ok, Err}
 use Rattle.plain.specs.Library.{sym, ap, ap₂, subst, ◌∙◌, inl, arith, eq-eqb, ne_eqb}
 use Rattle.plain.specs.declared.Answer.{Answer}
+use Rattle.plain.specs.declared.refusals.Refusal.{Refusal}
+use Rattle.plain.specs.declared.refusals.Rule.{Rule}
+use Rattle.plain.specs.declared.refusals.Rule.TheVariants.{Sizes as BrokenSizes, Live, Ends, Index, Rings, Runs, Walks}
+use Rattle.plain.specs.Answers.{done_of}
 use Rattle.plain.specs.Calls.{judged}
 use Rattle.plain.specs.Compaction.{survivors, renumbering_from}
 use Rattle.plain.specs.Joining.{Sizes, sizes, MapRooms, Maps, join_maps, no_maps, join_answer, join, joined_survivors, joined_plain, joined_state}
 use Rattle.plain.specs.Lists.{written}
 use Rattle.plain.specs.Plain.{Plain}
 use Rattle.plain.specs.Reads.{live_count, live_nodes, live_edges}
+use Rattle.plain.specs.Refusals.{number_of, value_of, rule_number}
+use Rattle.plain.proofs.Laws.Lending.{refusal_number}
 use Rattle.shape.specs.Checked.{Checked}
 use Rattle.shape.specs.Kept.{nothing_spared, renewed_none, renewed_spared, same_nodes, same_edges}
+use Rattle.shape.specs.Rules.{broken}
 use Rattle.shape.specs.Shape.{Words, lengths_of, shape_of, lists}
 use Rattle.shape.specs.Steps.{state_of}
 use Rattle.shape.proofs.Laws.Reading.{plain_node_bound, plain_edge_bound, plain_node_flags, plain_edge_flags}
@@ -18,7 +25,7 @@ use Rattle.compact.specs.Laws.Holding.{Holding, holding_shape, holding_state, ho
 use Rattle.join_columns.specs.Answers.{sizes_of}
 use Rattle.join.specs.Calls.{LentMaps, joining_of, JoinOf}
 use Rattle.join_memory.specs.Settling.{Settleable, Settled}
-use Rattle.join_columns.specs.Laws.Answers.{first_sound, second_sound, join_done, accepted}
+use Rattle.join_columns.specs.Laws.Answers.{accepted}
 use Rattle.join_memory.specs.Laws.Settling.{settled_holding, settled_renewed}
 
 -- the sizes of a checked book are those of its plain lists
@@ -49,8 +56,17 @@ joined_holds : {v : Words} (p q : Plain) → Holding v (joined_survivors (surviv
 unfolding joined_plain
 joined_holds p q h = holding_state h
 
-module _ (first second w : Words) (maps : LentMaps) {rule-first rule-second : ℕ} (a : Judged first rule-first) (b : Judged second rule-second) (told : Answer)
-    (is : told ≡ judged rule-first (judged rule-second (join_answer (lengths_of w) (sizes_of first.counts) (sizes_of second.counts) (rooms maps)))) where
+-- a rule has a number
+rule_some : (rule : Rule) (a : Answer) → record { number = 1; value = rule_number rule } ≡ judged (rule_number rule) a
+rule_some BrokenSizes a = refl
+rule_some Live a = refl
+rule_some Ends a = refl
+rule_some Index a = refl
+rule_some Rings a = refl
+rule_some Runs a = refl
+rule_some Walks a = refl
+
+module _ (first second w : Words) (maps : LentMaps) where
   -- by the counts, and by the lists
   abbrev by_counts : Answer
   by_counts = join_answer (lengths_of w) (sizes_of first.counts) (sizes_of second.counts) (rooms maps)
@@ -58,31 +74,17 @@ module _ (first second w : Words) (maps : LentMaps) {rule-first rule-second : �
   abbrev by_lists : Answer
   by_lists = join_answer (lengths_of w) (sizes (lists first)) (sizes (lists second)) (rooms maps)
 
-  -- of a broken book the sizes are not looked at
-  same_answer : judged rule-first (judged rule-second by_counts) ≡ judged rule-first (judged rule-second by_lists)
-  same_answer = by rule-first rule-second a.checked b.checked
-    where
-      by : (p q : ℕ) → (p ≡ 0 → Checked first) → (q ≡ 0 → Checked second) → judged p (judged q by_counts) ≡ judged p (judged q by_lists)
-      by (suc p) q one two = refl
-      by zero (suc q) one two = refl
-      by zero zero one two =
-          ap₂ {C = Answer} (λ (s t : Sizes). join_answer (lengths_of w) s t (rooms maps)) (sizes_same (one refl)) (sizes_same (two refl))
-
-  answer_told : told ≡ (joining_of first second w maps).answer
-  unfolding join
-  answer_told = is ∙ same_answer ∙ ap₂ {C = Answer} (λ (p q : ℕ). judged p (judged q by_lists)) a.first b.first
-
   -- "with nothing written"
-  module _ (refused : told.number ≡ 0 → ⊥) where
+  module _ {told : Answer} (is : told ≡ (joining_of first second w maps).answer) (refused : told.number ≡ 0 → ⊥) where
     no_maps_told : (joining_of first second w maps).maps ≡ no_maps
     unfolding join
     no_maps_told =
         ap (λ (t : Bool). cond t (join_maps (lists first) (lists second)) no_maps)
-        (ne_eqb (joining_of first second w maps).answer.number 0 (λ q. refused (ap (λ (a : Answer). a.number) answer_told ∙ q)))
+        (ne_eqb (joining_of first second w maps).answer.number 0 (λ q. refused (ap (λ (a : Answer). a.number) is ∙ q)))
 
-    refuses : JoinOf first second w maps told.number told.value w maps
-    refuses = record {
-      answered = answer_told;
+    refuses : {v : Words} → v ≡ w → JoinOf first second w maps told.number told.value v maps
+    refuses same = subst (λ (v : Words). JoinOf first second w maps told.number told.value v maps) (sym same) (record {
+      answered = is;
       first_nodes_mapped = sym (ap (λ (m : Maps). written m.first_nodes maps.first_nodes) no_maps_told);
       first_edges_mapped = sym (ap (λ (m : Maps). written m.first_edges maps.first_edges) no_maps_told);
       second_nodes_mapped = sym (ap (λ (m : Maps). written m.second_nodes maps.second_nodes) no_maps_told);
@@ -96,73 +98,84 @@ module _ (first second w : Words) (maps : LentMaps) {rule-first rule-second : �
       renewed = renewed_none w;
       spared = nothing_spared w;
       leaves = λ p out. inl refl;
-    }
+    })
 
-    -- the counts beside it are 0
-    pub join_refused : (v : Words) → v ≡ w → JoinOf first second w maps told.number told.value v maps
-    join_refused v same = subst (λ (u : Words). JoinOf first second w maps told.number told.value u maps) (sym same) refuses
+  -- the first book is none
+  pub first_broken : (rule : Rule) → Judged first (rule_number rule) → {v : Words} → v ≡ w → JoinOf first second w maps 1 (rule_number rule) v maps
+  unfolding join
+  first_broken rule a = refuses (rule_some rule _ ∙ ap (λ (p : ℕ). judged p (judged (broken second) by_lists)) a.first) (λ q. omega arith)
 
-  -- done
-  module _ (done : told.number ≡ 0) where
-    numbered : (judged rule-first (judged rule-second by_counts)).number ≡ 0
-    numbered = ap (λ (a : Answer). a.number) (sym is) ∙ done
-
-    first_checked : Checked first
-    first_checked = a.checked (first_sound rule-first rule-second by_counts numbered)
-
-    second_checked : Checked second
-    second_checked = b.checked (second_sound rule-first rule-second by_counts numbered)
-
-    pub settleable : Settleable first second w maps
-    settleable =
-        let there = accepted (lengths_of w) (sizes_of first.counts) (sizes_of second.counts) (rooms maps) (join_done rule-first rule-second by_counts numbered) in
-        record {
-          first_checked = first_checked;
-          second_checked = second_checked;
-          takes = there.takes;
-          roomy = there.roomy;
-          nodes_fit = there.nodes_fit;
-          edges_fit = there.edges_fit;
-          first_nodes = there.first_nodes;
-          first_edges = there.first_edges;
-          second_nodes = there.second_nodes;
-          second_edges = there.second_edges;
-        }
-
-    maps_told : (joining_of first second w maps).maps ≡ join_maps (lists first) (lists second)
+  module _ (a : Judged first 0) where
+    -- the second is none
+    pub second_broken : (rule : Rule) → Judged second (rule_number rule) → {v : Words} → v ≡ w → JoinOf first second w maps 1 (rule_number rule) v maps
     unfolding join
-    maps_told =
-        ap (λ (t : Bool). cond t (join_maps (lists first) (lists second)) no_maps)
-        (eq-eqb (joining_of first second w maps).answer.number 0 (ap (λ (a : Answer). a.number) (sym answer_told) ∙ done))
+    second_broken rule b =
+        refuses (rule_some rule _ ∙ ap₂ {C = Answer} (λ (p q : ℕ). judged p (judged q by_lists)) a.first b.first) (λ q. omega arith)
 
-    pub joined : {v : Words} {maps' : LentMaps} → Settled first second w maps v maps' → JoinOf first second w maps told.number told.value v maps'
-    unfolding join_maps
-    joined {v} {maps'} r =
-        let holding = settled_holding settleable r in
-        let same = r.lengths in
-        let renewed = settled_renewed settleable r in
-        record {
-          answered = answer_told;
-          first_nodes_mapped = r.first_maps.nodes
-              ∙ ap (λ (f : List Bool). written (renumbering_from 0 f) maps.first_nodes) (sym (plain_node_flags first))
-              ∙ sym (ap (λ (m : Maps). written m.first_nodes maps.first_nodes) maps_told);
-          first_edges_mapped = r.first_maps.edges
-              ∙ ap (λ (f : List Bool). written (renumbering_from 0 f) maps.first_edges) (sym (plain_edge_flags first))
-              ∙ sym (ap (λ (m : Maps). written m.first_edges maps.first_edges) maps_told);
-          second_nodes_mapped = r.second_maps.nodes
-              ∙ ap₂ (λ (n : ℕ) (f : List Bool). written (renumbering_from n f) maps.second_nodes) (sym (nodes_left first_checked)) (sym (plain_node_flags second))
-              ∙ sym (ap (λ (m : Maps). written m.second_nodes maps.second_nodes) maps_told);
-          second_edges_mapped = r.second_maps.edges
-              ∙ ap₂ (λ (n : ℕ) (f : List Bool). written (renumbering_from n f) maps.second_edges) (sym (edges_left first_checked)) (sym (plain_edge_flags second))
-              ∙ sym (ap (λ (m : Maps). written m.second_edges maps.second_edges) maps_told);
-          state = λ h. joined_holds (lists first) (lists second) holding;
-          shape = λ h. holding_shape holding;
-          checked = λ h. holding_checked holding;
-          canonical = λ h. holding_canonical holding;
-          lengths = same;
-          refused_keeps = λ h. absurd (h done);
-          renewed = renewed;
-          spared = let c = holding_checked holding in
-              renewed_spared (omega (arith, c.nodes.bounded.bound_within, same_nodes same)) (omega (arith, c.edges.bounded.bound_within, same_edges same)) renewed;
-          leaves = canonical_leaves w v same (holding_canonical holding) renewed;
-        }
+    module _ (b : Judged second 0) where
+      -- of checked books the sizes are those of the lists
+      answer_told : {told : Answer} → told ≡ by_counts → told ≡ (joining_of first second w maps).answer
+      unfolding join
+      answer_told is =
+          is ∙ ap₂ {C = Answer} (λ (s t : Sizes). join_answer (lengths_of w) s t (rooms maps)) (sizes_same (a.checked refl)) (sizes_same (b.checked refl))
+          ∙ ap₂ {C = Answer} (λ (p q : ℕ). judged p (judged q by_lists)) a.first b.first
+
+      -- they cannot be joined
+      pub join_refused : (r : Refusal) → done_of (Err r) ≡ by_counts → {v : Words} → v ≡ w → JoinOf first second w maps (number_of r) (value_of r) v maps
+      join_refused r is = refuses (answer_told is) (λ q. omega (arith, refusal_number r))
+
+      -- they are joined
+      module _ {done : Unit} (is : done_of (Ok done) ≡ by_counts) where
+        pub settleable : Settleable first second w maps
+        settleable =
+            let there = accepted (lengths_of w) (sizes_of first.counts) (sizes_of second.counts) (rooms maps) (ap (λ (a : Answer). a.number) (sym is)) in
+            record {
+              first_checked = a.checked refl;
+              second_checked = b.checked refl;
+              takes = there.takes;
+              roomy = there.roomy;
+              nodes_fit = there.nodes_fit;
+              edges_fit = there.edges_fit;
+              first_nodes = there.first_nodes;
+              first_edges = there.first_edges;
+              second_nodes = there.second_nodes;
+              second_edges = there.second_edges;
+            }
+
+        maps_told : (joining_of first second w maps).maps ≡ join_maps (lists first) (lists second)
+        unfolding join
+        maps_told =
+            ap (λ (t : Bool). cond t (join_maps (lists first) (lists second)) no_maps)
+            (eq-eqb (joining_of first second w maps).answer.number 0 (ap (λ (a : Answer). a.number) (sym (answer_told is))))
+
+        pub joined : {v : Words} {maps' : LentMaps} → Settled first second w maps v maps' → JoinOf first second w maps 0 0 v maps'
+        unfolding join_maps
+        joined {v} {maps'} r =
+            let holding = settled_holding settleable r in
+            let same = r.lengths in
+            let renewed = settled_renewed settleable r in
+            record {
+              answered = answer_told is;
+              first_nodes_mapped = r.first_maps.nodes
+                  ∙ ap (λ (f : List Bool). written (renumbering_from 0 f) maps.first_nodes) (sym (plain_node_flags first))
+                  ∙ sym (ap (λ (m : Maps). written m.first_nodes maps.first_nodes) maps_told);
+              first_edges_mapped = r.first_maps.edges
+                  ∙ ap (λ (f : List Bool). written (renumbering_from 0 f) maps.first_edges) (sym (plain_edge_flags first))
+                  ∙ sym (ap (λ (m : Maps). written m.first_edges maps.first_edges) maps_told);
+              second_nodes_mapped = r.second_maps.nodes
+                  ∙ ap₂ (λ (n : ℕ) (f : List Bool). written (renumbering_from n f) maps.second_nodes) (sym (nodes_left (a.checked refl))) (sym (plain_node_flags second))
+                  ∙ sym (ap (λ (m : Maps). written m.second_nodes maps.second_nodes) maps_told);
+              second_edges_mapped = r.second_maps.edges
+                  ∙ ap₂ (λ (n : ℕ) (f : List Bool). written (renumbering_from n f) maps.second_edges) (sym (edges_left (a.checked refl))) (sym (plain_edge_flags second))
+                  ∙ sym (ap (λ (m : Maps). written m.second_edges maps.second_edges) maps_told);
+              state = λ h. joined_holds (lists first) (lists second) holding;
+              shape = λ h. holding_shape holding;
+              checked = λ h. holding_checked holding;
+              canonical = λ h. holding_canonical holding;
+              lengths = same;
+              refused_keeps = λ h. absurd (h refl);
+              renewed = renewed;
+              spared = let c = holding_checked holding in
+                  renewed_spared (omega (arith, c.nodes.bounded.bound_within, same_nodes same)) (omega (arith, c.edges.bounded.bound_within, same_edges same)) renewed;
+              leaves = canonical_leaves w v same (holding_canonical holding) renewed;
+            }

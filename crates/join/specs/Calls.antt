@@ -12,7 +12,7 @@ use Rattle.shape.specs.Shape.{Words, lengths_of, shape_of, lists}
 use Rattle.shape.specs.Steps.{state_of}
 use Rattle.compact.specs.Calls.{Canonical}
 use Rattle.compact.specs.Survivors.{shape_of_survivors}
-pub use Rattle.join_memory.specs.Settling.{no_counts, LentMaps, lent_maps}
+pub use Rattle.join_memory.specs.Settling.{no_counts, cleared, LentMaps, lent_maps, maps_of}
 
 -- what document 02 says of joining two books into a memory, number 1 included
 abbrev pub joining_of : Words → Words → Words → LentMaps → Joining

@@ -1,2 +1,1 @@
 mod Copying
-mod Rooms

@@ -1,7 +1,8 @@
--- The counts and lengths that the answer of joining is given by.
+-- The counts and lengths that joining is refused by.
+use Rattle.std.specs.Prelude.{length}
 use Rattle.plain.specs.declared.Counts.{Counts}
 use Rattle.plain.specs.Joining.{MapRooms, Sizes}
-use Rattle.join_columns.specs.declared.answers.MapRooms.{MapRooms as Rooms}
+use Rattle.join_columns.specs.declared.slots.MapsMut.{MapsMut}
 
 -- the sizes of a book by its counts
 abbrev pub sizes_of : Counts → Sizes
@@ -12,6 +13,11 @@ sizes_of counts = record {
   edges = counts.edges.live;
 }
 
--- the lengths of the four slices, as the program has them
-abbrev pub rooms_of : Rooms → MapRooms
-rooms_of r = record { first_nodes = r.first_nodes; first_edges = r.first_edges; second_nodes = r.second_nodes; second_edges = r.second_edges }
+-- the lengths of the four slices lent for the maps
+abbrev pub rooms_of : MapsMut → MapsMut → MapRooms
+rooms_of first second = record {
+  first_nodes = length first.nodes.now;
+  first_edges = length first.edges.now;
+  second_nodes = length second.nodes.now;
+  second_edges = length second.edges.now;
+}

@@ -1,4 +1,5 @@
 pub mod Slots
 pub mod Sides
+pub mod Books
 pub mod Answers
 pub mod Laws

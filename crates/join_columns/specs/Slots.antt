@@ -6,7 +6,9 @@ use Rattle.plain.specs.Compaction.{renumbering_from}
 use Rattle.plain.specs.Lists.{written}
 use Rattle.plain.specs.Reads.{live_count}
 use Rattle.liveness.specs.Flags.{live_flags}
-use Rattle.survivors.specs.Slots.{MapFits}
+use Rattle.survivors.specs.Slots.{MapFits, live_words_of}
+use Rattle.join_columns.specs.declared.slots.Column.{Column}
+use Rattle.join_columns.specs.declared.slots.MapsMut.{MapsMut}
 
 -- ---- one book
 
@@ -19,6 +21,10 @@ pub record LiveReadable (words live : List ℕ) (bound : ℕ) : Type 0 where
 pub record Copyable (words live : List ℕ) (bound : ℕ) (out : List ℕ) : Type 0 where
   pub readable : LiveReadable words live bound
   pub fits : live_count (live_flags live bound) ≤ length out
+
+-- the words of a column's live slots
+abbrev pub live_words_in : Column → List ℕ
+live_words_in c = live_words_of c.words.now (live_flags c.live.now c.slots.bound)
 
 -- ---- both books
 
@@ -38,3 +44,8 @@ pub record MapsFit (counts : Counts) (live_nodes live_edges : List ℕ) (first-n
 pub record MapsWritten (counts : Counts) (live_nodes live_edges : List ℕ) (first-node first_edge : ℕ) (node_map edge_map node-map' edge-map' : List ℕ) : Type 0 where
   pub nodes : node-map' ≡ written (renumbering_from first-node (live_flags live_nodes counts.nodes.bound)) node_map
   pub edges : edge-map' ≡ written (renumbering_from first_edge (live_flags live_edges counts.edges.bound)) edge_map
+
+-- the slices are those that were lent
+pub record SameMaps (a b : MapsMut) : Type 0 where
+  pub nodes : b.nodes.ghost_name ≡ a.nodes.ghost_name
+  pub edges : b.edges.ghost_name ≡ a.edges.ghost_name

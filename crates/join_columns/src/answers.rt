@@ -1,89 +1,36 @@
-// What joining answers, by numbers alone: counts, lengths and the first broken rule of each book. Decided before the first write.
+// What joining two books is refused with, by numbers alone: counts and lengths. Decided before the first write.
 
 ghost use Rattle.std.specs.Prelude.{◌≡◌};
-ghost use Rattle.plain.specs.Calls.{judged, short_answer};
-ghost use Rattle.plain.specs.Memory.{first_short};
-ghost use Rattle.plain.specs.Joining.{join_answer, map_slices};
+ghost use Rattle.plain.specs.Answers.{done_of};
+ghost use Rattle.plain.specs.Joining.{join_answer};
 ghost use Rattle.memory.specs.Lengths.{measured};
 ghost use Rattle.join_columns.specs.Answers.{sizes_of, rooms_of};
 
-use memory::{Lengths, Limits};
-use plain::{Answer, Counts, NONE, numbers};
-use validate::judging;
+use crate::slots::MapsMut;
+use memory::{Device, Lengths, check_fresh, need};
+use plain::Counts;
+use plain::refusals::Refusal;
 
-// The lengths of the slices lent for the four maps.
-#[derive(Clone, Copy)]
-pub struct MapRooms {
-    pub first_nodes: usize,
-    pub first_edges: usize,
-    pub second_nodes: usize,
-    pub second_edges: usize,
-}
-
+// Refuses to join two checked books by their counts and by the lengths of what is lent: the third memory as a store's, 10 if the survivors of both exceed it, and
 // 2 for the first map too short, "nodes and edges of the first book, then of the second".
-fn map_answer(first: Counts, second: Counts, rooms: MapRooms) -> Answer
-    ensures { result ≡ short_answer (first_short (map_slices (sizes_of first) (sizes_of second) (rooms_of rooms))) }
-{
-    let done = Answer {
-        number: numbers::DONE,
-        value: 0,
-    };
-    let second_edges = memory::lacking(
-        numbers::TOO_SHORT,
-        second.edges.bound as usize,
-        rooms.second_edges,
-        done,
-    );
-    let second_nodes = memory::lacking(
-        numbers::TOO_SHORT,
-        second.nodes.bound as usize,
-        rooms.second_nodes,
-        second_edges,
-    );
-    let first_edges = memory::lacking(
-        numbers::TOO_SHORT,
-        first.edges.bound as usize,
-        rooms.first_edges,
-        second_nodes,
-    );
-    memory::lacking(
-        numbers::TOO_SHORT,
-        first.nodes.bound as usize,
-        rooms.first_nodes,
-        first_edges,
-    )
-}
-
-// The answer of joining, by numbers alone: the first broken rule of each book, 0 for none, their counts, and the lengths of what is lent.
-pub fn answer(
-    rule_first: u32,
-    rule_second: u32,
+#[tactic(auto, unfolding(plain::specs::Joining::join_answer, plain::specs::Memory::first_short))]
+pub fn check_join(
     lengths: Lengths,
     first: Counts,
     second: Counts,
-    rooms: MapRooms,
-) -> Answer
-    ensures { result ≡ judged rule_first (judged rule_second (join_answer (measured lengths) (sizes_of first) (sizes_of second) (rooms_of rooms))) }
+    first_maps: &MapsMut,
+    second_maps: &MapsMut,
+) -> Result<(), Refusal>
+    ensures { done_of result ≡ join_answer (measured lengths) (sizes_of first) (sizes_of second) (rooms_of first_maps.now second_maps.now) }
 {
-    if rule_first != 0 {
-        return judging::no_store(rule_first);
+    check_fresh(Device::Box, lengths)?;
+    if lengths.nodes < first.nodes.live as usize + second.nodes.live as usize
+        || lengths.lows < first.edges.live as usize + second.edges.live as usize
+    {
+        return Err(Refusal::Full);
     }
-    if rule_second != 0 {
-        return judging::no_store(rule_second);
-    }
-    let made = memory::fresh_answer(Limits::BOX, lengths);
-    if made.number != 0 {
-        return made;
-    }
-    let full = Answer {
-        number: numbers::FULL,
-        value: NONE as u64,
-    };
-    if lengths.nodes < first.nodes.live as usize + second.nodes.live as usize {
-        return full;
-    }
-    if lengths.lows < first.edges.live as usize + second.edges.live as usize {
-        return full;
-    }
-    map_answer(first, second, rooms)
+    need(first.nodes.bound as usize, first_maps.nodes.len())?;
+    need(first.edges.bound as usize, first_maps.edges.len())?;
+    need(second.nodes.bound as usize, second_maps.nodes.len())?;
+    need(second.edges.bound as usize, second_maps.edges.len())
 }

@@ -1,4 +1,4 @@
-// Joining column by column: what is answered, the live payloads and maps of a book, and one direction of two books. Document 02, request 6. All functions are internal.
+// Joining column by column: what it is refused with, the live payloads and maps of a book, and one direction of two books. Document 02, request 6. All functions are internal.
 
 #![tactic(auto)]
 

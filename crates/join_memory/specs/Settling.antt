@@ -1,6 +1,7 @@
 -- What joining two checked books asks and promises: the four maps, and the third memory with the survivors of both.
 use Rattle.std.specs.Prelude.{ℕ, ◌+◌, ◌≤◌, ◌≡◌, List, ◌++◌, length}
 use Rattle.plain.specs.declared.Counts.{Counts}
+use Rattle.plain.specs.Based.{based}
 use Rattle.plain.specs.Devices.{Takes, box}
 use Rattle.plain.specs.Lists.{written}
 use Rattle.plain.specs.declared.TraversalDirection.TheVariants.{Incoming, Outgoing}
@@ -8,15 +9,20 @@ use Rattle.liveness.specs.Calls.{Reset}
 use Rattle.memory.specs.Laws.{Roomy}
 use Rattle.shape.specs.Checked.{Checked}
 use Rattle.shape.specs.Kept.{SameLengths}
-use Rattle.shape.specs.Shape.{Words, edge_capacity, edge_live, lengths_of, node_capacity, node_live}
-use Rattle.compact.specs.Bases.{based}
+use Rattle.shape.specs.Shape.{Words, edge_capacity, edge_live, lengths_of, node_capacity, node_live, store}
+use Rattle.shape.specs.declared.StoreMut.{StoreMut}
 use Rattle.survivors.specs.Slots.{live_words_of}
 use Rattle.join_columns.specs.Sides.{AxisJoined, side_of}
 use Rattle.join_columns.specs.Slots.{MapsWritten}
+use Rattle.join_columns.specs.declared.slots.MapsMut.{MapsMut}
 
 -- the counts of memory that is no store yet, and those beside a refusal
 abbrev pub no_counts : Counts
 no_counts = record { nodes = based 0; edges = based 0 }
+
+-- memory that is no store yet
+abbrev pub cleared : StoreMut → Words
+cleared s = store no_counts s.nodes.now s.lows.now s.highs.now s.live_nodes.now s.live_edges.now s.outgoing.now s.incoming.now
 
 -- The slices lent for the maps: nodes and edges of the first book, then of the second.
 pub record LentMaps : Type 0 where
@@ -28,6 +34,9 @@ pub record LentMaps : Type 0 where
 abbrev pub lent_maps : List ℕ → List ℕ → List ℕ → List ℕ → LentMaps
 lent_maps first_nodes first_edges second_nodes second_edges =
     record { first_nodes = first_nodes; first_edges = first_edges; second_nodes = second_nodes; second_edges = second_edges }
+
+abbrev pub maps_of : MapsMut → MapsMut → LentMaps
+maps_of first second = lent_maps first.nodes.now first.edges.now second.nodes.now second.edges.now
 
 -- Two checked books, memory as a store's has to be, the survivors of both within its capacities, and maps "as long as the bounds before".
 pub record Settleable (first second w : Words) (maps : LentMaps) : Type 0 where

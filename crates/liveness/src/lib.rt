@@ -1,5 +1,7 @@
 // Which slots are live: a bit a slot, packed into lent words, 64 slots a word, the lowest bit first. All functions are internal: where
 // the words may be shorter than the slots need, the length is required. What the words mean is `live_flags` of specs/Flags.antt.
+// `words` and `slots` stay two parameters: a store holds its words and its counts apart, so that a value of both, with the length in its type, would be made and its
+// length proved at each call, which is no plainer. `LiveSlots` is such a value where all slots are passed, and `Store` asks of its own.
 
 #![tactic(auto)]
 
@@ -11,7 +13,6 @@ ghost use Rattle.plain.specs.Compaction.{rank as rank_of};
 ghost use Rattle.liveness.specs.Flags.{live_flags, packed, counted, next_live};
 ghost use Rattle.liveness.specs.Calls.{Pushed, Cleared, Reset};
 ghost use Rattle.liveness.specs.Ranks.{RanksFit, Ranked};
-ghost use Rattle.liveness.specs.Faults.{fault_of};
 
 // Appends a live slot: where it is the first of its word, the whole word is written, whatever stood there.
 pub fn push_live(words: &mut [u64], slots: usize)
@@ -40,21 +41,6 @@ pub fn is_live(words: &[u64], slots: usize, slot: usize) -> bool
         return false;
     }
     (words[slot / 64] >> (slot % 64)) % 2 == 1
-}
-
-// A slot's fault: `absent` at or above the bound, `removed` where it is dead, 0 where it is live. For operations and for the search for the nearest lot.
-#[tactic(auto, unfolding(crate::specs::Faults::fault_of))]
-pub fn fault(live: &[u64], bound: u32, slot: u32, absent: u32, removed: u32) -> u32
-    requires { bound ≤ 64 * length live.now }
-    ensures { result ≡ fault_of (live_flags live.now bound) bound slot absent removed }
-{
-    if bound <= slot {
-        return absent;
-    }
-    if is_live(live, bound as usize, slot as usize) {
-        return 0;
-    }
-    removed
 }
 
 // Makes a slot dead, and answers whether it was live.
@@ -126,7 +112,8 @@ pub fn write_ranks(words: &[u64], slots: usize, ranks: &mut [u32])
     }
 }
 
-// How many live slots stand before a slot, in constant time: those before its word, and those of its word's low bits.
+// How many live slots stand before a slot, in constant time: those before its word, and those of its word's low bits. The three first parameters are one value in crate
+// image_write's `Numbering`, which alone calls it.
 pub fn rank_by(words: &[u64], slots: usize, ranks: &[u32], slot: usize) -> u32
     requires { Ranked words.now slots ranks.now × (slot < slots) }
     ensures { result ≡ rank_of (live_flags words.now slots) slot }

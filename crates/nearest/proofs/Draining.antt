@@ -6,8 +6,7 @@ use Rattle.plain.specs.declared.TraversalDirection.TheVariants.{Outgoing, Incomi
 use Rattle.plain.specs.Lists.{member}
 use Rattle.plain.specs.Plain.{list_of}
 use Rattle.shape.specs.Columns.{end_at}
-use Rattle.shape.specs.Shape.{Words, node_capacity, edge_capacity, lists}
-use Rattle.adjacency.specs.Walk.{walk_in}
+use Rattle.shape.specs.Shape.{Words, node_capacity, lists}
 use Rattle.nearest.specs.Chains.{Chain, nearest}
 use Rattle.nearest.specs.Laws.Chains.{simple, simple_short}
 use Rattle.nearest.specs.Search.{Distance}
@@ -17,7 +16,7 @@ use Rattle.nearest.specs.Backwards.{ExpandLot, Drain, Draining, Drained}
 use Rattle.nearest.specs.Forwards.{way_in}
 use Rattle.nearest.proofs.SearchLaws.{head_seen}
 use Rattle.nearest.proofs.FrontierLaws.{queue_long, dist_word, expanded_next}
-use Rattle.nearest.proofs.Stores.{ends_long, consistent, lot_within, within, end_live, end_within, lot_walkable, lot_walk}
+use Rattle.nearest.proofs.Stores.{consistent, lot_below, lot_within, within, end_live, end_within}
 use Rattle.nearest.proofs.Expanding.{length_expanded}
 use Rattle.nearest.proofs.Downhill.{search_found, search_denied}
 
@@ -80,12 +79,12 @@ module _ {w : Words} {first goal : ℕ} {work₀ : List ℕ} (d : Drain w first 
       next = ap (λ (v : ℕ). v + 1) (sym (dist_word (consistent d.asked.checked) (node_capacity w) goal head i.held z z_low));
     }
 
-    pub expand_lot : ExpandLot w.outgoing w.incoming w.live_edges (edge_capacity w) (node_capacity w) w.counts z tail work
+    pub expand_lot : ExpandLot w z tail work
     expand_lot =
         let k = d.asked.checked in
         record {
-          walkable = lot_walkable k Incoming z z_live;
-          sources_long = ends_long k Outgoing;
+          checked = k;
+          lot_below = lot_below k z z_live;
           able = record {
             target = end_at w.incoming;
             out = list_of Outgoing (lists w);
@@ -98,8 +97,8 @@ module _ {w : Words} {first goal : ℕ} {work₀ : List ℕ} (d : Drain w first 
             past = [];
             held = i.held;
             standing = standing;
-            listed = λ e m. subst (λ (l : List ℕ). member e l ≡ true) (lot_walk k Incoming z z_live) m;
-            low = λ e m. end_within k Incoming Outgoing z e (subst (λ (l : List ℕ). member e l ≡ true) (lot_walk k Incoming z z_live) m);
+            listed = λ e m. m;
+            low = end_within k Incoming Outgoing z;
           };
           lot_low = let low = z_low in let l = i.long in omega arith;
           word_low = let v = z_word in let near = distance_few d.asked z z_distance.0 z_low z_distance.2 in let f = d.few in omega arith;
@@ -107,13 +106,13 @@ module _ {w : Words} {first goal : ℕ} {work₀ : List ℕ} (d : Drain w first 
 
     module _ {tail' : ℕ} {work' : List ℕ}
         (is : frontier tail' work' ≡ expanded (node_capacity w) (end_at w.outgoing) (get_or work z 0 + 1)
-        (walk_in w.incoming (edge_capacity w) (node_capacity w) w.counts w.live_edges z true) (frontier tail work)) where
+        (list_of Incoming (lists w) z) (frontier tail work)) where
       next_held : Held (network w) (node_capacity w) goal (head + 1) (drop (2 * node_capacity w) work₀) [] (frontier tail' work')
       next_held =
           let k = d.asked.checked in
           subst (λ (h : ℕ). Held (network w) (node_capacity w) goal h (drop (2 * node_capacity w) work₀) [] (frontier tail' work')) (sym (add-one head))
           (subst (λ (f : Frontier). Held (network w) (node_capacity w) goal (suc head) (drop (2 * node_capacity w) work₀) [] f)
-          (sym (is ∙ ap (λ (l : List ℕ). expanded (node_capacity w) (end_at w.outgoing) (get_or work z 0 + 1) l (frontier tail work)) (lot_walk k Incoming z z_live)))
+          (sym is)
           (expanded_next (consistent k) (node_capacity w) goal head i.held standing (end_within k Incoming Outgoing z)))
 
       pub draining_on : Draining w goal work₀ work' (head + 1) tail'
@@ -124,7 +123,7 @@ module _ {w : Words} {first goal : ℕ} {work₀ : List ℕ} (d : Drain w first 
         long = next_held.long;
         same_length = ap (λ (f : Frontier). length f.work) is
             ∙ length_expanded (node_capacity w) (get_or work z 0 + 1) (end_at w.outgoing)
-            (walk_in w.incoming (edge_capacity w) (node_capacity w) w.counts w.live_edges z true) (frontier tail work) ∙ i.same_length;
+            (list_of Incoming (lists w) z) (frontier tail work) ∙ i.same_length;
         held = next_held;
       }
 

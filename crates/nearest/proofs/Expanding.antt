@@ -1,22 +1,11 @@
 -- One lot looked at and one lot's in-list gone through: what the loop keeps.
-use Rattle.std.specs.Prelude.{ℕ, ◌+◌, ◌≡◌, refl, Bool, true, false, cond, List, [], ◌∷◌, ◌++◌, length, get_or, set, eqb}
-use Rattle.plain.specs.Library.{sym, ap, ◌∙◌, subst, length-set, arith, eq-eqb, ne_eqb}
-use Rattle.plain.specs.declared.Counts.{Counts}
-use Rattle.plain.specs.Lists.{member, keep}
+use Rattle.std.specs.Prelude.{ℕ, ◌+◌, ◌≡◌, refl, Bool, true, cond, List, [], ◌∷◌, ◌++◌, length, get_or, set, eqb}
+use Rattle.plain.specs.Library.{sym, ap, ◌∙◌, subst, length-set, eq-eqb, ne_eqb}
+use Rattle.plain.specs.Lists.{member}
 use Rattle.plain.proofs.Laws.Booleans.{by_test}
 use Rattle.plain.proofs.Laws.ListLaws.{member_first, member_later}
-use Rattle.liveness.specs.Flags.{live_flags}
-use Rattle.shape.specs.Columns.{end_at}
-use Rattle.cursor.specs.declared.AdjacencyCursor.{AdjacencyCursor}
-use Rattle.cursor.specs.declared.Found.TheVariants.{Edge, Done}
-use Rattle.cursor.specs.declared.Step.{Step}
-use Rattle.cursor.specs.declared.Start.{Start}
-use Rattle.cursor.specs.Cursor.{listed, listed_left, remaining, step_of, Ready}
-use Rattle.cursor.specs.Laws.Cursor.{step_edge, step_none, turn as stepped}
-use Rattle.adjacency.specs.Walk.{walk_in, tombstoned_in, entries_column, next_column, Started}
-use Rattle.adjacency.specs.Laws.Walk.{given_walk, given_seekable, next_length}
 use Rattle.nearest.specs.Frontier.{Frontier, frontier, dist_in, turn, pushed, expanded}
-use Rattle.nearest.specs.Backwards.{Seeable, Expandable, Expand, ExpandLot}
+use Rattle.nearest.specs.Backwards.{Seeable, Expandable}
 use Rattle.nearest.proofs.FrontierLaws.{room, turn_held, turn_standing}
 
 -- a lot that is new, and one that is not
@@ -73,75 +62,36 @@ expandable_turn {n} {word} {source} {e} {es} {f} h =
 
 -- ---- the loop
 
--- From the cursor c₀ and the frontier f₀ it has come to c and f: what is left to do gives what there was to do.
-pub record Expanding (test : ℕ → Bool) (linked : Bool) (entries next : List ℕ) (n word : ℕ) (source : ℕ → ℕ)
-    (c₀ : AdjacencyCursor) (f₀ : Frontier) (c : AdjacencyCursor) (f : Frontier)
-    : Type 0 where
-  pub ready : Ready linked entries next c
-  pub able : Expandable n word source (keep test (remaining linked entries next c)) f
-  pub same : expanded n source word (keep test (remaining linked entries next c)) f ≡ expanded n source word (keep test (remaining linked entries next c₀)) f₀
+-- From the frontier f₀ it has come to f, with these edges of the in-list left: what is left to do gives what there was to do.
+pub record Expanding (n word : ℕ) (source : ℕ → ℕ) (list : List ℕ) (f₀ : Frontier) (left : List ℕ) (f : Frontier) : Type 0 where
+  pub able : Expandable n word source left f
+  pub same : expanded n source word left f ≡ expanded n source word list f₀
+  pub from_list : (e : ℕ) → member e left ≡ true → member e list ≡ true
+  pub same_length : length f.work ≡ length f₀.work
 
-pub expanding_start : {test : ℕ → Bool} {linked : Bool} {entries next : List ℕ} {n word : ℕ} {source : ℕ → ℕ} {c : AdjacencyCursor} {f : Frontier}
-    → Ready linked entries next c → Expandable n word source (keep test (remaining linked entries next c)) f → Expanding test linked entries next n word source c f c f
-expanding_start r a = record { ready = r; able = a; same = refl }
+module _ {n word : ℕ} {source : ℕ → ℕ} {list : List ℕ} {f₀ : Frontier} {left : List ℕ} {f : Frontier} (i : Expanding n word source list f₀ left f) where
+  module _ {e : ℕ} {later : List ℕ} (next : left ≡ e ∷ later) where
+    able_next : Expandable n word source (e ∷ later) f
+    able_next = subst (λ (l : List ℕ). Expandable n word source l f) next i.able
 
-module _ {test : ℕ → Bool} {linked : Bool} {entries next : List ℕ} {n word : ℕ} {source : ℕ → ℕ} {c₀ : AdjacencyCursor} {f₀ : Frontier} {c : AdjacencyCursor} {f : Frontier}
-    (i : Expanding test linked entries next n word source c₀ f₀ c f) {s : Step} (r : s ≡ step_of linked entries next c) where
-  -- an entry that passes stands before what is left, and one that does not pass does not count
-  passed : {e : ℕ} → s.found ≡ Edge e → test e ≡ true → keep test (remaining linked entries next c) ≡ e ∷ keep test (remaining linked entries next s.cursor)
-  unfolding keep
-  passed q t = step_edge i.ready r test q ∙ rw t
+    -- the edge is one of the list
+    pub expanding_in : member e list ≡ true
+    expanding_in = i.from_list e (subst (λ (l : List ℕ). member e l ≡ true) (sym next) (member_first e later))
 
-  skipped : {e : ℕ} → s.found ≡ Edge e → test e ≡ false → keep test (remaining linked entries next c) ≡ keep test (remaining linked entries next s.cursor)
-  unfolding keep
-  skipped q t = step_edge i.ready r test q ∙ rw t
+    pub expanding_see : Seeable n (source e) f.tail f.work
+    expanding_see = expandable_see able_next
 
-  able_edge : {e : ℕ} → s.found ≡ Edge e → test e ≡ true → Expandable n word source (e ∷ keep test (remaining linked entries next s.cursor)) f
-  able_edge q t = subst (λ (l : List ℕ). Expandable n word source l f) (passed q t) i.able
+    -- its source looked at
+    pub expanding_on : {g : Frontier} → g ≡ turn n word (source e) f → Expanding n word source list f₀ later g
+    unfolding expanded
+    expanding_on {g} is = subst (λ (k : Frontier). Expanding n word source list f₀ later k) (sym is) (record {
+      able = expandable_turn able_next;
+      same = sym (ap (λ (l : List ℕ). expanded n source word l f) next) ∙ i.same;
+      from_list = λ k m. i.from_list k (subst (λ (l : List ℕ). member k l ≡ true) (sym next) (member_later k e later m));
+      same_length = length_turn n word (source e) f ∙ i.same_length;
+    })
 
-  pub expanding_see : {e : ℕ} → s.found ≡ Edge e → test e ≡ true → Seeable n (source e) f.tail f.work
-  expanding_see q t = expandable_see (able_edge q t)
-
-  pub expanding_on : {e : ℕ} {g : Frontier} → s.found ≡ Edge e → test e ≡ true → g ≡ turn n word (source e) f
-      → Expanding test linked entries next n word source c₀ f₀ s.cursor g
+  -- none left
+  pub expanding_end : left ≡ [] → f ≡ expanded n source word list f₀
   unfolding expanded
-  expanding_on {e} {g} q t is = subst (λ (k : Frontier). Expanding test linked entries next n word source c₀ f₀ s.cursor k) (sym is) (record {
-    ready = (stepped i.ready r).ready;
-    able = expandable_turn (able_edge q t);
-    same = sym (ap (λ (l : List ℕ). expanded n source word l f) (passed q t)) ∙ i.same;
-  })
-
-  pub expanding_skip : {e : ℕ} → s.found ≡ Edge e → test e ≡ false → Expanding test linked entries next n word source c₀ f₀ s.cursor f
-  expanding_skip q t = record {
-    ready = (stepped i.ready r).ready;
-    able = subst (λ (l : List ℕ). Expandable n word source l f) (skipped q t) i.able;
-    same = sym (ap (λ (l : List ℕ). expanded n source word l f) (skipped q t)) ∙ i.same;
-  }
-
-  pub expanding_end : s.found ≡ Done → f ≡ expanded n source word (keep test (remaining linked entries next c₀)) f₀
-  unfolding expanded
-  expanding_end q = ap (λ (l : List ℕ). expanded n source word l f) (sym (step_none i.ready r test q)) ∙ i.same
-
--- ---- a lot's in-list as a walk
-
-module _ {outgoing incoming live_edges : List ℕ} {ce cn : ℕ} {counts : Counts} {lot tail : ℕ} {work : List ℕ} {s : Start} {entries next : List ℕ} {tombstoned : Bool}
-    (h : ExpandLot outgoing incoming live_edges ce cn counts lot tail work) (started : Started incoming ce cn counts lot true s)
-    (are-entries : entries ≡ entries_column incoming ce s.linked) (is-next : next ≡ next_column incoming ce) (is-tombstoned : tombstoned ≡ tombstoned_in counts) where
-  lot_walk : listed_left s.linked entries next tombstoned live_edges counts.edges.bound s.cursor ≡ walk_in incoming ce cn counts live_edges lot true
-  lot_walk = given_walk h.walkable started are-entries is-next is-tombstoned
-
-  pub lot_requires : Expand (listed tombstoned (live_flags live_edges counts.edges.bound)) s.linked entries next live_edges counts.edges.bound
-      cn (get_or work lot 0 + 1) tail outgoing s.cursor work
-  lot_requires =
-      let seekable = given_seekable h.walkable started are-entries is-next in
-      record {
-        ready = seekable.ready;
-        live_long = seekable.live_long;
-        sources_long = let n = ap (λ (l : List ℕ). length l) is-next ∙ next_length h.walkable.readable in let l = h.sources_long in omega arith;
-        able = subst (λ (l : List ℕ). Expandable cn (get_or work lot 0 + 1) (end_at outgoing) l (frontier tail work)) (sym lot_walk) h.able;
-      }
-
-  pub lot_expanded : {f : Frontier} → f ≡ expanded cn (λ e. get_or outgoing e 0) (get_or work lot 0 + 1)
-      (listed_left s.linked entries next tombstoned live_edges counts.edges.bound s.cursor) (frontier tail work)
-      → f ≡ expanded cn (end_at outgoing) (get_or work lot 0 + 1) (walk_in incoming ce cn counts live_edges lot true) (frontier tail work)
-  lot_expanded is = is ∙ ap (λ (l : List ℕ). expanded cn (end_at outgoing) (get_or work lot 0 + 1) l (frontier tail work)) lot_walk
+  expanding_end over = ap (λ (l : List ℕ). expanded n source word l f) (sym over) ∙ i.same

@@ -1,90 +1,22 @@
--- The way forward: the first edge of a walk that leads to a word, and the loop that writes the way.
-use Rattle.std.specs.Prelude.{ℕ, suc, ◌+◌, ◌-◌, ◌≤◌, ◌<◌, ◌≡◌, refl, Bool, true, false, List, [], ◌∷◌, ◌++◌, length, get_or, set, drop, eqb}
+-- The way forward: the loop that writes the way.
+use Rattle.std.specs.Option.{IsSome}
+use Rattle.std.specs.Prelude.{ℕ, suc, ◌+◌, ◌-◌, ◌≤◌, ◌<◌, ◌≡◌, refl, true, List, [], ◌∷◌, ◌++◌, length, set, drop, eqb, Option, None, Some, unwrap_or}
 use Rattle.plain.specs.Library.{sym, ap, ap₂, ◌∙◌, subst, append-nil, length-append, length-set, arith}
 use lib.Seq.{get_or-take}
 use Rattle.plain.specs.declared.TraversalDirection.TheVariants.{Outgoing, Incoming}
-use Rattle.plain.specs.declared.Counts.{Counts}
-use Rattle.plain.specs.Lists.{member, keep, written}
+use Rattle.plain.specs.Numbers.{NONE}
+use Rattle.plain.specs.Lists.{member, written}
 use Rattle.plain.specs.Plain.{list_of}
-use Rattle.plain.proofs.Laws.Booleans.{by_test}
-use Rattle.plain.proofs.Laws.ListLaws.{member_first, member_later}
-use Rattle.liveness.specs.Flags.{live_flags}
 use Rattle.shape.specs.Columns.{end_at}
-use Rattle.shape.specs.Shape.{Words, node_capacity, edge_capacity, lists}
-use Rattle.cursor.specs.declared.AdjacencyCursor.{AdjacencyCursor}
-use Rattle.cursor.specs.declared.Found.TheVariants.{Edge}
-use Rattle.cursor.specs.declared.Step.{Step}
-use Rattle.cursor.specs.declared.Start.{Start}
-use Rattle.cursor.specs.Cursor.{listed, listed_left, remaining, step_of}
-use Rattle.cursor.specs.Laws.Cursor.{step_edge}
+use Rattle.shape.specs.Shape.{Words, node_capacity, lists}
 use Rattle.cursor.specs.Laws.Reading.{write_one}
 use Rattle.cursor.specs.Finding.{first_of}
-use Rattle.cursor.specs.Laws.Finding.{Searching, search_start, search_skip, search_on}
-use Rattle.adjacency.specs.Walk.{walk_in, tombstoned_in, entries_column, next_column, Started}
-use Rattle.adjacency.specs.Laws.Walk.{given_walk, given_seekable, next_length}
 use Rattle.nearest.specs.Search.{Distance}
 use Rattle.nearest.specs.Frontier.{dist_in}
 use Rattle.nearest.specs.Stores.{LiveLot}
-use Rattle.nearest.specs.Forwards.{leads, Nearer, NearerLot, way_in, Forward}
-use Rattle.nearest.proofs.Stores.{ends_long, end_live, end_within, listed_within, lot_walkable, lot_walk}
+use Rattle.nearest.specs.Forwards.{leads, NearerLot, way_in, Forward}
+use Rattle.nearest.proofs.Stores.{lot_below, end_live, end_within, listed_within, listed_few}
 use Rattle.nearest.proofs.Downhill.{first_of_same, length_downhill, downhill_step, downhill_next}
-
--- ---- the first edge of a walk that leads to a word
-
--- What its loop keeps: it finds from c on what it finds from c₀ on, and the ends of what is left have words.
-pub record Nearing (wanted test : ℕ → Bool) (linked : Bool) (entries next ends words : List ℕ) (c₀ c : AdjacencyCursor) : Type 0 where
-  pub searching : Searching wanted test linked entries next c₀ c
-  pub words_long : (e : ℕ) → member e (keep test (remaining linked entries next c)) ≡ true → get_or ends e 0 < length words
-
-pub nearing_start : {wanted test : ℕ → Bool} {linked : Bool} {entries next live : List ℕ} {slots : ℕ} {ends words : List ℕ} {c : AdjacencyCursor}
-    → Nearer test linked entries next live slots ends words c → Nearing wanted test linked entries next ends words c c
-nearing_start h = record { searching = search_start h.ready; words_long = h.words_long }
-
-module _ {wanted test : ℕ → Bool} {linked : Bool} {entries next ends words : List ℕ} {c₀ c : AdjacencyCursor} (i : Nearing wanted test linked entries next ends words c₀ c)
-    {s : Step} (r : s ≡ step_of linked entries next c) {e : ℕ} (q : s.found ≡ Edge e) where
-  -- what is left behind the entry was left before it
-  later : (k : ℕ) → member k (keep test (remaining linked entries next s.cursor)) ≡ true → member k (keep test (remaining linked entries next c)) ≡ true
-  unfolding keep
-  later k m =
-      rw (step_edge i.searching.ready r test q)
-      (by_test (test e) (λ t. rw t (member_later k e (keep test (remaining linked entries next s.cursor)) m)) (λ t. rw t m))
-
-  -- the end of an entry that passes has a word
-  pub nearing_word : test e ≡ true → get_or ends e 0 < length words
-  unfolding keep
-  nearing_word t = i.words_long e (rw (step_edge i.searching.ready r test q, t) (member_first e (keep test (remaining linked entries next s.cursor))))
-
-  -- past an entry that is not wanted
-  pub nearing_on : wanted e ≡ false → Nearing wanted test linked entries next ends words c₀ s.cursor
-  nearing_on t = record { searching = search_on i.searching r q t; words_long = λ k m. i.words_long k (later k m) }
-
-  -- past one that does not pass
-  pub nearing_skip : test e ≡ false → Nearing wanted test linked entries next ends words c₀ s.cursor
-  nearing_skip t = record { searching = search_skip i.searching r q t; words_long = λ k m. i.words_long k (later k m) }
-
--- ---- of a lot's out-list
-
-module _ {outgoing incoming live_edges : List ℕ} {ce cn : ℕ} {counts : Counts} {lot : ℕ} {work : List ℕ} {s : Start} {entries next : List ℕ} {tombstoned : Bool}
-    (h : NearerLot outgoing incoming live_edges ce cn counts lot work) (started : Started outgoing ce cn counts lot true s)
-    (are-entries : entries ≡ entries_column outgoing ce s.linked) (is-next : next ≡ next_column outgoing ce) (is-tombstoned : tombstoned ≡ tombstoned_in counts) where
-  out_walk : listed_left s.linked entries next tombstoned live_edges counts.edges.bound s.cursor ≡ walk_in outgoing ce cn counts live_edges lot true
-  out_walk = given_walk h.walkable started are-entries is-next is-tombstoned
-
-  pub nearer_requires : Nearer (listed tombstoned (live_flags live_edges counts.edges.bound)) s.linked entries next live_edges counts.edges.bound incoming work
-      s.cursor
-  nearer_requires =
-      let seekable = given_seekable h.walkable started are-entries is-next in
-      record {
-        ready = seekable.ready;
-        live_long = seekable.live_long;
-        ends_long = let n = ap (λ (l : List ℕ). length l) is-next ∙ next_length h.walkable.readable in let l = h.ends_long in omega arith;
-        words_long = λ e m. h.words_long e (subst (λ (l : List ℕ). member e l ≡ true) out_walk m);
-      }
-
-  pub nearer_is : (r word : ℕ)
-      → r ≡ first_of (leads (λ e. get_or incoming e 0) work word) (listed_left s.linked entries next tombstoned live_edges counts.edges.bound s.cursor)
-      → r ≡ first_of (leads (end_at incoming) work word) (walk_in outgoing ce cn counts live_edges lot true)
-  nearer_is r word is = is ∙ ap (first_of (leads (end_at incoming) work word)) out_walk
 
 -- ---- the way written
 
@@ -134,25 +66,14 @@ module _ {w : Words} {work : List ℕ} {goal d start : ℕ} {chain₀ : List ℕ
       left : d - i ≡ suc (d - (i + 1))
       left = omega arith
 
-      pub nearer_lot : NearerLot w.outgoing w.incoming w.live_edges (edge_capacity w) (node_capacity w) w.counts x work
-      nearer_lot =
-          let k = h.checked in
-          record {
-            walkable = lot_walkable k Outgoing x g.live;
-            ends_long = ends_long k Incoming;
-            words_long = λ e m.
-                let low = end_within k Outgoing Incoming x e (subst (λ (l : List ℕ). member e l ≡ true) (lot_walk k Outgoing x g.live) m) in
-                let l = h.words_long in
-                omega arith;
-          }
+      pub nearer_lot : NearerLot w x work
+      nearer_lot = record { checked = h.checked; lot_below = lot_below h.checked x g.live; words_long = h.words_long }
 
-      module _ {r : ℕ} (is : r ≡ first_of (leads (end_at w.incoming) work (d - i))
-          (walk_in w.outgoing (edge_capacity w) (node_capacity w) w.counts w.live_edges x true)) where
+      module _ {r : ℕ} (is : r ≡ first_of (leads (end_at w.incoming) work (d - i)) (list_of Outgoing (lists w) x)) where
         -- the edge that was found is the next of the way
         taken : r ≡ first_of (leads (end_at w.incoming) (dist_in (node_capacity w) work) (suc (d - (i + 1)))) (list_of Outgoing (lists w) x)
         taken =
             is
-            ∙ ap (first_of (leads (end_at w.incoming) work (d - i))) (lot_walk h.checked Outgoing x g.live)
             ∙ first_of_same (leads (end_at w.incoming) work (d - i)) (leads (end_at w.incoming) (dist_in (node_capacity w) work) (suc (d - (i + 1))))
             (list_of Outgoing (lists w) x)
             (λ e m. ap₂ {B = ℕ} (λ (a b : ℕ). eqb a b)
@@ -166,6 +87,7 @@ module _ {w : Words} {work : List ℕ} {goal d start : ℕ} {chain₀ : List ℕ
             (downhill_next (list_of Outgoing (lists w)) (end_at w.incoming) h.labelled (d - (i + 1)) x (omega arith)
             (subst (λ (n : ℕ). Distance (list_of Outgoing (lists w)) (end_at w.incoming) goal x n) left g.far))
 
+        -- its end is a word of the axis
         pub edge_low : r < length w.incoming
         edge_low = listed_within h.checked Outgoing Incoming x r step.0
 
@@ -182,3 +104,9 @@ module _ {w : Words} {work : List ℕ} {goal d start : ℕ} {chain₀ : List ℕ
           far = step.1;
           live = end_live h.checked Outgoing Incoming x r step.0;
         }
+
+      -- so there is one
+      pub nearer_there : (found : Option ℕ) → unwrap_or found NONE ≡ first_of (leads (end_at w.incoming) work (d - i)) (list_of Outgoing (lists w) x)
+          → IsSome found
+      nearer_there None is = let few = listed_few h.checked Outgoing x NONE (step is).0 in absurd (omega arith)
+      nearer_there (Some e) is = refl

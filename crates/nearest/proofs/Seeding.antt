@@ -1,9 +1,11 @@
 -- Where the search starts: the words of the lots clear, but for the goal's, and the goal alone in the queue. And what it comes to.
-use Rattle.std.specs.Prelude.{ℕ, ◌+◌, ◌*◌, ◌≡◌, refl, List, [], ◌∷◌, length, get_or, set, take, drop}
-use Rattle.plain.specs.Library.{sym, ap, ◌∙◌, subst, ⊎_elim, length-set, length-drop, get_or-eq_default, ext_get_or, arith}
-use lib.Seq.{take-set-lt, take-set-le, drop-set-lt, drop-set-add, take-suc-set, get_or-take, get_or-drop, length-take-le}
+use Rattle.std.specs.Prelude.{ℕ, ◌+◌, ◌*◌, ◌≤◌, ◌<◌, ◌≡◌, refl, List, [], ◌∷◌, ◌++◌, length, get_or, set, take, drop, replicate}
+use Rattle.std.proofs.lemmas.List.{length-take-le}
+use Rattle.std.proofs.lemmas.Slice.{drop-append-drop}
+use Rattle.plain.specs.Library.{sym, ap, ◌∙◌, subst, ⊎_elim, length-set, length-drop, length-append, length-replicate, get_or-append, get_or-eq_default, arith}
+use lib.ListN.{get_or-replicate}
+use lib.Seq.{take-set-lt, take-set-le, drop-set-lt, drop-set-add, take-suc-set, get_or-take}
 use Rattle.plain.proofs.Laws.Booleans.{below_or_not}
-use Rattle.shape.specs.Index.{Rewritten}
 use Rattle.shape.specs.Shape.{Words, node_capacity}
 use Rattle.nearest.specs.Search.{Network, Search}
 use Rattle.nearest.specs.Frontier.{frontier, dist_in, queue_in, Held}
@@ -46,44 +48,66 @@ module _ {n goal : ℕ} {work : List ℕ} (h : Seedable n goal work) where
   seeded_beyond : drop (2 * n) (set (set work goal 1) n goal) ≡ drop (2 * n) work
   seeded_beyond = drop-set-lt (2 * n) (set work goal 1) n goal (let g = h.low in omega arith) ∙ drop-set-lt (2 * n) work goal 1 (let g = h.low in omega arith)
 
+-- ---- words cleared
+
+-- the first n words clear, the others as before
+abbrev pub cleared : ℕ → List ℕ → List ℕ
+cleared n work = replicate n 0 ++ drop n work
+
+-- what `fill` leaves
+pub filled : (n : ℕ) (work : List ℕ) {front : List ℕ} → n ≤ length work → front ≡ replicate (length (take n work)) 0 → front ++ drop n work ≡ cleared n work
+filled n work h is = ap (λ (l : List ℕ). l ++ drop n work) (is ∙ ap (λ (k : ℕ). replicate k 0) (length-take-le n work h))
+
+cleared_long : (n : ℕ) (work : List ℕ) → n ≤ length work → length (cleared n work) ≡ length work
+cleared_long n work h = length-append (replicate n 0) (drop n work) ∙ omega (arith, length-replicate {A = ℕ} n 0, length-drop n work)
+
+cleared_word : (n : ℕ) (work : List ℕ) (x : ℕ) → x < n → get_or (cleared n work) x 0 ≡ 0
+cleared_word n work x low =
+    get_or-append (replicate n 0) (drop n work) 0 x (omega (arith, length-replicate {A = ℕ} n 0)) ∙ get_or-replicate n x 0 0 low
+
 -- ---- the search whole
 
-module _ {w : Words} {first goal : ℕ} {work₀ : List ℕ} (h : Asked w first goal work₀) {filled : List ℕ} (f : Rewritten work₀ filled 0 (node_capacity w) (λ _. 0)) where
-  -- the words of the lots are clear
-  pub filled_seeds : Seedable (node_capacity w) goal filled
-  filled_seeds = record {
-    low = lot_within h.checked goal h.goal_live;
-    long = let l = h.long in let s = f.long in omega arith;
-    clear = λ x low. ap (λ (i : ℕ). get_or filled i 0) (zero_off x) ∙ f.within x low;
-  }
-    where
-      zero_off : (x : ℕ) → x ≡ 0 + x
-      zero_off x = omega arith
+module _ {w : Words} {first goal : ℕ} {work₀ : List ℕ} (h : Asked w first goal work₀) where
+  enough : node_capacity w ≤ length work₀
+  enough = let l = h.long in omega arith
 
-  module _ {seed : List ℕ} (is : seed ≡ set (set filled goal 1) (node_capacity w) goal) where
+  -- the words of the lots are clear
+  clear_seeds : Seedable (node_capacity w) goal (cleared (node_capacity w) work₀)
+  clear_seeds = record {
+    low = lot_within h.checked goal h.goal_live;
+    long = let l = h.long in let s = cleared_long (node_capacity w) work₀ enough in omega arith;
+    clear = cleared_word (node_capacity w) work₀;
+  }
+
+  pub filled_seeds : {work : List ℕ} → work ≡ cleared (node_capacity w) work₀ → Seedable (node_capacity w) goal work
+  filled_seeds is = subst (λ (l : List ℕ). Seedable (node_capacity w) goal l) (sym is) clear_seeds
+
+  module _ {seed : List ℕ} (is : seed ≡ set (set (cleared (node_capacity w) work₀) goal 1) (node_capacity w) goal) where
     seed_long : length seed ≡ length work₀
     seed_long =
-        ap (λ (l : List ℕ). length l) is ∙ length-set (set filled goal 1) (node_capacity w) goal ∙ length-set filled goal 1 ∙ f.long
+        ap (λ (l : List ℕ). length l) is
+        ∙ length-set (set (cleared (node_capacity w) work₀) goal 1) (node_capacity w) goal
+        ∙ length-set (cleared (node_capacity w) work₀) goal 1
+        ∙ cleared_long (node_capacity w) work₀ enough
 
     seed_beyond : drop (2 * node_capacity w) seed ≡ drop (2 * node_capacity w) work₀
     seed_beyond =
-        ap (λ (l : List ℕ). drop (2 * node_capacity w) l) is ∙ seeded_beyond filled_seeds
-        ∙ ext_get_or 0 (drop (2 * node_capacity w) filled) (drop (2 * node_capacity w) work₀)
-        (let a = length-drop (2 * node_capacity w) filled in let b = length-drop (2 * node_capacity w) work₀ in let c = f.long in omega arith)
-        (λ i low. get_or-drop (2 * node_capacity w) filled i 0 ∙ f.above (2 * node_capacity w + i) (omega arith) ∙ sym (get_or-drop (2 * node_capacity w) work₀ i 0))
+        ap (λ (l : List ℕ). drop (2 * node_capacity w) l) is
+        ∙ seeded_beyond clear_seeds
+        ∙ drop-append-drop (node_capacity w) work₀ (replicate (node_capacity w) 0) (2 * node_capacity w) (omega arith) (length-replicate (node_capacity w) 0)
 
     pub seed_drains : Drain w first goal seed
     seed_drains = record {
       asked = record { checked = h.checked; first_live = h.first_live; goal_live = h.goal_live; long = let l = h.long in let s = seed_long in omega arith };
       few = few h.checked;
       first_low = lot_within h.checked first h.first_live;
-      start = subst (λ (l : List ℕ). Held (network w) (node_capacity w) goal 0 (drop (2 * node_capacity w) l) [] (frontier 1 l)) (sym is) (seeded filled_seeds (network w));
+      start = subst (λ (l : List ℕ). Held (network w) (node_capacity w) goal 0 (drop (2 * node_capacity w) l) [] (frontier 1 l)) (sym is) (seeded clear_seeds (network w));
     }
 
     -- what it comes to, of the words before
-    pub sought : {work : List ℕ} → Drained w first goal seed work → Sought w first goal work₀ work (get_or work first 0)
-    sought {work} d = record {
-      is_word = refl;
+    pub sought : {work : List ℕ} {word : ℕ} → Drained w first goal seed work → get_or work first 0 ≡ word → Sought w first goal work₀ work word
+    sought {work} d is_word = record {
+      is_word = sym is_word;
       drained = record {
         head = d.head;
         tail = d.tail;

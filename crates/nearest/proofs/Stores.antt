@@ -1,5 +1,5 @@
 -- The lists of a checked store are a network that the search goes through: what the search and the way forward need of it.
-use Rattle.std.specs.Prelude.{ℕ, zero, suc, ◌≤◌, ◌<◌, ◌≡◌, refl, Bool, true, false, List, ◌∷◌, map, length, get_or, eqb}
+use Rattle.std.specs.Prelude.{ℕ, zero, suc, ◌≤◌, ◌<◌, ◌≡◌, refl, true, false, List, ◌∷◌, map, length, get_or, eqb}
 use Rattle.plain.specs.Library.{sym, ap, ap₂, ◌∙◌, subst, Option, arith, eqb-true, eq-eqb}
 use Rattle.plain.specs.declared.TraversalDirection.{TraversalDirection}
 use Rattle.plain.specs.declared.TraversalDirection.TheVariants.{Outgoing, Incoming}
@@ -12,9 +12,7 @@ use Rattle.plain.proofs.Laws.Operating.{incident, node_below, edge_below}
 use Rattle.shape.specs.Columns.{end_at}
 use Rattle.shape.specs.Shape.{Words, node_capacity, edge_capacity, axis_words, lists}
 use Rattle.shape.specs.Checked.{Checked}
-use Rattle.shape.proofs.Laws.Reading.{plain_node_bound, plain_edge_bound, plain_node_flags, plain_end}
-use Rattle.adjacency.specs.Walk.{walk_in, Walkable}
-use Rattle.adjacency.specs.Laws.StoreWalks.{checked_walkable, list_is_walk}
+use Rattle.shape.proofs.Laws.Reading.{plain_node_bound, plain_edge_bound, plain_end}
 use Rattle.nearest.specs.Chains.{first_candidate, or_else, chains, nearest_from, nearest}
 use Rattle.nearest.specs.Laws.Chains.{Within}
 use Rattle.nearest.specs.Search.{Consistent}
@@ -53,11 +51,11 @@ module _ {w : Words} (k : Checked w) where
   edge_low : (e : ℕ) → get_or (edge_flags (lists w)) e false ≡ true → e < w.counts.edges.bound
   edge_low e live = let low = edge_below (lists w) e live in let b = plain_edge_bound w in omega arith
 
-  lot_low : (x : ℕ) → LiveLot w x → x < w.counts.nodes.bound
-  lot_low x live = let low = node_below (lists w) x live in let b = plain_node_bound w in omega arith
+  pub lot_below : (x : ℕ) → LiveLot w x → x < w.counts.nodes.bound
+  lot_below x live = let low = node_below (lists w) x live in let b = plain_node_bound w in omega arith
 
   pub lot_within : (x : ℕ) → LiveLot w x → x < node_capacity w
-  lot_within x live = let low = lot_low x live in let b = k.nodes.bounded.bound_within in omega arith
+  lot_within x live = let low = lot_below x live in let b = k.nodes.bounded.bound_within in omega arith
 
   -- a listed edge is live, and its end is the lot that lists it
   listed_live : (d : TraversalDirection) (x e : ℕ) → member e (list_of d (lists w) x) ≡ true → get_or (edge_flags (lists w)) e false ≡ true
@@ -77,6 +75,14 @@ module _ {w : Words} (k : Checked w) where
   listed_there d f x e m =
       subst (λ (y : ℕ). member e (list_of f (lists w) y) ≡ true) (listed_word d f x e m)
       ((incident k.walks f).listed (end_of f (lists w) e) e ∙ both_true (listed_live d x e m) (eq-eqb (end_of f (lists w) e) (end_of f (lists w) e) refl))
+
+  -- so it is no mark for none
+  pub listed_few : (d : TraversalDirection) (x e : ℕ) → member e (list_of d (lists w) x) ≡ true → e < LIMIT
+  listed_few d x e m =
+      let low = edge_low e (listed_live d x e m) in
+      let b = k.edges.bounded.bound_within in
+      let most = (k.axis d).sized.edges_within in
+      omega arith
 
   pub consistent : Consistent (network w)
   consistent = record {
@@ -102,17 +108,6 @@ module _ {w : Words} (k : Checked w) where
       let b = k.edges.bounded.bound_within in
       let room = ends_long f in
       omega arith
-
-  -- a live lot can be walked, and its walk is its list
-  pub lot_walkable : (d : TraversalDirection) (z : ℕ) → LiveLot w z → Walkable (axis_words d w) (edge_capacity w) (node_capacity w) w.counts w.live_edges z
-  lot_walkable d z live = checked_walkable k d z (lot_low z live)
-
-  pub lot_walk : (d : TraversalDirection) (z : ℕ) → LiveLot w z
-      → walk_in (axis_words d w) (edge_capacity w) (node_capacity w) w.counts w.live_edges z true ≡ list_of d (lists w) z
-  lot_walk d z live =
-      sym (list_is_walk w d z (lot_low z live)
-      ∙ ap (λ (b : Bool). walk_in (axis_words d w) (edge_capacity w) (node_capacity w) w.counts w.live_edges z b)
-      (ap (λ (fs : List Bool). get_or fs z false) (sym (plain_node_flags w)) ∙ live))
 
   -- the nearest chain, by the targets that the words have
   pub nearest_by_words : (n x y : ℕ) → nearest (list_of Outgoing (lists w)) (end_of Incoming (lists w)) n x y ≡ nearest (list_of Outgoing (lists w)) (end_at w.incoming) n x y

@@ -1,13 +1,12 @@
 -- What the functions of the search backwards ask and promise: one lot looked at, an in-list gone through, the queue drained, and the search whole.
-use Rattle.std.specs.Prelude.{ℕ, ◌+◌, ◌*◌, ◌≤◌, ◌<◌, ◌≡◌, Bool, true, ◌⊎◌, List, [], length, get_or, drop}
-use Rattle.plain.specs.declared.Counts.{Counts}
+use Rattle.std.specs.Prelude.{ℕ, suc, ◌+◌, ◌*◌, ◌≤◌, ◌<◌, ◌≡◌, true, ◌⊎◌, List, [], length, get_or, drop, Option, None, Some}
+use Rattle.plain.specs.declared.TraversalDirection.TheVariants.{Incoming}
 use Rattle.plain.specs.Numbers.{LIMIT}
-use Rattle.plain.specs.Lists.{member, keep}
+use Rattle.plain.specs.Lists.{member}
+use Rattle.plain.specs.Plain.{list_of}
 use Rattle.shape.specs.Columns.{end_at}
-use Rattle.shape.specs.Shape.{Words, node_capacity}
-use Rattle.cursor.specs.declared.AdjacencyCursor.{AdjacencyCursor}
-use Rattle.cursor.specs.Cursor.{remaining, Ready}
-use Rattle.adjacency.specs.Walk.{walk_in, Walkable}
+use Rattle.shape.specs.Shape.{Words, node_capacity, lists}
+use Rattle.shape.specs.Checked.{Checked}
 use Rattle.nearest.specs.Search.{Consistent}
 use Rattle.nearest.specs.Frontier.{Frontier, frontier, Held, Standing}
 use Rattle.nearest.specs.Stores.{network, Asked}
@@ -38,19 +37,11 @@ pub record Expandable (n word : ℕ) (source : ℕ → ℕ) (es : List ℕ) (f :
   pub listed : (e : ℕ) → member e es ≡ true → member e (ins lot) ≡ true
   pub low : (e : ℕ) → member e es ≡ true → source e < n
 
--- What it takes, from a cursor on: the listed entries that are left.
-pub record Expand (test : ℕ → Bool) (linked : Bool) (entries next live : List ℕ) (slots n word tail : ℕ) (sources : List ℕ) (c : AdjacencyCursor) (work : List ℕ)
-    : Type 0 where
-  pub ready : Ready linked entries next c
-  pub live_long : slots ≤ 64 * length live
-  pub sources_long : length next ≤ length sources
-  pub able : Expandable n word (λ e. get_or sources e 0) (keep test (remaining linked entries next c)) (frontier tail work)
-
--- What it takes, of a lot: its whole in-list.
-pub record ExpandLot (outgoing incoming live_edges : List ℕ) (ce cn : ℕ) (counts : Counts) (lot tail : ℕ) (work : List ℕ) : Type 0 where
-  pub walkable : Walkable incoming ce cn counts live_edges lot
-  pub sources_long : ce ≤ length outgoing
-  pub able : Expandable cn (get_or work lot 0 + 1) (end_at outgoing) (walk_in incoming ce cn counts live_edges lot true) (frontier tail work)
+-- What it takes, of a lot of a checked store: its whole in-list.
+pub record ExpandLot (w : Words) (lot tail : ℕ) (work : List ℕ) : Type 0 where
+  pub checked : Checked w
+  pub lot_below : lot < w.counts.nodes.bound
+  pub able : Expandable (node_capacity w) (get_or work lot 0 + 1) (end_at w.outgoing) (list_of Incoming (lists w) lot) (frontier tail work)
   pub lot_low : lot < length work
   pub word_low : get_or work lot 0 ≤ LIMIT
 
@@ -85,6 +76,11 @@ pub record Seedable (n goal : ℕ) (work : List ℕ) : Type 0 where
   pub low : goal < n
   pub long : 2 * n ≤ length work
   pub clear : (x : ℕ) → x < n → get_or work x 0 ≡ 0
+
+-- the word of a lot by its distance: 0 where it has none
+abbrev pub word_of : Option ℕ → ℕ
+word_of None = 0
+word_of (Some far) = suc far
 
 -- What the search comes to, with the word of the first lot.
 pub record Sought (w : Words) (first goal : ℕ) (work₀ work : List ℕ) (word : ℕ) : Type 0 where

@@ -1,17 +1,12 @@
 -- What the functions of the way forward ask and promise: the first edge of a lot's out-list that leads to a word, and the way written edge by edge.
-use Rattle.std.specs.Prelude.{ℕ, zero, suc, ◌*◌, ◌≤◌, ◌<◌, ◌≡◌, Bool, true, List, [], ◌∷◌, length, get_or, eqb}
+use Rattle.std.specs.Prelude.{ℕ, zero, suc, ◌≤◌, ◌<◌, ◌≡◌, Bool, List, [], ◌∷◌, length, get_or, eqb}
 use Rattle.plain.specs.declared.TraversalDirection.TheVariants.{Outgoing}
-use Rattle.plain.specs.declared.Counts.{Counts}
 use Rattle.plain.specs.Numbers.{LIMIT}
-use Rattle.plain.specs.Lists.{member, keep}
 use Rattle.plain.specs.Plain.{list_of}
 use Rattle.shape.specs.Columns.{end_at}
 use Rattle.shape.specs.Shape.{Words, node_capacity, lists}
 use Rattle.shape.specs.Checked.{Checked}
-use Rattle.cursor.specs.declared.AdjacencyCursor.{AdjacencyCursor}
-use Rattle.cursor.specs.Cursor.{remaining, Ready}
 use Rattle.cursor.specs.Finding.{first_of}
-use Rattle.adjacency.specs.Walk.{walk_in, Walkable}
 use Rattle.nearest.specs.Search.{Distance}
 use Rattle.nearest.specs.Frontier.{dist_in}
 use Rattle.nearest.specs.Stores.{LiveLot}
@@ -36,18 +31,11 @@ pub record Labelled (out : ℕ → List ℕ) (target : ℕ → ℕ) (y d : ℕ) 
 
 -- ---- the first edge that leads to a word
 
--- What it takes, from a cursor on: the end of each listed entry that is left has a word.
-pub record Nearer (test : ℕ → Bool) (linked : Bool) (entries next live : List ℕ) (slots : ℕ) (ends words : List ℕ) (c : AdjacencyCursor) : Type 0 where
-  pub ready : Ready linked entries next c
-  pub live_long : slots ≤ 64 * length live
-  pub ends_long : length next ≤ length ends
-  pub words_long : (e : ℕ) → member e (keep test (remaining linked entries next c)) ≡ true → get_or ends e 0 < length words
-
--- What it takes, of a lot: its whole out-list.
-pub record NearerLot (outgoing incoming live_edges : List ℕ) (ce cn : ℕ) (counts : Counts) (lot : ℕ) (work : List ℕ) : Type 0 where
-  pub walkable : Walkable outgoing ce cn counts live_edges lot
-  pub ends_long : ce ≤ length incoming
-  pub words_long : (e : ℕ) → member e (walk_in outgoing ce cn counts live_edges lot true) ≡ true → end_at incoming e < length work
+-- What it takes, of a lot of a checked store: every lot has a word.
+pub record NearerLot (w : Words) (lot : ℕ) (work : List ℕ) : Type 0 where
+  pub checked : Checked w
+  pub lot_below : lot < w.counts.nodes.bound
+  pub words_long : node_capacity w ≤ length work
 
 -- ---- the way written
 

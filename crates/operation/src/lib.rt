@@ -19,7 +19,7 @@ fn unused(a: u32, b: u32, c: u32, operation: Operation) -> Operation
     }
 }
 
-// The operation that five words of a strip stand for.
+// The operation that five words of a strip stand for. What they do not is `Unknown` and no None: an operation of its own in the definition of a strip, which is answered too.
 #[tactic(auto, unfolding(plain::specs::Operations::decoded))]
 pub fn decode(words: [u32; OPERATION_WORDS]) -> Operation
     ensures { result ≡ decoded (slice_index words 0) (slice_index words 1) (slice_index words 2) (slice_index words 3) (slice_index words 4) }

@@ -24,6 +24,7 @@ pub mod Cutting
 pub mod ImageBits
 pub mod Refusals
 pub mod Exits
+pub mod Lending
 pub mod ImageLaws
 pub mod Devices
 pub mod Ascending

@@ -1,12 +1,12 @@
 -- What C is answered, from what a call came to.
-use Rattle.std.specs.Prelude.{ℕ, Bool, cond, Result, Ok, Err}
+use Rattle.std.specs.Prelude.{ℕ, Bool, cond, unwrap_or, Option, Result, Ok, Err}
 use Rattle.plain.specs.declared.refusals.Refusal.{Refusal}
 use Rattle.plain.specs.declared.Answer.{Answer}
 use Rattle.plain.specs.declared.EdgeRecord.{EdgeRecord}
 use Rattle.plain.specs.declared.Record.{Record}
 use Rattle.plain.specs.declared.Sums.{Sums}
 use Rattle.plain.specs.declared.Total.{Total}
-use Rattle.plain.specs.Numbers.{done}
+use Rattle.plain.specs.Numbers.{NONE, done}
 use Rattle.plain.specs.Refusals.{number_of, value_of}
 
 -- number and value, where what is answered has a value of its own
@@ -17,6 +17,10 @@ answer_by value_is (Err refusal) = record { number = number_of refusal; value = 
 -- of a number
 abbrev pub answer_of : Result ℕ Refusal → Answer
 answer_of came = answer_by (λ n. n) came
+
+-- of what is found: NONE where nothing is
+abbrev pub found_of : Result (Option ℕ) Refusal → Answer
+found_of came = answer_by (λ found. unwrap_or found NONE) came
 
 -- "1 or 0 for a yes or no"
 abbrev pub yes_no_of : Result Bool Refusal → Answer

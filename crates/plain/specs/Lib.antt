@@ -9,6 +9,7 @@ pub mod Step
 pub mod Reads
 pub mod Renumbering
 pub mod Compaction
+pub mod Based
 pub mod Bits
 pub mod Image
 pub mod WellFormed

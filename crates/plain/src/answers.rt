@@ -1,6 +1,7 @@
 // What C is answered, from what a call came to: a number and a value, and what stands beside them.
 
-ghost use Rattle.std.specs.Prelude.{ℕ, ◌≡◌, cond};
+ghost use Rattle.std.specs.Prelude.{ℕ, ◌≡◌, cond, unwrap_or};
+ghost use Rattle.plain.specs.Numbers.{NONE as none};
 ghost use Rattle.plain.specs.Answers.{answer_by, edge_record_of, sums_total_of};
 
 use crate::refusals::Refusal;
@@ -35,6 +36,15 @@ impl Value for usize {
 
     fn value(self) -> u64 {
         self as u64
+    }
+}
+
+// What is found, NONE where nothing is.
+impl Value for Option<u32> {
+    ghost value_is = { λ found. unwrap_or found none };
+
+    fn value(self) -> u64 {
+        u64::from(self.unwrap_or(NONE))
     }
 }
 

@@ -5,6 +5,7 @@
 
 ghost use Rattle.std.specs.Prelude.{◌≡◌};
 ghost use Rattle.plain.specs.Plain.{opposite};
+ghost use Rattle.plain.specs.Based.{based};
 
 pub mod answers;
 pub mod numbers;
@@ -92,6 +93,19 @@ pub struct Slots {
     pub bound: u32,
     pub base: u32,
     pub live: u32,
+}
+
+impl Slots {
+    // Of slots that are all live and all in the base.
+    pub fn all_based(count: u32) -> Slots
+        ensures { result ≡ based count }
+    {
+        Slots {
+            bound: count,
+            base: count,
+            live: count,
+        }
+    }
 }
 
 // The counts of a store, by value beside its seven slices. Any values are legal input: the check judges them.

@@ -11,7 +11,7 @@ ghost use Rattle.renumbering.specs.Calls.{through, Lookup, Compose, IsIdentity};
 use plain::NONE;
 use plain::refusals::Refusal;
 
-// The new slot of an old one, NONE where it did not survive or is out of range.
+// The new slot of an old one, NONE where it did not survive or is out of range. It is no Option: the words of a map, which C reads, hold NONE themselves.
 #[tactic(auto, unfolding(plain::specs::Renumbering::lookup, plain::specs::Renumbering::lookup_answer))]
 pub fn lookup(renumbering: &[u32], slot: u32) -> u32
     ensures { Lookup renumbering.now slot (answer_of (Ok result)) }

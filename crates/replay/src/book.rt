@@ -24,7 +24,10 @@ pub struct Book {
 }
 
 impl Book {
-    pub fn new() -> Book {
+    // No slot, and no capacity.
+    pub fn new() -> Book
+        ensures { (result.counts.nodes.bound ≡ 0) × (result.counts.edges.bound ≡ 0) }
+    {
         Book {
             counts: Counts::default(),
             node_capacity: 0,

@@ -1,40 +1,28 @@
 // Recorded lines on standard input: a call, the operations of a strip, the bytes of an image. Crate replay_main tells what a line is.
 
-ghost use Rattle.std.specs.Prelude.{◌+◌, ◌≤◌, length};
-
 use crate::Line;
 use std::io::{ErrorKind, Read};
 use std::{array, io};
 
-// What a hexadecimal digit stands for; any other byte is 0.
-fn digit(byte: u8) -> u32 {
-    char::from(byte).to_digit(16).unwrap_or(0)
-}
-
-// The word that eight digits stand for.
+// The word that eight hexadecimal digits stand for; any other byte counts as 0.
 fn word(digits: &[u8]) -> u32 {
-    digits
-        .iter()
-        .fold(0, |word, byte| (word << 4) | digit(*byte))
+    digits.iter().fold(0, |word, byte| {
+        (word << 4) | char::from(*byte).to_digit(16).unwrap_or(0)
+    })
 }
 
-// The five words, behind each of which stands a space or the end of the line.
-fn decode(line: &[u8; 45]) -> Line {
-    array::from_fn(|i| word(&line[9 * i..9 * i + 8]))
-}
-
-// The next line of the input; none where less than a line is left. A read that fails is answered.
+// The next line of the input, behind each word of which stands a space or the end of the line; none where less than a line is left. A read that fails is answered.
 pub fn next(rt: &impl Input) -> io::Result<Option<Line>> {
     let mut line: [u8; 45] = [0; 45];
     match rt.reader().read_exact(&mut line) {
-        Ok(()) => Ok(Some(decode(&line))),
+        Ok(()) => Ok(Some(array::from_fn(|i| word(&line[9 * i..9 * i + 8])))),
         Err(error) if error.kind() == ErrorKind::UnexpectedEof => Ok(None),
         Err(error) => Err(error),
     }
 }
 
 // What stands for an operation that a shorter input lacks: its code is unknown.
-const NO_OPERATION: Line = [4294967295, 0, 0, 0, 0];
+const NO_OPERATION: Line = [u32::MAX, 0, 0, 0, 0];
 
 // Reads the operations of a strip, a line each, to the start of `words`.
 pub fn read_operations(rt: &impl Input, words: &mut [u32], lines: u32) -> io::Result<()> {
@@ -49,28 +37,20 @@ pub fn read_operations(rt: &impl Input, words: &mut [u32], lines: u32) -> io::Re
     Ok(())
 }
 
-// Puts the four bytes of a word at `at`, most significant first.
-fn put_word(bytes: &mut [u8], at: usize, word: u32)
-    requires { at + 4 ≤ length bytes.old }
-{
-    bytes[at..at + 4].copy_from_slice(&word.to_be_bytes());
-}
-
 // Reads bytes, sixteen a line behind its first word, to the start of `bytes`; those that a shorter input lacks stay as they are.
 pub fn read_bytes(rt: &impl Input, bytes: &mut [u8], lines: u32) -> io::Result<()> {
     for i in 0..lines as usize {
         let Some(line) = next(rt)? else {
             return Ok(());
         };
-        let [_, first, second, third, fourth] = line;
         let at = 16 * i;
         if bytes.len() < at + 16 {
             return Ok(());
         }
-        put_word(bytes, at, first);
-        put_word(bytes, at + 4, second);
-        put_word(bytes, at + 8, third);
-        put_word(bytes, at + 12, fourth);
+        let words = &line[1..];
+        for (four, word) in bytes[at..at + 16].chunks_exact_mut(4).zip(words) {
+            four.copy_from_slice(&word.to_be_bytes());
+        }
     }
     Ok(())
 }

@@ -11,6 +11,7 @@ pub mod Keeping
 pub mod Compactness
 pub mod Checking
 pub mod Reading
+pub mod Ends
 pub mod Slots
 pub mod Shapes
 pub mod Judging

@@ -1,14 +1,16 @@
 -- The ways that a strip ends, by what it answers before its first operation: refused, or its operations done in turn.
-use Rattle.std.specs.Prelude.{ℕ, zero, suc, ◌*◌, ◌/◌, ◌%◌, ◌≤◌, ◌<◌, ◌≡◌, refl, List, [], length}
+use Rattle.std.specs.Prelude.{ℕ, ◌*◌, ◌/◌, ◌%◌, ◌≤◌, ◌<◌, ◌≡◌, refl, List, [], length, Result, Ok, Err, MatchResult}
 use Rattle.plain.specs.Library.{sym, ap, subst, ◌∙◌, arith}
 use Rattle.plain.specs.declared.Answer.{Answer}
+use Rattle.plain.specs.declared.refusals.Refusal.{Refusal}
+use Rattle.plain.specs.declared.refusals.Refusal.TheVariants.{TooShort}
+use Rattle.plain.specs.Answers.{done_of}
 use Rattle.plain.specs.Lists.{written}
 use Rattle.plain.specs.Operations.{operation_words, operations}
 use Rattle.plain.specs.Calls.{Stripped, strip, judged_strip}
 use Rattle.plain.proofs.Laws.Strips.{length_operations}
 use Rattle.plain.proofs.Laws.CallCases.{strip_ragged, strip_short, strip_done}
 use Rattle.shape.specs.Shape.{Words, capacities, shape_of}
-use Rattle.shape.specs.Rules.{broken}
 use Rattle.shape.specs.Kept.{kept_none, kept_spared, nothing_spared, same_nodes, same_edges}
 use Rattle.shape.specs.Steps.{state_of}
 use Rattle.shape.proofs.Laws.NoFields.{kept_leaves}
@@ -34,15 +36,6 @@ module _ (w : Words) (words entry : List ℕ) where
         spared = nothing_spared w;
         leaves = λ p out held. refl;
       }
-
-  judged : {rule : ℕ} → Judged w rule → (rule ≡ 0 → ⊥) → StripOf w words entry 1 rule w entry
-  judged {rule} j broke = by rule j.first broke
-    where
-      by : (rule : ℕ) → rule ≡ broken w → (rule ≡ 0 → ⊥) → StripOf w words entry 1 rule w entry
-      by zero is broke = absurd (broke refl)
-      by (suc rule) is broke =
-          kept (record { number = 1; value = suc rule; words = []; after = state_of (shape_of w) })
-          (ap (λ (n : ℕ). judged_strip n (state_of (shape_of w)) (strip (capacities w) (state_of (shape_of w)) words (length entry))) (sym is)) refl refl (λ q. omega arith)
 
   module _ {rule : ℕ} (j : Judged w rule) (sound : rule ≡ 0) where
     told : stripped w words (length entry) ≡ strip (capacities w) (state_of (shape_of w)) words (length entry)
@@ -86,25 +79,34 @@ module _ (w : Words) (words entry : List ℕ) where
               leaves = kept_leaves w v ran.lengths ran.kept;
             }
 
+-- what a strip is refused with before its first operation, where its length is whole
+pub opening_told : {length room : ℕ} (came : Result Unit Refusal) → length % operation_words ≡ 0
+    → MatchResult came (λ _. 2 * (length / operation_words) ≤ room) (λ refusal. (room < 2 * (length / operation_words)) × (refusal ≡ TooShort (2 * (length / operation_words))))
+    → Opening 0 length room (done_of came)
+opening_told (Ok done) whole room = opens refl whole room
+opening_told (Err refusal) whole short_by = rw short_by.1 (short refl whole short_by.0)
+
 -- what an answer of 0 says
-opened : {rule words room : ℕ} {r : Answer} → Opening rule words room r → r.number ≡ 0
-    → (rule ≡ 0) × (words % operation_words ≡ 0) × (2 * (words / operation_words) ≤ room)
-opened (unsound broke) none = absurd (omega arith)
+opened : {words room : ℕ} {r : Answer} → Opening 0 words room r → r.number ≡ 0 → (words % operation_words ≡ 0) × (2 * (words / operation_words) ≤ room)
+opened (unsound broke) none = absurd (broke refl)
 opened (uneven sound rest) none = absurd (omega arith)
 opened (short sound whole little) none = absurd (omega arith)
-opened (opens sound whole room) none = (sound, whole, room)
+opened (opens sound whole room) none = (whole, room)
 
--- by the answer before the first operation
-module _ {w : Words} {words entry : List ℕ} {rule : ℕ} (j : Judged w rule) where
-  pub strip_refused : {r : Answer} → Opening rule (length words) (length entry) r → (r.number ≡ 0 → ⊥) → StripOf w words entry r.number r.value w entry
-  strip_refused (unsound broke) some = judged w words entry j broke
-  strip_refused (uneven sound rest) some = not_whole w words entry j sound rest
-  strip_refused (short sound whole little) some = no_room w words entry j sound whole little
-  strip_refused (opens sound whole room) some = absurd (some refl)
+-- by the answer before the first operation, where the store v that was checked, which is the store w as it stands, breaks no rule
+module _ {v w : Words} (same : v ≡ w) (words entry : List ℕ) (j : Judged v 0) where
+  sound : Judged w 0
+  sound = subst (λ (u : Words). Judged u 0) same j
 
-  pub strip_runnable : {r : Answer} → Opening rule (length words) (length entry) r → r.number ≡ 0 → Runnable w words entry
-  strip_runnable o none = let p = opened o none in runnable w words entry j p.0 p.1 p.2
+  pub strip_refused : {r : Answer} → Opening 0 (length words) (length entry) r → (r.number ≡ 0 → ⊥) → StripOf w words entry r.number r.value w entry
+  strip_refused (unsound broke) some = absurd (broke refl)
+  strip_refused (uneven unbroken rest) some = not_whole w words entry sound refl rest
+  strip_refused (short unbroken whole little) some = no_room w words entry sound refl whole little
+  strip_refused (opens unbroken whole room) some = absurd (some refl)
 
-  pub strip_run : {r : Answer} {v : Words} {exit : List ℕ} → Opening rule (length words) (length entry) r → r.number ≡ 0
-      → Ran w (operations words) entry v exit → StripOf w words entry 0 0 v exit
-  strip_run o none ran = let p = opened o none in ran_through w words entry j p.0 p.1 p.2 ran
+  pub strip_runnable : {r : Answer} → Opening 0 (length words) (length entry) r → r.number ≡ 0 → Runnable w words entry
+  strip_runnable o none = let p = opened o none in runnable w words entry sound refl p.0 p.1
+
+  pub strip_run : {r : Answer} {u : Words} {exit : List ℕ} → Opening 0 (length words) (length entry) r → r.number ≡ 0
+      → Ran w (operations words) entry u exit → StripOf w words entry 0 0 u exit
+  strip_run o none ran = let p = opened o none in ran_through w words entry sound refl p.0 p.1 ran

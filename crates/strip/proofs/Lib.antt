@@ -1,3 +1,4 @@
 mod Making
+mod Silent
 mod Running
 mod Ending

@@ -7,7 +7,8 @@ use Rattle.plain.specs.declared.Answer.{Answer}
 use Rattle.plain.specs.Lists.{all, from, count}
 use Rattle.plain.specs.Plain.{Plain}
 use Rattle.plain.specs.Step.{State}
-use Rattle.plain.specs.Memory.{live_words, axis_length as axis_room}
+use Rattle.plain.specs.declared.Counts.{Counts}
+use Rattle.plain.specs.Memory.{Lengths, live_words, axis_length as axis_room}
 use Rattle.plain.specs.Devices.{Device, box, Takes, Proper}
 use Rattle.plain.specs.Calls.{fresh_state, fresh}
 use Rattle.plain.specs.WellFormed.{WellFormed}
@@ -19,6 +20,14 @@ use Rattle.shape.specs.Shape.{Words, store, capacities, lengths_of, node_live, e
 use Rattle.shape.specs.Checked.{AxisChecked, Checked, SlotsChecked}
 use Rattle.shape.specs.Steps.{state_of}
 use Rattle.strip.specs.Fresh.{empty_slots, empty_counts, FreshOf}
+
+-- counts whose numbers are all 0
+pub none_counted : {c : Counts} → ((c.nodes.bound ≡ 0) × ((c.nodes.base ≡ 0) × (c.nodes.live ≡ 0))) × ((c.edges.bound ≡ 0) × ((c.edges.base ≡ 0) × (c.edges.live ≡ 0)))
+    → c ≡ empty_counts
+none_counted e = λ i. record {
+  nodes = record { bound = e.0.0 i; base = e.0.1.0 i; live = e.0.1.1 i };
+  edges = record { bound = e.1.0 i; base = e.1.1.0 i; live = e.1.1.1 i };
+}
 
 module _ (nodes lows highs live_nodes live_edges outgoing incoming : List ℕ) where
   -- the memory lent, with no slot
@@ -64,10 +73,17 @@ module _ (nodes lows highs live_nodes live_edges outgoing incoming : List ℕ) w
   }
 
   -- by the answer to its lengths
-  pub made : {device : Device} → Proper device → {told : Answer} → told ≡ fresh device (lengths_of memory) → FreshOf device memory told.number told.value
-  made {device} p {told} is = record {
+  of_answer : {device : Device} → Proper device → {told : Answer} → told ≡ fresh device (lengths_of memory) → FreshOf device memory told.number told.value
+  of_answer {device} p {told} is = record {
     answered = is;
     counts = refl;
     state = nothing;
     checked = λ h. let r = fresh_roomy p (lengths_of memory) (ap (λ (a : Answer). a.number) (sym is) ∙ h) in a_store (box_takes p r.takes) r.roomy;
   }
+
+-- whatever words stand there
+module _ {device : Device} (p : Proper device) {lengths : Lengths} {told : Answer} (is : told ≡ fresh device lengths) where
+  pub made : (w : Words) → lengths_of w ≡ lengths → w.counts ≡ empty_counts → FreshOf device w told.number told.value
+  made w measured empty =
+      subst (λ (c : Counts). FreshOf device (store c w.nodes w.lows w.highs w.live_nodes w.live_edges w.outgoing w.incoming) told.number told.value) (sym empty)
+      (of_answer w.nodes w.lows w.highs w.live_nodes w.live_edges w.outgoing w.incoming p (is ∙ ap (fresh device) (sym measured)))

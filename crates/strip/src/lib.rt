@@ -2,112 +2,30 @@
 
 #![tactic(auto)]
 
-ghost use Rattle.std.specs.Prelude.{◌+◌, ◌*◌, ◌≤◌, ◌≡◌, length, get_or, set};
+ghost use Rattle.std.specs.Prelude.{◌+◌, ◌*◌, ◌≤◌, ◌≡◌, IfErr, length, get_or, set};
 ghost use Rattle.plain.specs.declared.Operation.TheVariants.{Unknown};
+ghost use Rattle.plain.specs.Numbers.{NONE as none};
 ghost use Rattle.plain.specs.Operations.{operation_words, operations};
-ghost use Rattle.plain.specs.Devices.{box, skid, Proper};
-ghost use Rattle.memory.specs.Lengths.{device_of};
-ghost use Rattle.shape.specs.Lent.{lent, at_entry, at_exit};
-ghost use Rattle.strip.specs.Fresh.{FreshOf};
+ghost use Rattle.plain.specs.Refusals.{value_of};
+ghost use Rattle.plain.specs.Answers.{answer_of, done_of};
+ghost use Rattle.memory.specs.Lengths.{measured, device_of};
+ghost use Rattle.shape.specs.Stores.{words_mut, SameSlices};
+ghost use Rattle.strip.specs.Fresh.{Made};
 ghost use Rattle.strip.specs.Strip.{Runnable, Ran, Opening, StripOf};
 
-use memory::{Lengths, Limits};
-use plain::{Answer, Changed, Counts, OPERATION_WORDS, Operation, Slots, numbers};
+use memory::{Device, Lengths};
+use plain::refusals::Refusal;
+use plain::{Counts, NONE, OPERATION_WORDS, Operation, numbers};
+use shape::StoreMut;
+use validate::judging::check_store;
 
-// A fresh store in the memory lent, on a device of these limits: its number, nodes before edges, then 2. It is empty with bounds 0, so that no word of it is a field, and
-// none is written. Internal.
-fn fresh_within(
-    limits: Limits,
-    nodes: &[u32],
-    lows: &[u32],
-    highs: &[u32],
-    live_nodes: &[u64],
-    live_edges: &[u64],
-    outgoing: &[u32],
-    incoming: &[u32],
-) -> Changed
-    requires { Proper (device_of limits) }
-    ensures { FreshOf (device_of limits)
-        (at_entry result.counts nodes.now lows.now highs.now live_nodes.now live_edges.now outgoing.now incoming.now)
-        result.number result.value }
+// A fresh store in memory of these lengths, whatever words stand there: its counts, or why it is refused, on a box by 13, on the skid by 15 "in place of 13", nodes before edges,
+// then by 2. It is empty with bounds 0, so that no word of it is a field, and none is written.
+pub fn fresh(device: Device, lengths: Lengths) -> Result<Counts, Refusal>
+    ensures { Made (device_of device) (measured lengths) result }
 {
-    let told = memory::fresh_answer(
-        limits,
-        Lengths {
-            nodes: nodes.len(),
-            lows: lows.len(),
-            highs: highs.len(),
-            live_nodes: live_nodes.len(),
-            live_edges: live_edges.len(),
-            outgoing: outgoing.len(),
-            incoming: incoming.len(),
-        },
-    );
-    let slots = Slots {
-        bound: 0,
-        base: 0,
-        live: 0,
-    };
-    Changed {
-        number: told.number,
-        value: told.value,
-        counts: Counts {
-            nodes: slots,
-            edges: slots,
-        },
-    }
-}
-
-// A fresh store in a box's memory: "13, nodes before edges, then 2".
-pub fn fresh(
-    nodes: &[u32],
-    lows: &[u32],
-    highs: &[u32],
-    live_nodes: &[u64],
-    live_edges: &[u64],
-    outgoing: &[u32],
-    incoming: &[u32],
-) -> Changed
-    ensures { FreshOf box
-        (at_entry result.counts nodes.now lows.now highs.now live_nodes.now live_edges.now outgoing.now incoming.now)
-        result.number result.value }
-{
-    fresh_within(
-        Limits::BOX,
-        nodes,
-        lows,
-        highs,
-        live_nodes,
-        live_edges,
-        outgoing,
-        incoming,
-    )
-}
-
-// A fresh store in the skid's memory: 15 "in place of 13", then 2.
-pub fn skid_fresh(
-    nodes: &[u32],
-    lows: &[u32],
-    highs: &[u32],
-    live_nodes: &[u64],
-    live_edges: &[u64],
-    outgoing: &[u32],
-    incoming: &[u32],
-) -> Changed
-    ensures { FreshOf skid
-        (at_entry result.counts nodes.now lows.now highs.now live_nodes.now live_edges.now outgoing.now incoming.now)
-        result.number result.value }
-{
-    fresh_within(
-        Limits::SKID,
-        nodes,
-        lows,
-        highs,
-        live_nodes,
-        live_edges,
-        outgoing,
-        incoming,
-    )
+    memory::check_fresh(device, lengths)?;
+    Ok(Counts::default())
 }
 
 // Operation i of a strip, from its words.
@@ -116,125 +34,59 @@ fn operation_at(words: &[u32], i: usize) -> Operation
     ensures { result ≡ get_or (operations words.now) i Unknown }
 {
     let at = OPERATION_WORDS * i;
-    operation::decode(
+    operation::decode([
         words[at],
         words[at + 1],
         words[at + 2],
         words[at + 3],
         words[at + 4],
-    )
+    ])
 }
 
 // Writes the two words of answer i.
-fn write_answer(answers: &mut [u32], i: usize, number: u32, value: u32)
-    requires { 2 * i + 2 ≤ length answers.old }
-    ensures { answers.new ≡ set (set answers.old (2 * i) number) (2 * i + 1) value }
+fn write_answer(answers: &mut [u32], i: usize, came: Result<u32, Refusal>)
+    requires room { 2 * i + 2 ≤ length answers.old }
+    requires untold { IfErr came (λ refusal. value_of refusal ≡ none) }
+    ensures { answers.new ≡ set (set answers.old (2 * i) (answer_of came).number) (2 * i + 1) (answer_of came).value }
 {
+    let (number, value) = match came {
+        Ok(value) => (numbers::DONE, value),
+        Err(refusal) => (refusal.number(), NONE),
+    };
     let to = 2 * i;
     answers[to] = number;
     answers[to + 1] = value;
 }
 
 // The operations of a strip in turn, with two words of answer each. A refused operation changes nothing and the strip goes on.
-fn run(
-    counts: Counts,
-    nodes: &mut [u32],
-    lows: &mut [u32],
-    highs: &mut [u32],
-    live_nodes: &mut [u64],
-    live_edges: &mut [u64],
-    outgoing: &mut [u32],
-    incoming: &mut [u32],
-    words: &[u32],
-    answers: &mut [u32],
-) -> Counts
-    requires { Runnable (lent counts nodes.old lows.old highs.old live_nodes.old live_edges.old outgoing.old incoming.old) words.now answers.old }
-    ensures { Ran
-        (at_entry counts nodes.old lows.old highs.old live_nodes.old live_edges.old outgoing.old incoming.old)
-        (operations words.now) answers.old
-        (at_exit result nodes.new lows.new highs.new live_nodes.new live_edges.new outgoing.new incoming.new)
-        answers.new }
+fn run(store: &mut StoreMut, words: &[u32], answers: &mut [u32])
+    requires { Runnable (words_mut store.old) words.now answers.old }
+    ensures same { SameSlices store.old store.new }
+    ensures ran { Ran (words_mut store.old) (operations words.now) answers.old (words_mut store.new) answers.new }
 {
-    let count = words.len() / OPERATION_WORDS;
-    let mut counts = counts;
-    let mut i: usize = 0;
-    while i < count {
-        let operation = operation_at(words, i);
-        let done = step::step(
-            counts, nodes, lows, highs, live_nodes, live_edges, outgoing, incoming, operation,
-        );
-        write_answer(answers, i, done.number, done.value);
-        counts = done.counts;
-        i += 1;
+    for i in 0..words.len() / OPERATION_WORDS {
+        let came = step::step(store, operation_at(words, i));
+        write_answer(answers, i, came);
     }
-    counts
 }
 
-// What a strip answers before its first operation: "1, 3, 2", by the rule that its store breaks, its length and the room for its answers.
-fn opening(rule: u32, length: usize, room: usize) -> Answer
-    ensures { Opening rule length room result }
+// What a strip on a store is refused with before its first operation: "3, 2", by its length and the room for its answers.
+fn opening(length: usize, room: usize) -> Result<(), Refusal>
+    ensures { Opening 0 length room (done_of result) }
 {
-    if rule != 0 {
-        return Answer {
-            number: numbers::NO_STORE,
-            value: rule as u64,
-        };
-    }
     if length % OPERATION_WORDS != 0 {
-        return Answer {
-            number: numbers::RAGGED,
-            value: length as u64,
-        };
+        return Err(Refusal::Ragged(length as u64));
     }
-    let needed = 2 * (length / OPERATION_WORDS);
-    if room < needed {
-        return Answer {
-            number: numbers::TOO_SHORT,
-            value: needed as u64,
-        };
-    }
-    Answer {
-        number: numbers::DONE,
-        value: 0,
-    }
+    memory::need(2 * (length / OPERATION_WORDS), room)
 }
 
 // A strip: "1, 3, 2", then its operations. The store is checked once. Refused, nothing is written.
-pub fn strip(
-    counts: Counts,
-    nodes: &mut [u32],
-    lows: &mut [u32],
-    highs: &mut [u32],
-    live_nodes: &mut [u64],
-    live_edges: &mut [u64],
-    outgoing: &mut [u32],
-    incoming: &mut [u32],
-    words: &[u32],
-    answers: &mut [u32],
-) -> Changed
-    ensures { StripOf
-        (at_entry counts nodes.old lows.old highs.old live_nodes.old live_edges.old outgoing.old incoming.old)
-        words.now answers.old result.number result.value
-        (at_exit result.counts nodes.new lows.new highs.new live_nodes.new live_edges.new outgoing.new incoming.new)
-        answers.new }
+pub fn strip(store: &mut StoreMut, words: &[u32], answers: &mut [u32]) -> Result<(), Refusal>
+    ensures same { SameSlices store.old store.new }
+    ensures strips { StripOf (words_mut store.old) words.now answers.old (done_of result).number (done_of result).value (words_mut store.new) answers.new }
 {
-    let rule = validate::judging::judge(
-        counts, nodes, lows, highs, live_nodes, live_edges, outgoing, incoming,
-    );
-    let told = opening(rule, words.len(), answers.len());
-    if told.number != 0 {
-        return Changed {
-            number: told.number,
-            value: told.value,
-            counts,
-        };
-    }
-    let after = run(
-        counts, nodes, lows, highs, live_nodes, live_edges, outgoing, incoming, words, answers,
-    );
-    Changed {
-        number: numbers::DONE,
-        value: 0,
-        counts: after,
-    }
+    check_store(&store.as_store())?;
+    opening(words.len(), answers.len())?;
+    run(store, words, answers);
+    Ok(())
 }

@@ -1,11 +1,12 @@
 -- The lists that compaction takes over from one direction, by the words of its axis: the walks of the live nodes, ring order included.
 use Rattle.std.specs.Prelude.{ℕ, ◌+◌, ◌*◌, ◌≤◌, ◌<◌, ◌≡◌, Bool, true, List, ◌++◌, map, length, take, drop}
 use Rattle.plain.specs.declared.Counts.{Counts}
-use Rattle.plain.specs.Lists.{joined}
+use Rattle.plain.specs.declared.TraversalDirection.{TraversalDirection}
+use Rattle.plain.specs.Lists.{joined, keep}
 use Rattle.plain.specs.Reads.{live_slots}
 use Rattle.liveness.specs.Flags.{live_flags}
-use Rattle.cursor.specs.declared.AdjacencyCursor.{AdjacencyCursor}
-use Rattle.cursor.specs.Cursor.{listed_left, Seekable}
+use Rattle.shape.specs.Shape.{Words, axis_words, edge_capacity, node_capacity}
+use Rattle.cursor.specs.Cursor.{listed}
 use Rattle.adjacency.specs.Walk.{walk_in, Walkable}
 
 -- the walks of the live nodes in slot order, one behind the other
@@ -13,20 +14,23 @@ unfoldable pub live_walks : List ℕ → ℕ → ℕ → Counts → List ℕ →
 live_walks ws ce cn counts live_nodes live_edges =
     joined (map (λ x. walk_in ws ce cn counts live_edges x true) (live_slots (live_flags live_nodes counts.nodes.bound)))
 
+-- of a store in a direction, by the edges' old numbers
+abbrev pub walks_in : TraversalDirection → Words → List ℕ
+walks_in d w = live_walks (axis_words d w) (edge_capacity w) (node_capacity w) w.counts w.live_nodes w.live_edges
+
 -- What it takes to write them: each node can be walked, they have an entry a live edge, and there is room for all.
-pub record ListsFit (ws : List ℕ) (ce cn : ℕ) (counts : Counts) (live_nodes live_edges out : List ℕ) : Type 0 where
-  pub walkable : (x : ℕ) → x < counts.nodes.bound → Walkable ws ce cn counts live_edges x
-  pub live_long : counts.nodes.bound ≤ 64 * length live_nodes
-  pub counted : length (live_walks ws ce cn counts live_nodes live_edges) ≡ counts.edges.live
-  pub fits : counts.edges.live ≤ length out
+pub record ListsFit (d : TraversalDirection) (w : Words) (out : List ℕ) : Type 0 where
+  pub walkable : (x : ℕ) → x < w.counts.nodes.bound → Walkable (axis_words d w) (edge_capacity w) (node_capacity w) w.counts w.live_edges x
+  pub live_long : w.counts.nodes.bound ≤ 64 * length w.live_nodes
+  pub counted : length (walks_in d w) ≡ w.counts.edges.live
+  pub fits : w.counts.edges.live ≤ length out
 
 -- ---- one walk behind what stands in a slice
 
--- What it takes to put a walk there: it can be read, and together with the first `from` words it is no longer than `total` words of the slice.
-pub record PutFits (linked : Bool) (entries next : List ℕ) (tombstoned : Bool) (live : List ℕ) (slots : ℕ) (c : AdjacencyCursor) (out : List ℕ) (total from : ℕ)
-    : Type 0 where
-  pub seekable : Seekable linked entries next live slots c
-  pub room : from + length (listed_left linked entries next tombstoned live slots c) ≤ total
+-- What it takes to put the listed ones of a walk's entries there: together with the first `from` words they are no more than `total` words of the slice.
+pub record PutFits (entries : List ℕ) (tombstoned : Bool) (live : List ℕ) (slots : ℕ) (out : List ℕ) (total from : ℕ) : Type 0 where
+  pub live_long : slots ≤ 64 * length live
+  pub room : from + length (keep (listed tombstoned (live_flags live slots)) entries) ≤ total
   pub within : total ≤ length out
 
 -- A list put behind the first `from` words of a slice, so that the first `end` are those and the list. Words from there up to `total` may have changed, others not.

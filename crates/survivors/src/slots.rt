@@ -9,7 +9,8 @@ ghost use Rattle.liveness.specs.Flags.{live_flags};
 ghost use Rattle.shape.specs.Index.{Rewritten};
 ghost use Rattle.survivors.specs.Slots.{MapFits, Keepable, kept_word, WeightsKeepable, WeightsKept, Translatable, translated_word};
 
-use liveness;
+use liveness::is_live;
+use liveness::live_slots::LiveSlots;
 use plain::NONE;
 
 // Writes the new number of every live slot, counted from `first` on, and NONE for the dead ones, to the start of `map`. Compaction counts from 0; joining counts the
@@ -20,7 +21,7 @@ pub fn write_map(live: &[u64], bound: usize, first: u32, map: &mut [u32])
 {
     let mut next: u32 = first;
     for slot in 0..bound {
-        if liveness::is_live(live, bound, slot) {
+        if is_live(live, bound, slot) {
             map[slot] = next;
             next += 1;
         } else {
@@ -38,12 +39,8 @@ pub fn keep_live(words: &mut [u32], live: &[u64], bound: usize, count: usize)
     if count == bound {
         return;
     }
-    let mut to: usize = 0;
-    for slot in 0..bound {
-        if liveness::is_live(live, bound, slot) {
-            words[to] = words[slot];
-            to += 1;
-        }
+    for (to, slot) in LiveSlots::new(live, bound).enumerate() {
+        words[to] = words[slot];
     }
 }
 

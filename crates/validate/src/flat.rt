@@ -18,7 +18,8 @@ use validate_lists::walks::live_marked;
 use validate_words::axes::words_below;
 use validate_words::rings::{edge_linked, pick};
 
-// Whether a node has a run; where none has, `runless` says so, and its mark is not read.
+// Whether a node has a run; where none has, `runless` says so, and its mark is not read. That is what the axis has been seen to hold, and picks no step: an Option of the
+// marks in its place would be no plainer, since each contract here would still speak of the axis beside it.
 fn has_run(
     axis: &[u32],
     edge_capacity: usize,

@@ -205,7 +205,8 @@ fn node_once(
     )
 }
 
-// The runs and rings of all nodes that have a run, on a clear map: only the yes is promised.
+// The runs and rings of all nodes that have a run, on a clear map: only the yes is promised. Kept apart from the passes that follow it, which want the registers.
+#[inline(never)]
 pub fn runs_once(
     axis: &[u32],
     edge_capacity: usize,

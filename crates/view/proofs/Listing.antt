@@ -1,16 +1,16 @@
 -- Listing the live slots by the next live one: what the loop holds, and what the two reads answer.
 use Rattle.std.specs.Prelude.{ℕ, ◌+◌, ◌≤◌, ◌<◌, ◌≡◌, refl, Bool, List, [], ◌∷◌, ◌++◌, length, set, drop}
-use Rattle.plain.specs.Library.{sym, ap, ◌∙◌, length-append, length-set, arith}
+use Rattle.plain.specs.Library.{sym, ap, ◌∙◌, append-nil, append_assoc, length-append, length-set, arith}
 use Rattle.plain.specs.declared.TraversalDirection.TheVariants.{Outgoing}
 use Rattle.plain.specs.declared.Slots.{Slots}
 use Rattle.plain.specs.declared.Answer.{Answer}
 use Rattle.plain.specs.Numbers.{LIMIT}
-use Rattle.plain.specs.Lists.{written}
+use Rattle.plain.specs.Lists.{member, written}
 use Rattle.plain.specs.Reads.{listing, live_count, live_slots, node_slots, edge_slots}
-use Rattle.plain.proofs.Laws.ListLaws.{count_length}
-use Rattle.plain.proofs.Laws.Rank.{length_live_slots}
-use Rattle.liveness.specs.Flags.{live_flags, next_live}
-use Rattle.liveness.specs.Laws.Passed.{Passed, passed_none, passed_fewer, passed_on, passed_later, passed_few, passed_all}
+use Rattle.std.proofs.Math.Seq.{get_or-append_seam}
+use Rattle.plain.proofs.Laws.ListLaws.{count_length, member_at}
+use Rattle.plain.proofs.Laws.Rank.{length_live_slots, live_below, member_live_slots}
+use Rattle.liveness.specs.Flags.{live_flags}
 use Rattle.shape.specs.Checked.{SlotsChecked}
 use Rattle.shape.specs.Shape.{Words, node_live, edge_live, lists}
 use Rattle.shape.proofs.Laws.Slots.{nodes_told, edges_told}
@@ -20,49 +20,59 @@ use Rattle.view.specs.Calls.{Listed, Replied}
 use Rattle.view.specs.Laws.Calls.{list_replies}
 use Rattle.view.specs.Ids.{LiveTold}
 
--- The live slots before `slot`, which is the next or past the end, are written, n of them.
-pub record Listing (flags : List Bool) (out₀ out : List ℕ) (n slot : ℕ) : Type 0 where
+-- n live slots are written, and these are left.
+pub record Listing (flags : List Bool) (out₀ out : List ℕ) (n : ℕ) (rest : List ℕ) : Type 0 where
   pub past : List ℕ
-  pub passed : Passed flags past slot
+  pub all : live_slots flags ≡ past ++ rest
   pub counted : n ≡ length past
   pub wrote : out ≡ past ++ drop n out₀
   pub long : length out ≡ length out₀
   pub fits : live_count flags ≤ length out₀
 
 -- where it starts
-pub listing_start : {flags : List Bool} {out : List ℕ} {slot : ℕ} → slot ≡ next_live flags 0 → live_count flags ≤ length out → Listing flags out out 0 slot
-listing_start next fits = record { past = []; passed = passed_none next; counted = refl; wrote = refl; long = refl; fits = fits }
+pub listing_start : {flags : List Bool} {out rest : List ℕ} → rest ≡ live_slots flags → live_count flags ≤ length out → Listing flags out out 0 rest
+listing_start is fits = record { past = []; all = sym is; counted = refl; wrote = refl; long = refl; fits = fits }
 
-module _ {flags : List Bool} {out₀ out : List ℕ} {n slot : ℕ} (i : Listing flags out₀ out n slot) where
-  module _ (l : slot < length flags) where
-    -- there is room for it
+module _ {flags : List Bool} {out₀ out : List ℕ} {n : ℕ} {rest : List ℕ} (i : Listing flags out₀ out n rest) where
+  -- those that are left are the others
+  pub listing_left : n + length rest ≡ live_count flags
+  listing_left = rw i.counted (sym (length-append i.past rest)) ∙ ap (λ (l : List ℕ). length l) (sym i.all) ∙ length_live_slots flags
+
+  -- no more than there are slots
+  pub listing_few : n + length rest ≤ length flags
+  listing_few = omega (arith, listing_left, count_length (λ (f : Bool). f) flags)
+
+  -- one slot more: there is room for it
+  module _ {slot : ℕ} {later : List ℕ} (next : rest ≡ slot ∷ later) where
     pub listing_room : n < length out
-    listing_room = omega (arith, i.counted, i.long, i.fits, passed_fewer i.passed l)
+    listing_room = omega (arith, listing_left, i.long, i.fits, ap (λ (l : List ℕ). length l) next)
 
-    -- one slot more
-    pub listing_on : {later : ℕ} → later ≡ next_live flags (slot + 1) → Listing flags out₀ (set out n slot) (n + 1) later
-    listing_on next =
+    -- it is one of them
+    pub listing_below : slot < length flags
+    listing_below =
+        let whole : live_slots flags ≡ i.past ++ (slot ∷ later) = i.all ∙ ap (λ (l : List ℕ). i.past ++ l) next in
+        let few : length i.past < length (i.past ++ (slot ∷ later)) = simp length-append (omega arith) in
+        let there = member_at (i.past ++ (slot ∷ later)) (length i.past) 0 few in
+        live_below flags slot
+        (sym (member_live_slots flags slot) ∙ ap (λ (l : List ℕ). member slot l) whole ∙ (rw (get_or-append_seam i.past slot later 0) at there))
+
+    pub listing_on : Listing flags out₀ (set out n slot) (n + 1) later
+    listing_on =
         let room : n < length out₀ = omega (arith, listing_room, i.long) in
         record {
           past = i.past ++ (slot ∷ []);
-          passed = passed_on i.passed l next;
+          all = i.all ∙ ap (λ (l : List ℕ). i.past ++ l) next ∙ sym (append_assoc i.past (slot ∷ []) later);
           counted = simp length-append (omega (arith, i.counted));
           wrote = rw i.wrote (write_one i.past out₀ n slot i.counted room);
           long = length-set out n slot ∙ i.long;
           fits = i.fits;
         }
 
-    -- the next is later
-    pub listing_later : {later : ℕ} → later ≡ next_live flags (slot + 1) → slot < later
-    listing_later next = passed_later i.passed l next
-
-  -- no more than there are slots
-  pub listing_few : n ≤ length flags
-  listing_few = omega (arith, i.counted, passed_few i.passed, count_length (λ (f : Bool). f) flags)
-
   -- all are written
-  pub listing_end : length flags ≤ slot → out ≡ written (live_slots flags) out₀
-  listing_end past_end = rw (passed_all i.passed past_end, ← i.counted) i.wrote
+  pub listing_end : rest ≡ [] → out ≡ written (live_slots flags) out₀
+  listing_end none =
+      let whole : live_slots flags ≡ i.past = i.all ∙ ap (λ (l : List ℕ). i.past ++ l) none ∙ append-nil i.past in
+      rw (whole, ← i.counted) i.wrote
 
 -- ---- the answers, of one kind of slot
 

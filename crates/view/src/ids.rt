@@ -10,7 +10,7 @@ ghost use Rattle.shape.specs.Stores.{words};
 ghost use Rattle.view.specs.Calls.{Listed, Replied};
 ghost use Rattle.view.specs.Ids.{LiveFits, LiveTold};
 
-use liveness::next_live;
+use liveness::live_slots::LiveSlots;
 use plain::Slots;
 use plain::refusals::Refusal;
 use shape::Store;
@@ -21,12 +21,8 @@ fn write_live(words: &[u64], bound: usize, slots: &mut [u32])
     requires { LiveFits words.now bound slots.old }
     ensures { slots.new ≡ written (live_slots (live_flags words.now bound)) slots.old }
 {
-    let mut n: usize = 0;
-    let mut slot = next_live(words, bound, 0);
-    while slot < bound {
+    for (n, slot) in LiveSlots::new(words, bound).enumerate() {
         slots[n] = slot as u32;
-        n += 1;
-        slot = next_live(words, bound, slot + 1);
     }
 }
 

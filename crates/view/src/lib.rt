@@ -3,7 +3,6 @@
 
 #![tactic(auto)]
 
-pub mod answers;
 pub mod compactness;
 pub mod ids;
 pub mod slots;

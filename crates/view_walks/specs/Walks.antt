@@ -1,12 +1,13 @@
 -- What the reads of a node's list ask and answer: its entries, their far ends, how many there are.
-use Rattle.std.specs.Prelude.{ℕ, ◌≤◌, ◌<◌, ◌≡◌, List, map, length}
+use Rattle.std.specs.Prelude.{ℕ, ◌≤◌, ◌<◌, ◌≡◌, List, map, length, Result, Ok, Err}
 use Rattle.plain.specs.declared.TraversalDirection.{TraversalDirection}
-use Rattle.plain.specs.declared.Answer.{Answer}
-use Rattle.plain.specs.Numbers.{NONE, done, too_short, out_of_range_node}
+use Rattle.plain.specs.declared.refusals.Rule.{Rule}
+use Rattle.plain.specs.declared.refusals.Refusal.{Refusal}
+use Rattle.plain.specs.declared.refusals.Refusal.TheVariants.{NoStore, TooShort, OutOfRangeNode}
 use Rattle.plain.specs.Plain.{list_of, end_of, opposite}
+use Rattle.plain.specs.Refusals.{rule_number}
 use Rattle.shape.specs.Shape.{Words, lists}
-use Rattle.shape.specs.Checked.{Checked}
-use Rattle.validate.specs.Judging.{Judged, refusal}
+use Rattle.validate.specs.Judging.{Judged}
 
 -- a node's list, and the far ends of it
 abbrev pub list_in : TraversalDirection → Words → ℕ → List ℕ
@@ -15,29 +16,20 @@ list_in d w x = list_of d (lists w) x
 abbrev pub far_ends_in : TraversalDirection → Words → ℕ → List ℕ
 far_ends_in d w x = map (end_of (opposite d) (lists w)) (list_of d (lists w) x)
 
--- What it takes to write a node's list to a slice: a node below the bound of a checked store, and room.
-pub record ListFits (w : Words) (d : TraversalDirection) (x : ℕ) (slots : List ℕ) : Type 0 where
-  pub checked : Checked w
-  pub below : x < w.counts.nodes.bound
-  pub fits : length (list_in d w x) ≤ length slots
+-- ---- what is found out before a list is read, and before it is written
 
--- ---- what counting a list comes to, and a read of it before anything is written
-
-pub data CountAnswer (w : Words) (d : TraversalDirection) (x : ℕ) : Answer → Type 0 where
+pub data Placed (w : Words) (x : ℕ) : Result Unit Refusal → Type 0 where
   -- a rule is broken
-  no_store : {rule : ℕ} {r : Answer} → Judged w rule → (rule ≡ 0 → ⊥) → r ≡ refusal rule → CountAnswer w d x r
+  no_store : {rule : Rule} → Judged w (rule_number rule) → Placed w x (Err (NoStore rule))
   -- the node is at or above the bound
-  past : {rule : ℕ} → Judged w rule → rule ≡ 0 → w.counts.nodes.bound ≤ x → CountAnswer w d x (record { number = out_of_range_node; value = NONE })
+  past : Judged w 0 → w.counts.nodes.bound ≤ x → Placed w x (Err OutOfRangeNode)
   -- it is below
-  counted : {rule n : ℕ} → Judged w rule → rule ≡ 0 → x < w.counts.nodes.bound → n ≡ length (list_in d w x)
-      → CountAnswer w d x (record { number = done; value = n })
+  there : {done : Unit} → Judged w 0 → x < w.counts.nodes.bound → Placed w x (Ok done)
 
-pub data ListAnswer (w : Words) (d : TraversalDirection) (x room : ℕ) : Answer → Type 0 where
+pub data Counted (w : Words) (d : TraversalDirection) (x room : ℕ) : Result ℕ Refusal → Type 0 where
   -- the list is not counted
-  refused : {r : Answer} → CountAnswer w d x r → (r.number ≡ 0 → ⊥) → ListAnswer w d x room r
+  refused : {r : Refusal} → Placed w x (Err r) → Counted w d x room (Err r)
   -- the slice is too short for it
-  short : {rule n : ℕ} → Judged w rule → rule ≡ 0 → x < w.counts.nodes.bound → n ≡ length (list_in d w x) → room < n
-      → ListAnswer w d x room (record { number = too_short; value = n })
+  short : {n : ℕ} → Judged w 0 → x < w.counts.nodes.bound → n ≡ length (list_in d w x) → room < n → Counted w d x room (Err (TooShort n))
   -- it is not
-  fits : {rule n : ℕ} → Judged w rule → rule ≡ 0 → x < w.counts.nodes.bound → n ≡ length (list_in d w x) → n ≤ room
-      → ListAnswer w d x room (record { number = done; value = n })
+  fits : {n : ℕ} → Judged w 0 → x < w.counts.nodes.bound → n ≡ length (list_in d w x) → n ≤ room → Counted w d x room (Ok n)

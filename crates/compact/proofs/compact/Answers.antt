@@ -1,37 +1,31 @@
--- `compact::compact` meets its contract: the check and the answer before it begins, then the store. A slice is as long as it was, by `refl` where the compaction is
--- refused and else by the word of `settle`.
-use Rattle.std.specs.Prelude.{refl}
-use Rattle.compact.proofs.Entry.{compact_refused, compact_settleable, compact_settled}
+-- `compact::compact` meets its contract: the refusals, then the store.
+use Rattle.std.specs.Prelude.{Result}
+use Rattle.plain.specs.Library.{subst}
+use Rattle.plain.specs.declared.refusals.Rule.{Rule}
+use Rattle.plain.specs.Refusals.{rule_of}
+use Rattle.plain.proofs.Laws.Exits.{refused_exit}
+use Rattle.shape.specs.Shape.{Words}
+use Rattle.shape.specs.Stores.{words, words_mut}
+use Rattle.validate.specs.Judging.{Judged}
+use Rattle.compact.proofs.Entry.{compact_short, compact_settleable, compact_settled}
+use Rattle.compact.proofs.compact.Goals.{In_ok-check_store}
 use Rattle.compact.proofs.compact.Goals as goal
 
-pub shape_of-nodes-then-told-ne0 : goal.shape_of-nodes-then-told-ne0
-shape_of-nodes-then-told-ne0 c = refl
+-- the words are a store
+sound : (c : In_ok-check_store) → Judged (words_mut c.args.store.now) 0
+sound c =
+    subst (λ (w : Words). Judged w 0) c.as_store.ensures
+    (subst (λ (came : Result Unit Rule). Judged (words c.as_store.result) (rule_of came)) c.in_ok-check_store.was c.check_store.ensures)
 
-pub shape_of-lows-then-told-ne0 : goal.shape_of-lows-then-told-ne0
-shape_of-lows-then-told-ne0 c = refl
+pub returns-in_err-check_lent-clause-compacted : goal.returns-in_err-check_lent-clause-compacted
+returns-in_err-check_lent-clause-compacted c =
+    rw (refused_exit c.from_residual-in_err-check_lent.result c.from_residual-in_err-check_lent.ensures.1)
+    (compact_short (sound (goal.at.returns-in_err-check_lent-clause-compacted c).In_ok-check_store) c.in_err-check_lent.field-0.0 c.in_err-check_lent.ensures)
 
-pub shape_of-highs-then-told-ne0 : goal.shape_of-highs-then-told-ne0
-shape_of-highs-then-told-ne0 c = refl
+pub settle-requires : goal.settle-requires
+settle-requires c =
+    compact_settleable (sound (goal.at.settle-requires c).In_ok-check_store) c.in_ok-check_lent.ensures
 
-pub shape_of-live_nodes-then-told-ne0 : goal.shape_of-live_nodes-then-told-ne0
-shape_of-live_nodes-then-told-ne0 c = refl
-
-pub shape_of-live_edges-then-told-ne0 : goal.shape_of-live_edges-then-told-ne0
-shape_of-live_edges-then-told-ne0 c = refl
-
-pub shape_of-outgoing-then-told-ne0 : goal.shape_of-outgoing-then-told-ne0
-shape_of-outgoing-then-told-ne0 c = refl
-
-pub shape_of-incoming-then-told-ne0 : goal.shape_of-incoming-then-told-ne0
-shape_of-incoming-then-told-ne0 c = refl
-
-pub returns-then-told-ne0 : goal.returns-then-told-ne0
-returns-then-told-ne0 c = compact_refused c.judge-rule.ensures c.opening-told.ensures c.if-told-ne0.true
-
-pub settle-after-requires : goal.settle-after-requires
-settle-after-requires c =
-    compact_settleable c.judge-rule.ensures c.opening-told.ensures c.if-told-ne0.false
-
-pub returns : goal.returns
-returns c =
-    compact_settled c.judge-rule.ensures c.opening-told.ensures c.if-told-ne0.false c.settle-after.ensures
+pub returns-clause-compacted : goal.returns-clause-compacted
+returns-clause-compacted c =
+    compact_settled (sound (goal.at.returns-clause-compacted c).In_ok-check_store) c.in_ok-check_lent.ensures c.settle.ensures.settled

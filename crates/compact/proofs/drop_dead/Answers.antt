@@ -26,8 +26,8 @@ reset_all_live-requires c = resettable c.requires.checked.nodes
 pub reset_all_live-requires-2 : goal.reset_all_live-requires-2
 reset_all_live-requires-2 c = resettable c.requires.checked.edges
 
-pub returns : goal.returns
-returns c =
+pub returns-clause-dropped : goal.returns-clause-dropped
+returns-clause-dropped c =
     record {
       lengths = each_length c.keep_live.auto.words c.keep_weights.auto.lows c.keep_weights.auto.highs c.reset_all_live.auto.words
           c.reset_all_live-2.auto.words c.compact_axis.auto.axis c.compact_axis-2.auto.axis;
@@ -37,5 +37,5 @@ returns c =
       live_nodes = c.reset_all_live.ensures;
       live_edges = c.reset_all_live-2.ensures;
       outgoing = c.compact_axis.ensures;
-      incoming = from_rest c.args.counts.edges.live c.args.work.now c.compact_axis-2.ensures;
+      incoming = from_rest c.args.store.now.counts.edges.live c.args.work.now c.compact_axis-2.ensures;
     }

@@ -18,6 +18,7 @@ use Rattle.plain.specs.declared.EdgePayload.{EdgePayload}
 use Rattle.plain.specs.declared.Slots.{Slots}
 use Rattle.plain.specs.declared.TraversalDirection.{TraversalDirection}
 use Rattle.plain.specs.declared.TraversalDirection.TheVariants.{Incoming, Outgoing}
+use Rattle.plain.specs.Based.{based}
 use Rattle.plain.specs.Compaction.{EdgeRecord, Survivors, kept_edge, kept_node, of_survivors, payload_of, source_of, target_of}
 use Rattle.plain.specs.Lists.{from, joined}
 use Rattle.plain.specs.Memory.{live_words}
@@ -46,7 +47,6 @@ use Rattle.shape.proofs.Laws.NoFields.{renewed_leaves}
 use Rattle.shape.proofs.Laws.Shapes.{shape_ext}
 use Rattle.compact.specs.Survivors.{shape_of_survivors}
 use Rattle.compact.specs.Laws.Survivors.{survivors_plain, survivors_state}
-use Rattle.compact.specs.Bases.{based}
 use Rattle.compact.specs.Calls.{AxisCanonical, Canonical, SlotsCanonical}
 
 -- the words at the front of a slice

@@ -7,6 +7,7 @@ use Rattle.plain.proofs.Laws.Booleans.{by_test}
 use Rattle.plain.proofs.Laws.ListLaws.{member_first, member_later}
 use Rattle.shape.specs.Chains.{In}
 use Rattle.cursor.specs.Finding.{first_of}
+use Rattle.cursor.specs.Laws.Reading.{keep_first, keep_past, keep_none}
 
 -- What holds at each turn of a search in all edges that has come to those left: it finds among these what it finds among all.
 pub record Searching (wanted : ℕ → Bool) (all left : List ℕ) : Type 0 where
@@ -51,8 +52,7 @@ seek_start {test = test} all = record { searching = search_start (keep test all)
 module _ {wanted test : ℕ → Bool} {all left : List ℕ} (i : Seeking wanted test all left) where
   -- the end
   pub seek_none : left ≡ [] → first_of wanted (keep test all) ≡ NONE
-  unfolding keep
-  seek_none q = search_none i.searching (rw q)
+  seek_none q = search_none i.searching (keep_none test q)
 
   module _ {e : ℕ} {rest : List ℕ} (q : left ≡ e ∷ rest) where
     -- it is one of all
@@ -61,18 +61,14 @@ module _ {wanted test : ℕ → Bool} {all left : List ℕ} (i : Seeking wanted 
 
     -- an entry that is wanted and listed
     pub seek_found : wanted e ≡ true → test e ≡ true → first_of wanted (keep test all) ≡ e
-    unfolding keep
-    seek_found t p = let first : keep test left ≡ e ∷ keep test rest = rw (q, p) in search_found i.searching first t
+    seek_found t p = search_found i.searching (keep_first test q p) t
 
     -- past an entry that is not listed
     pub seek_skip : test e ≡ false → Seeking wanted test all rest
-    unfolding keep
-    seek_skip p = record { searching = rw (q, p) at i.searching; among = λ k m. i.among k (rw q (member_later k e rest m)) }
+    seek_skip p = record { searching = rw (keep_past test q p) at i.searching; among = λ k m. i.among k (rw q (member_later k e rest m)) }
 
     -- past an entry that is not wanted, listed or not
     pub seek_on : wanted e ≡ false → Seeking wanted test all rest
-    unfolding keep
     seek_on t =
         by_test (test e)
-        (λ p. let first : keep test left ≡ e ∷ keep test rest = rw (q, p) in
-        record { searching = search_on i.searching first t; among = λ k m. i.among k (rw q (member_later k e rest m)) }) seek_skip
+        (λ p. record { searching = search_on i.searching (keep_first test q p) t; among = λ k m. i.among k (rw q (member_later k e rest m)) }) seek_skip

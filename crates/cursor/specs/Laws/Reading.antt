@@ -50,6 +50,24 @@ pub write_one : (past out₀ : List ℕ) (n v : ℕ) → n ≡ length past → n
 write_one past out₀ n v q h =
     rw (drop-cons out₀ n 0 h, add-one n) (set_at past (get_or out₀ n 0) (drop (suc n) out₀) v n (sym q) ∙ sym (append_snoc past v (drop (suc n) out₀)))
 
+-- ---- one entry more, of the entries that pass
+
+module _ (test : ℕ → Bool) {left rest : List ℕ} {e : ℕ} (q : left ≡ e ∷ rest) where
+  -- it passes
+  pub keep_first : test e ≡ true → keep test left ≡ e ∷ keep test rest
+  unfolding keep
+  keep_first t = rw (q, t)
+
+  -- it does not
+  pub keep_past : test e ≡ false → keep test left ≡ keep test rest
+  unfolding keep
+  keep_past t = rw (q, t)
+
+-- none more
+pub keep_none : (test : ℕ → Bool) {left : List ℕ} → left ≡ [] → keep test left ≡ []
+unfolding keep
+keep_none test q = rw q
+
 -- ---- an iterator of which the list of what is left is seen
 
 -- `count` counts that list

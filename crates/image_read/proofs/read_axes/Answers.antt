@@ -8,7 +8,7 @@ use Rattle.image_read.proofs.read_axes.Goals.{After-ins_start-ins}
 use Rattle.image_read.proofs.read_axes.Goals as goal
 
 targets : (c : After-ins_start-ins)
-    → c.edges_start-sources.result + c.least_width.result ≡ edges_start c.args.count_nodes + least_width c.args.count_nodes
+    → c.edges_start-sources.result + c.least_width.result ≡ edges_start c.args.image.now.nodes + least_width c.args.image.now.nodes
 targets c = ap₂ (λ (a b : ℕ). a + b) c.edges_start-sources.ensures c.least_width.ensures
 
 pub read_axis-requires : goal.read_axis-requires

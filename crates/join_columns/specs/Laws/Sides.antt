@@ -1,7 +1,7 @@
 -- One direction of two books, call by call: the ends of both are written, then the lists of both, and the base is built on them.
 use Rattle.std.specs.Prelude.{ℕ, ◌*◌, ◌+◌, ◌<◌, ◌≤◌, ◌≡◌, List, ◌++◌, drop, get_or, length}
 use Rattle.plain.specs.Library.{◌∙◌, ap, subst, sym, get_or-append, length-append, length-map, arith}
-use Rattle.plain.specs.declared.Counts.{Counts}
+use Rattle.plain.specs.declared.TraversalDirection.{TraversalDirection}
 use Rattle.plain.specs.Lists.{written}
 use Rattle.plain.specs.Numbers.{NONE}
 use Rattle.plain.specs.Reads.{live_slots}
@@ -9,110 +9,96 @@ use Rattle.plain.proofs.Laws.ListLaws.{member_source}
 use Rattle.plain.proofs.Laws.Rank.{member_live_slots}
 use Rattle.liveness.specs.Flags.{live_flags}
 use Rattle.shape.specs.Chains.{In}
+use Rattle.shape.specs.Shape.{Words}
 use Rattle.shape.specs.Index.{Rewritten, before, ends_of}
 use Rattle.adjacency.specs.Index.{Compressible}
-use Rattle.survivors.specs.Lists.{ListsFit, live_walks}
+use Rattle.survivors.specs.Lists.{ListsFit}
 use Rattle.survivors.specs.Slots.{Translatable, live_words_of, translated_word}
-use Rattle.join_columns.specs.Sides.{AxisJoinable, AxisJoined, BothEndsFit, BothEntriesFit, EndsFit, EndsReadable, EntriesFit, EntriesReadable, Side, both_edges, both_nodes, new_ends, new_entries, side_ends, side_entries}
+use Rattle.join_columns.specs.Sides.{AxisJoinable, AxisJoined, BothEndsFit, BothEntriesFit, EndsFit, EndsReadable, EntriesFit, EntriesReadable, Side, both_edges, both_nodes, side_ends, side_entries, side_of, side_walks}
 use Rattle.join_columns.specs.Slots.{Copyable}
 use Rattle.survivors.proofs.Laws.Slots.{length_live_words}
 use Rattle.join_columns.specs.Laws.Written.{length_rest, part_rewritten, rest, room_behind, through_fits, with_rest, written_behind, written_length, written_through}
 
 -- ---- ends
 
-module _ {ws : List ℕ} {counts : Counts} {live_edges node_map : List ℕ} (r : EndsReadable ws counts live_edges node_map) where
+module _ {s : Side} (r : EndsReadable s) where
   abbrev old_ends : List ℕ
-  old_ends = live_words_of ws (live_flags live_edges counts.edges.bound)
+  old_ends = live_words_of s.words (live_flags s.live_edges s.counts.edges.bound)
 
-  old_long : length old_ends ≡ counts.edges.live
-  old_long = length_live_words ws (live_flags live_edges counts.edges.bound) ∙ sym r.counted
+  old_long : length old_ends ≡ s.counts.edges.live
+  old_long = length_live_words s.words (live_flags s.live_edges s.counts.edges.bound) ∙ sym r.counted
 
-  pub ends_long : length (new_ends ws counts live_edges node_map) ≡ counts.edges.live
-  ends_long = length-map old_ends (λ e. get_or node_map e 0) ∙ old_long
+  pub ends_long : length (side_ends s) ≡ s.counts.edges.live
+  ends_long = length-map old_ends (λ e. get_or s.node_map e 0) ∙ old_long
 
-  end_mapped : (x : ℕ) → In x old_ends → x < length node_map
+  end_mapped : (x : ℕ) → In x old_ends → x < length s.node_map
   end_mapped x m =
-      let flags = live_flags live_edges counts.edges.bound in
-      let there = member_source (λ e. get_or ws e 0) x (live_slots flags) m in
-      subst (λ (z : ℕ). z < length node_map) there.2 (r.mapped there.0 (sym (member_live_slots flags there.0) ∙ there.1))
+      let flags = live_flags s.live_edges s.counts.edges.bound in
+      let there = member_source (λ e. get_or s.words e 0) x (live_slots flags) m in
+      subst (λ (z : ℕ). z < length s.node_map) there.2 (r.mapped there.0 (sym (member_live_slots flags there.0) ∙ there.1))
 
-module _ {ws : List ℕ} {counts : Counts} {live_edges node_map out : List ℕ} (f : EndsFit ws counts live_edges node_map out) where
-  pub ends_copyable : Copyable ws live_edges counts.edges.bound out
+module _ {s : Side} {out : List ℕ} (f : EndsFit s out) where
+  pub ends_copyable : Copyable s.words s.live_edges s.counts.edges.bound out
   ends_copyable = record { readable = f.readable.readable; fits = omega (arith, f.readable.counted, f.room) }
 
-  pub ends_translatable : {a : List ℕ} → a ≡ written (live_words_of ws (live_flags live_edges counts.edges.bound)) out → Translatable a counts.edges.live node_map
-  ends_translatable is =
-      through_fits (live_words_of ws (live_flags live_edges counts.edges.bound)) out counts.edges.live (old_long f.readable) f.room is node_map (end_mapped f.readable)
+  module _ {a : List ℕ} (is : a ≡ written (old_ends f.readable) out) where
+    pub ends_translatable : Translatable a s.counts.edges.live s.node_map
+    ends_translatable = through_fits (old_ends f.readable) out s.counts.edges.live (old_long f.readable) f.room is s.node_map (end_mapped f.readable)
 
-  pub ends_written : {a b : List ℕ} → a ≡ written (live_words_of ws (live_flags live_edges counts.edges.bound)) out
-      → Rewritten a b 0 counts.edges.live (translated_word a node_map) → b ≡ written (new_ends ws counts live_edges node_map) out
-  ends_written is t =
-      written_through (live_words_of ws (live_flags live_edges counts.edges.bound)) out counts.edges.live (old_long f.readable) f.room is node_map t
+    pub ends_written : {b : List ℕ} → Rewritten a b 0 s.counts.edges.live (translated_word a s.node_map) → b ≡ written (side_ends s) out
+    ends_written t = written_through (old_ends f.readable) out s.counts.edges.live (old_long f.readable) f.room is s.node_map t
 
 -- ---- lists
 
-module _ {ws : List ℕ} {ce cn : ℕ} {counts : Counts} {live_nodes live_edges edge_map : List ℕ}
-    (r : EntriesReadable ws ce cn counts live_nodes live_edges edge_map) where
-  abbrev walks : List ℕ
-  walks = live_walks ws ce cn counts live_nodes live_edges
+pub entries_long : {s : Side} → EntriesReadable s → length (side_entries s) ≡ s.counts.edges.live
+entries_long {s} r = length-map (side_walks s) (λ e. get_or s.edge_map e 0) ∙ r.counted
 
-  pub entries_long : length (new_entries ws ce cn counts live_nodes live_edges edge_map) ≡ counts.edges.live
-  entries_long = length-map walks (λ e. get_or edge_map e 0) ∙ r.counted
+pub lists_fit : {d : TraversalDirection} {w : Words} {node_map edge_map out : List ℕ} → EntriesFit (side_of d w node_map edge_map) out → ListsFit d w out
+lists_fit f = record { walkable = f.readable.walkable; live_long = f.readable.live_long; counted = f.readable.counted; fits = f.room }
 
-module _ {ws : List ℕ} {ce cn : ℕ} {counts : Counts} {live_nodes live_edges edge_map out : List ℕ}
-    (f : EntriesFit ws ce cn counts live_nodes live_edges edge_map out) where
-  pub lists_fit : ListsFit ws ce cn counts live_nodes live_edges out
-  lists_fit = record { walkable = f.readable.walkable; live_long = f.readable.live_long; counted = f.readable.counted; fits = f.room }
+module _ {s : Side} {out : List ℕ} (f : EntriesFit s out) {a : List ℕ} (is : a ≡ written (side_walks s) out) where
+  pub entries_translatable : Translatable a s.counts.edges.live s.edge_map
+  entries_translatable = through_fits (side_walks s) out s.counts.edges.live f.readable.counted f.room is s.edge_map f.readable.mapped
 
-  pub entries_translatable : {a : List ℕ} → a ≡ written (live_walks ws ce cn counts live_nodes live_edges) out → Translatable a counts.edges.live edge_map
-  entries_translatable is =
-      through_fits (live_walks ws ce cn counts live_nodes live_edges) out counts.edges.live f.readable.counted f.room is edge_map f.readable.mapped
-
-  pub entries_written : {a b : List ℕ} → a ≡ written (live_walks ws ce cn counts live_nodes live_edges) out → Rewritten a b 0 counts.edges.live (translated_word a edge_map)
-      → b ≡ written (new_entries ws ce cn counts live_nodes live_edges edge_map) out
-  entries_written is t = written_through (live_walks ws ce cn counts live_nodes live_edges) out counts.edges.live f.readable.counted f.room is edge_map t
+  pub entries_written : {b : List ℕ} → Rewritten a b 0 s.counts.edges.live (translated_word a s.edge_map) → b ≡ written (side_entries s) out
+  entries_written t = written_through (side_walks s) out s.counts.edges.live f.readable.counted f.room is s.edge_map t
 
 -- ---- both books
 
-module _ {out ws : List ℕ} {first : Counts} {live_edges node_map vs : List ℕ} {second : Counts} {live-edges' node-map' : List ℕ}
-    (pre : BothEndsFit out ws first live_edges node_map vs second live-edges' node-map') where
-  pub first_ends_fit : EndsFit ws first live_edges node_map out
+module _ {out : List ℕ} {s t : Side} (pre : BothEndsFit out s t) where
+  pub first_ends_fit : EndsFit s out
   first_ends_fit = record { readable = pre.first_readable; room = omega (arith, pre.room) }
 
-  module _ {a : List ℕ} (one : a ≡ written (new_ends ws first live_edges node_map) out) where
-    pub second_ends_fit : EndsFit vs second live-edges' node-map' (rest first.edges.live a)
+  module _ {a : List ℕ} (one : a ≡ written (side_ends s) out) where
+    pub second_ends_fit : EndsFit t (rest s.counts.edges.live a)
     second_ends_fit = record {
       readable = pre.second_readable;
-      room = room_behind (new_ends ws first live_edges node_map) out first.edges.live (ends_long pre.first_readable) one second.edges.live pre.room;
+      room = room_behind (side_ends s) out s.counts.edges.live (ends_long pre.first_readable) one t.counts.edges.live pre.room;
     }
 
-    pub both_ends : {part : List ℕ} → part ≡ written (new_ends vs second live-edges' node-map') (rest first.edges.live a)
-        → with_rest first.edges.live a part ≡ written (new_ends ws first live_edges node_map ++ new_ends vs second live-edges' node-map') out
-    both_ends two = written_behind (new_ends ws first live_edges node_map) out first.edges.live (ends_long pre.first_readable) one (new_ends vs second live-edges' node-map') two
+    pub both_ends : {part : List ℕ} → part ≡ written (side_ends t) (rest s.counts.edges.live a)
+        → with_rest s.counts.edges.live a part ≡ written (side_ends s ++ side_ends t) out
+    both_ends two = written_behind (side_ends s) out s.counts.edges.live (ends_long pre.first_readable) one (side_ends t) two
 
-module _ {out ws : List ℕ} {ce cn : ℕ} {first : Counts} {live_nodes live_edges edge_map vs : List ℕ} {ce' cn' : ℕ} {second : Counts}
-    {live-nodes' live-edges' edge-map' : List ℕ}
-    (pre : BothEntriesFit out ws ce cn first live_nodes live_edges edge_map vs ce' cn' second live-nodes' live-edges' edge-map') where
-  pub first_entries_fit : EntriesFit ws ce cn first live_nodes live_edges edge_map out
+module _ {out : List ℕ} {s t : Side} (pre : BothEntriesFit out s t) where
+  pub first_entries_fit : EntriesFit s out
   first_entries_fit = record { readable = pre.first_readable; room = omega (arith, pre.room) }
 
-  module _ {a : List ℕ} (one : a ≡ written (new_entries ws ce cn first live_nodes live_edges edge_map) out) where
-    pub second_entries_fit : EntriesFit vs ce' cn' second live-nodes' live-edges' edge-map' (rest first.edges.live a)
+  module _ {a : List ℕ} (one : a ≡ written (side_entries s) out) where
+    pub second_entries_fit : EntriesFit t (rest s.counts.edges.live a)
     second_entries_fit = record {
       readable = pre.second_readable;
-      room = room_behind (new_entries ws ce cn first live_nodes live_edges edge_map) out first.edges.live (entries_long pre.first_readable) one second.edges.live pre.room;
+      room = room_behind (side_entries s) out s.counts.edges.live (entries_long pre.first_readable) one t.counts.edges.live pre.room;
     }
 
-    pub both_entries : {part : List ℕ} → part ≡ written (new_entries vs ce' cn' second live-nodes' live-edges' edge-map') (rest first.edges.live a)
-        → with_rest first.edges.live a part
-        ≡ written (new_entries ws ce cn first live_nodes live_edges edge_map ++ new_entries vs ce' cn' second live-nodes' live-edges' edge-map') out
-    both_entries two =
-        written_behind (new_entries ws ce cn first live_nodes live_edges edge_map) out first.edges.live (entries_long pre.first_readable) one (new_entries vs ce' cn' second live-nodes' live-edges' edge-map') two
+    pub both_entries : {part : List ℕ} → part ≡ written (side_entries t) (rest s.counts.edges.live a)
+        → with_rest s.counts.edges.live a part ≡ written (side_entries s ++ side_entries t) out
+    both_entries two = written_behind (side_entries s) out s.counts.edges.live (entries_long pre.first_readable) one (side_entries t) two
 
 -- ---- the whole direction
 
 module _ {ws : List ℕ} {ce cn : ℕ} {s t : Side} (pre : AxisJoinable ws ce cn s t) where
-  pub ends_fit : BothEndsFit ws s.words s.counts s.live_edges s.node_map t.words t.counts t.live_edges t.node_map
+  pub ends_fit : BothEndsFit ws s t
   ends_fit = record {
     first_readable = pre.first_ends;
     second_readable = pre.second_ends;
@@ -143,8 +129,7 @@ module _ {ws : List ℕ} {ce cn : ℕ} {s t : Side} (pre : AxisJoinable ws ce cn
       pub room_there : ce + both_edges s t ≤ length b
       room_there = omega (arith, pre.edges_fit, pre.sized.room, two.long, placed_long)
 
-      pub entries_fit : BothEntriesFit (rest ce b) s.words s.ce s.cn s.counts s.live_nodes s.live_edges s.edge_map
-          t.words t.ce t.cn t.counts t.live_nodes t.live_edges t.edge_map
+      pub entries_fit : BothEntriesFit (rest ce b) s t
       entries_fit = record {
         first_readable = pre.first_entries;
         second_readable = pre.second_entries;

@@ -1,9 +1,13 @@
 -- `join_memory::settle` meets its contract: the maps, both directions, the payloads, the live words, call by call.
-use Rattle.plain.specs.Library.{ap₂, arith}
+use Rattle.std.specs.Prelude.{length}
+use Rattle.plain.specs.Library.{ap₂, subst₂, sym, arith}
 use Rattle.plain.specs.declared.TraversalDirection.TheVariants.{Outgoing, Incoming}
 use Rattle.plain.specs.declared.Slots.{Slots}
 use Rattle.plain.specs.declared.Counts.{Counts}
 use Rattle.shape.specs.Kept.{each_length}
+use Rattle.shape.specs.Shape.{axis_words}
+use Rattle.join_columns.specs.Sides.{AxisJoinable, AxisJoined, Side}
+use Rattle.join_memory.specs.Settling.{cleared}
 use Rattle.join_memory.specs.Laws.Settling.{few_nodes, few_edges, first_maps_fit, second_maps_fit, nodes_copyable, lows_copyable, highs_copyable, nodes_resettable, edges_resettable, axis_joinable}
 use Rattle.join_memory.proofs.settle.Goals as goal
 
@@ -21,11 +25,15 @@ write_maps-requires-2 c = second_maps_fit c.requires
 
 pub join_axis-requires : goal.join_axis-requires
 join_axis-requires c =
-    axis_joinable c.requires c.write_maps.ensures c.write_maps-2.ensures Outgoing
+    subst₂ (λ (s t : Side). AxisJoinable (axis_words Outgoing (cleared c.args.memory.now)) (length c.args.memory.now.lows.now) (length c.args.memory.now.nodes.now) s t)
+    (sym (c.of-first_book.ensures Outgoing)) (sym (c.of-second_book.ensures Outgoing))
+    (axis_joinable c.requires c.write_maps.ensures.written c.write_maps-2.ensures.written Outgoing)
 
 pub join_axis-requires-2 : goal.join_axis-requires-2
 join_axis-requires-2 c =
-    axis_joinable c.requires c.write_maps.ensures c.write_maps-2.ensures Incoming
+    subst₂ (λ (s t : Side). AxisJoinable (axis_words Incoming (cleared c.args.memory.now)) (length c.args.memory.now.lows.now) (length c.args.memory.now.nodes.now) s t)
+    (sym (c.of-first_book.ensures Incoming)) (sym (c.of-second_book.ensures Incoming))
+    (axis_joinable c.requires c.write_maps.ensures.written c.write_maps-2.ensures.written Incoming)
 
 pub join_slots-requires : goal.join_slots-requires
 join_slots-requires c = nodes_copyable c.requires
@@ -48,16 +56,18 @@ overflow_cast-all_edges c = omega (arith, few_edges c.requires)
 pub reset_all_live-requires-2 : goal.reset_all_live-requires-2
 reset_all_live-requires-2 c = edges_resettable c.requires
 
-pub returns : goal.returns
-returns c =
+pub returns-clause-settled : goal.returns-clause-settled
+returns-clause-settled c =
     record {
       lengths = each_length c.join_slots.auto.out c.join_slots-2.auto.out c.join_slots-3.auto.out c.reset_all_live.auto.words
           c.reset_all_live-2.auto.words c.join_axis.auto.axis c.join_axis-2.auto.axis;
       counts = ap₂ {C = Counts} (λ (n e : Slots). record { nodes = n; edges = e }) c.all_based.ensures c.all_based-2.ensures;
-      first_maps = c.write_maps.ensures;
-      second_maps = c.write_maps-2.ensures;
-      outgoing = c.join_axis.ensures;
-      incoming = c.join_axis-2.ensures;
+      first_maps = c.write_maps.ensures.written;
+      second_maps = c.write_maps-2.ensures.written;
+      outgoing = subst₂ (λ (s t : Side). AxisJoined c.args.memory.now.outgoing.now (length c.args.memory.now.lows.now) (length c.args.memory.now.nodes.now) s t c.join_axis.new.axis)
+          (c.of-first_book.ensures Outgoing) (c.of-second_book.ensures Outgoing) c.join_axis.ensures;
+      incoming = subst₂ (λ (s t : Side). AxisJoined c.args.memory.now.incoming.now (length c.args.memory.now.lows.now) (length c.args.memory.now.nodes.now) s t c.join_axis-2.new.axis)
+          (c.of-first_book.ensures Incoming) (c.of-second_book.ensures Incoming) c.join_axis-2.ensures;
       nodes = c.join_slots.ensures;
       lows = c.join_slots-2.ensures;
       highs = c.join_slots-3.ensures;

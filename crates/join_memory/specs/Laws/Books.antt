@@ -59,14 +59,14 @@ module _ {w : Words} (k : Checked w) {a b : ℕ} {node_map edge_map : List ℕ} 
   end_low : (e : ℕ) → get_or (edge_live w) e false ≡ true → end_at (axis_words d w) e < w.counts.nodes.bound
   end_low e l = (k.axis d).ends_below e (slot_low w.live_edges w.counts.edges.bound e l)
 
-  pub ends_readable : EndsReadable (axis_words d w) w.counts w.live_edges node_map
+  pub ends_readable : EndsReadable (side_of d w node_map edge_map)
   ends_readable = record {
     readable = slots_readable k.edges (axis_words d w) (omega (arith, (k.axis d).sized.room));
     counted = k.edges.live.live_right;
     mapped = λ e l. let low = end_low e l in omega (arith, m.nodes_long);
   }
 
-  pub entries_readable : EntriesReadable (axis_words d w) (edge_capacity w) (node_capacity w) w.counts w.live_nodes w.live_edges edge_map
+  pub entries_readable : EntriesReadable (side_of d w node_map edge_map)
   entries_readable = record {
     walkable = λ x node. checked_walkable k d x node;
     live_long = slots_there k.nodes;

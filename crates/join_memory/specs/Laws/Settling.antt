@@ -12,6 +12,7 @@ use Rattle.std.proofs.Common.{get_or-append-add, get_or-drop, take_all}
 use Rattle.plain.specs.declared.Counts.{Counts}
 use Rattle.plain.specs.declared.TraversalDirection.{TraversalDirection}
 use Rattle.plain.specs.declared.TraversalDirection.TheVariants.{Incoming, Outgoing}
+use Rattle.plain.specs.Based.{based}
 use Rattle.plain.specs.Compaction.{EdgeRecord, Survivors, source_of, survivors, target_of}
 use Rattle.plain.specs.Joining.{joined_survivors, raised, raised_edge}
 use Rattle.plain.specs.Lists.{from, joined, written}
@@ -28,7 +29,7 @@ use Rattle.shape.specs.Kept.{AxisRenewed, Renewed, same_axis, same_edges, same_h
 use Rattle.shape.specs.Shape.{Words, axis_words, edge_capacity, edge_live, lists, node_capacity, node_live}
 use Rattle.shape.proofs.Laws.Indexing.{joined_append, map_from_same}
 use Rattle.shape.specs.Laws.NewBase.{NewBase}
-use Rattle.compact.specs.Bases.{Rebuildable, based}
+use Rattle.compact.specs.Bases.{Rebuildable}
 use Rattle.survivors.specs.Slots.{live_words_of}
 use Rattle.compact.specs.Laws.Bases.{rebuilt_base, rebuilt_renewed}
 use Rattle.compact.specs.Laws.Holding.{Holding, front, reset_same, reset_word, sized_as}

@@ -1,18 +1,16 @@
 -- `nearest::find_chain` meets its contract: a law for each way out.
-use Rattle.nearest.proofs.Answering.{way_forward, found_none, found_short, found_done}
+use Rattle.plain.proofs.Laws.Exits.{refused_exit}
+use Rattle.nearest.proofs.Answering.{found_refused, found_short, way_forward, found_done}
 use Rattle.nearest.proofs.find_chain.Goals as goal
 
-pub returns-then-word-eq0 : goal.returns-then-word-eq0
-returns-then-word-eq0 c = found_none c.requires c.search-word.ensures c.if-word-eq0.true
+pub returns-in_err-left : goal.returns-in_err-left
+returns-in_err-left c = rw (refused_exit _ c.from_residual.ensures.1) (found_refused c.requires _ c.search.ensures c.in_err-left.ensures.value)
 
-pub returns-then-room-left : goal.returns-then-room-left
-returns-then-room-left c =
-    found_short c.requires c.search-word.ensures c.if-word-eq0.false c.if-room-left.true
+pub returns-then-chain-left : goal.returns-then-chain-left
+returns-then-chain-left c = found_short c.requires (rw c.in_ok-left.ensures.ok_part at c.search.ensures) c.if-chain-left.true
 
 pub write_way-requires : goal.write_way-requires
-write_way-requires c =
-    way_forward c.requires c.search-word.ensures c.if-word-eq0.false c.if-room-left.false
+write_way-requires c = way_forward c.requires (rw c.in_ok-left.ensures.ok_part at c.search.ensures) c.if-chain-left.false
 
 pub returns : goal.returns
-returns c =
-    found_done c.requires c.search-word.ensures c.if-word-eq0.false c.if-room-left.false c.write_way.ensures
+returns c = found_done c.requires (rw c.in_ok-left.ensures.ok_part at c.search.ensures) c.if-chain-left.false c.write_way.ensures

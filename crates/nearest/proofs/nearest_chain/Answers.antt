@@ -1,15 +1,17 @@
 -- `nearest::nearest_chain` meets its contract: what is found, and then the borrowed words cleared.
 use Rattle.plain.specs.Library.{arith}
 use Rattle.nearest.proofs.Stores.{few}
+use Rattle.nearest.proofs.Seeding.{filled}
 use Rattle.nearest.proofs.Answering.{clear_fits, answered}
 use Rattle.nearest.proofs.nearest_chain.Goals as goal
 
-pub overflow_mul-nodes : goal.overflow_mul-nodes
-overflow_mul-nodes c = omega (arith, few c.requires.checked)
+pub overflow_mul-store : goal.overflow_mul-store
+overflow_mul-store c = omega (arith, few c.requires.checked)
 
-pub fill_words-requires : goal.fill_words-requires
-fill_words-requires c = clear_fits c.requires c.find_chain-answer.ensures
+pub slice_bounds-fill-end : goal.slice_bounds-fill-end
+slice_bounds-fill-end c = clear_fits c.requires c.find_chain-found.ensures
 
 pub returns : goal.returns
 returns c =
-    answered c.requires c.find_chain-answer.ensures c.fill_words.ensures
+    answered c.requires c.find_chain-found.ensures
+    (filled _ _ (clear_fits c.requires c.find_chain-found.ensures) (c.fill.ensures.after (λ y e. e)))

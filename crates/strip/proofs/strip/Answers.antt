@@ -1,37 +1,18 @@
--- `strip::strip` meets its contract: the check and the answer before the first operation, then the operations. A slice is as long as it was, by `refl` where the strip is
--- refused and else by the word of `run`.
+-- `strip::strip` meets its contract: the check and the answer before the first operation, then the operations.
 use Rattle.std.specs.Prelude.{refl}
+use Rattle.plain.specs.Library.{arith}
+use Rattle.plain.proofs.Laws.Exits.{refused_exit}
+use Rattle.strip.proofs.Silent.{numbered}
 use Rattle.strip.proofs.Ending.{strip_refused, strip_runnable, strip_run}
 use Rattle.strip.proofs.strip.Goals as goal
 
-pub shape_of-nodes-then-told-ne0 : goal.shape_of-nodes-then-told-ne0
-shape_of-nodes-then-told-ne0 c = refl
+pub returns-in_err-opening-clause-strips : goal.returns-in_err-opening-clause-strips
+returns-in_err-opening-clause-strips c =
+    rw (refused_exit _ c.from_residual-in_err-opening.ensures.1)
+    (strip_refused c.as_store.ensures _ _ c.in_ok-check_store.ensures c.in_err-opening.ensures (λ q. omega (arith, numbered c.in_err-opening.field-0.0)))
 
-pub shape_of-lows-then-told-ne0 : goal.shape_of-lows-then-told-ne0
-shape_of-lows-then-told-ne0 c = refl
+pub run-requires : goal.run-requires
+run-requires c = strip_runnable c.as_store.ensures _ _ c.in_ok-check_store.ensures c.in_ok-opening.ensures refl
 
-pub shape_of-highs-then-told-ne0 : goal.shape_of-highs-then-told-ne0
-shape_of-highs-then-told-ne0 c = refl
-
-pub shape_of-live_nodes-then-told-ne0 : goal.shape_of-live_nodes-then-told-ne0
-shape_of-live_nodes-then-told-ne0 c = refl
-
-pub shape_of-live_edges-then-told-ne0 : goal.shape_of-live_edges-then-told-ne0
-shape_of-live_edges-then-told-ne0 c = refl
-
-pub shape_of-outgoing-then-told-ne0 : goal.shape_of-outgoing-then-told-ne0
-shape_of-outgoing-then-told-ne0 c = refl
-
-pub shape_of-incoming-then-told-ne0 : goal.shape_of-incoming-then-told-ne0
-shape_of-incoming-then-told-ne0 c = refl
-
-pub returns-then-told-ne0 : goal.returns-then-told-ne0
-returns-then-told-ne0 c = strip_refused c.judge-rule.ensures c.opening-told.ensures c.if-told-ne0.true
-
-pub run-after-requires : goal.run-after-requires
-run-after-requires c =
-    strip_runnable c.judge-rule.ensures c.opening-told.ensures c.if-told-ne0.false
-
-pub returns : goal.returns
-returns c =
-    strip_run c.judge-rule.ensures c.opening-told.ensures c.if-told-ne0.false c.run-after.ensures
+pub returns-clause-strips : goal.returns-clause-strips
+returns-clause-strips c = strip_run c.as_store.ensures _ _ c.in_ok-check_store.ensures c.in_ok-opening.ensures refl c.run.ensures.ran

@@ -19,7 +19,7 @@ use Rattle.liveness.specs.Flags.{live_flags}
 use Rattle.shape.specs.Checked.{Checked}
 use Rattle.shape.specs.Columns.{end_at}
 use Rattle.shape.specs.Shape.{Words, axis_words, capacities, edge_live, lists, node_live, plain_of, shape_of, edge_payload_at}
-use Rattle.relocate.specs.Laws.Stores.{checked_end}
+use Rattle.shape.proofs.Laws.Ends.{checked_end}
 use Rattle.survivors.specs.Slots.{live_words_of}
 use Rattle.shape.proofs.Laws.Reading.{edge_at, node_at, plain_edge_flags, plain_end, plain_node_flags}
 use Rattle.survivors.specs.Laws.Left.{end_in}

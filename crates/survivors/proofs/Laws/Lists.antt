@@ -25,7 +25,7 @@ use Rattle.shape.proofs.Laws.Reading.{plain_edge_flags, plain_node_flags}
 use Rattle.shape.specs.Shape.{Words, axis_words, edge_capacity, edge_live, lists, node_capacity, node_live}
 use Rattle.adjacency.specs.Laws.StoreWalks.{checked_walkable, list_is_walk}
 use Rattle.adjacency.specs.Walk.{walk_in}
-use Rattle.survivors.specs.Lists.{ListsFit, live_walks}
+use Rattle.survivors.specs.Lists.{ListsFit, live_walks, walks_in}
 
 -- ---- the lists of the live nodes of well-formed plain lists
 
@@ -70,8 +70,7 @@ well_formed_total {caps} {p} h few_nodes few_edges Incoming =
 
 -- the walks written are the lists of the live nodes
 walks_are : (w : Words) (d : TraversalDirection)
-    → live_walks (axis_words d w) (edge_capacity w) (node_capacity w) w.counts w.live_nodes w.live_edges
-    ≡ joined (map (list_of d (lists w)) (live_slots (node_live w)))
+    → walks_in d w ≡ joined (map (list_of d (lists w)) (live_slots (node_live w)))
 unfolding live_walks
 walks_are w d = ap joined (map_same
     (λ x. walk_in (axis_words d w) (edge_capacity w) (node_capacity w) w.counts w.live_edges x true) (list_of d (lists w))
@@ -86,7 +85,7 @@ walks_are w d = ap joined (map_same
 
 module _ {w : Words} (k : Checked w) (d : TraversalDirection) where
   abbrev walks : List ℕ
-  walks = live_walks (axis_words d w) (edge_capacity w) (node_capacity w) w.counts w.live_nodes w.live_edges
+  walks = walks_in d w
 
   -- by new numbers they are those that survive
   pub lists_renumbered : map (rank (edge_live w)) walks ≡ joined (map (surviving_list d (lists w)) (live_slots (node_live w)))
@@ -109,8 +108,7 @@ module _ {w : Words} (k : Checked w) (d : TraversalDirection) where
       ap length (walks_are w d) ∙ rw (plain_node_flags w, plain_edge_flags w) at total
 
   -- so they can be written where there is room for the live edges
-  pub checked_writable : {out : List ℕ} → live_count (edge_live w) ≤ length out
-      → ListsFit (axis_words d w) (edge_capacity w) (node_capacity w) w.counts w.live_nodes w.live_edges out
+  pub checked_writable : {out : List ℕ} → live_count (edge_live w) ≤ length out → ListsFit d w out
   checked_writable room = record {
     walkable = λ x node. checked_walkable k d x node;
     live_long = let long = k.nodes.live_long in let bounded = k.nodes.bounded in omega arith;

@@ -1,25 +1,25 @@
 -- One turn of a loop over slots: what a live slot and a dead one do to the count of live slots, to the map and to the words moved down, and that no word moves where
 -- every slot is live. For compaction and for joining.
-use Rattle.std.specs.Prelude.{ℕ, ◌+◌, ◌<◌, ◌≤◌, suc, zero, ◌-◌, ◌≡◌, refl, Bool, cond, false, true, ◌⊎◌, List, [], ◌∷◌, get_or, length, set, replicate}
-use Rattle.plain.specs.Library.{◌∙◌, ap, sym, ap₂, inl, inr, ext_get_or, zero-add, add-one, arith}
-use Rattle.std.proofs.Common.{add-zero}
-use Rattle.plain.proofs.Laws.Rank.{live_slot_rank, rank_end, live_count_all_live, live_from_all_live}
-use Rattle.plain.proofs.Laws.Booleans.{below_or_not}
-use Rattle.plain.proofs.Laws.ListLaws.{count_length, get_or_from}
+use Rattle.std.specs.Prelude.{ℕ, ◌+◌, ◌<◌, ◌≤◌, suc, zero, ◌-◌, ◌≡◌, refl, Bool, cond, false, true, ◌⊎◌, List, [], ◌∷◌, ◌++◌, get_or, length, set, replicate}
+use Rattle.plain.specs.Library.{◌∙◌, ap, sym, ap₂, inl, inr, append-nil, append_snoc, length-append, ext_get_or, zero-add, add-one, arith}
+use Rattle.std.proofs.Common.{add-zero, get_or-append-add}
+use Rattle.plain.proofs.Laws.Rank.{live_below, length_live_slots, member_live_slots, live_count_all_live, live_from_all_live}
+use Rattle.plain.proofs.Laws.Booleans.{below_or_not, or_true}
+use Rattle.plain.proofs.Laws.ListLaws.{count_length, get_or_from, member_append, member_first}
 use Rattle.plain.proofs.Laws.Renumberings.{length_renumbering, lookup_from}
 use Rattle.plain.specs.Compaction.{rank, renumbering_from}
-use Rattle.plain.specs.Reads.{live_count, live_slots}
-use Rattle.plain.specs.Lists.{count, written}
+use Rattle.plain.specs.Reads.{live_count, live_from, live_slots}
+use Rattle.plain.specs.Lists.{count, member, written}
 use Rattle.plain.specs.Numbers.{NONE}
 use Rattle.plain.specs.Renumbering.{lookup}
 use Rattle.liveness.specs.Laws.Flags.{length_flags}
 use Rattle.liveness.specs.Flags.{live_flags}
 use Rattle.shape.specs.Index.{Rewritten}
-use Rattle.shape.proofs.Laws.Indexing.{rewritten_set, rewritten_again, rewritten_all, rewritten_as, rewritten_here}
+use Rattle.shape.proofs.Laws.Indexing.{rewritten_set, rewritten_again, rewritten_all, rewritten_as, rewritten_here, rewritten_none}
 use Rattle.shape.specs.Columns.{cell}
 use Rattle.survivors.specs.Slots.{kept_word, translated_word}
 use Rattle.survivors.proofs.Laws.Slots.{rewritten_written}
-use Rattle.survivors.specs.Laws.Turns.{Passed}
+use Rattle.survivors.specs.Laws.Turns.{Moving, Passed}
 
 -- one word more at the front
 pub rewritten_next : {entry now : List ℕ} {i : ℕ} {f : ℕ → ℕ} (v : ℕ) → Rewritten entry now 0 i f → i < length entry → v ≡ f i
@@ -82,21 +82,6 @@ module _ {live : List ℕ} {bound first slot number : ℕ} (p : Passed live boun
       let low = p.within in
       rewritten_written (renumbering_from first flags) NONE (rewritten_all (length (renumbering_from first flags)) r (omega arith) (omega arith)) (omega arith)
 
--- ---- slots counted from 0 on
-
-module _ {live : List ℕ} {bound slot number : ℕ} (p : Passed live bound 0 slot number) where
-  -- as many as are live
-  counted : number ≡ rank (live_flags live bound) slot
-  counted = p.ranked ∙ zero-add (rank (live_flags live bound) slot)
-
-  -- the live slot stands at its rank
-  pub slot_counted : get_or (live_flags live bound) slot false ≡ true → get_or (live_slots (live_flags live bound)) number 0 ≡ slot
-  slot_counted alive = ap (λ (i : ℕ). get_or (live_slots (live_flags live bound)) i 0) counted ∙ live_slot_rank (live_flags live bound) slot 0 alive
-
-  -- all are passed
-  pub all_counted : bound ≤ slot → number ≡ live_count (live_flags live bound)
-  all_counted h = let long = length_flags live bound in counted ∙ rank_end (live_flags live bound) slot (omega arith)
-
 -- ---- words rewritten
 
 -- every word rewritten to itself
@@ -121,17 +106,66 @@ rewritten_through {b = b} {f = f} entries r s =
     rewritten_as (λ i. get_or entries (f i) 0) (rewritten_again r s)
     (λ i h. ap (λ (w : ℕ). get_or entries w 0) (ap (λ (z : ℕ). get_or b z 0) (sym (zero-add i)) ∙ r.within i h))
 
--- ---- words moved down
+-- ---- the words of the live slots, one after the other
 
-module _ {live : List ℕ} {bound slot number : ℕ} (p : Passed live bound 0 slot number) where
-  module _ {entry now : List ℕ} (r : Rewritten entry now 0 number (kept_word entry (live_flags live bound))) where
-    -- the word of a live slot is still where it was, and goes to the slot's rank
-    pub kept_live : get_or (live_flags live bound) slot false ≡ true → get_or now slot 0 ≡ kept_word entry (live_flags live bound) number
-    kept_live alive = let low = p.few in r.above slot (omega arith) ∙ ap (λ (x : ℕ). get_or entry x 0) (sym (slot_counted p alive))
+-- live slot number i is no lower than i
+live_from_high : (a : ℕ) (flags : List Bool) (i : ℕ) → i < length (live_from a flags) → a + i ≤ get_or (live_from a flags) i 0
+unfolding live_from
+live_from_high a [] i h = absurd (omega arith)
+live_from_high a (true ∷ flags) zero h = omega arith
+live_from_high a (true ∷ flags) (suc i) h = let rest = live_from_high (suc a) flags i (omega arith) in omega arith
+live_from_high a (false ∷ flags) i h = let rest = live_from_high (suc a) flags i h in omega arith
 
-    -- all are moved
-    pub kept_all : bound ≤ slot → Rewritten entry now 0 (live_count (live_flags live bound)) (kept_word entry (live_flags live bound))
-    kept_all h = let count = all_counted p h in rewritten_all (live_count (live_flags live bound)) r (omega arith) (omega arith)
+-- there are no more of them than slots
+pub live_slots_few : (live : List ℕ) (bound : ℕ) → length (live_slots (live_flags live bound)) ≤ bound
+live_slots_few live bound =
+    omega (arith, length_live_slots (live_flags live bound), count_length (λ (f : Bool). f) (live_flags live bound), length_flags live bound)
+
+-- no word is in place
+pub moving_none : {words : List ℕ} {flags : List Bool} {left : List ℕ} {n : ℕ} (entry : List ℕ) → left ≡ live_slots flags → n ≡ 0 → Moving words flags [] left entry n entry
+moving_none {words} {flags} entry is none = record { whole = sym is; counted = none; moved = rw none (rewritten_none entry 0 (kept_word words flags)) }
+
+module _ {words : List ℕ} {flags : List Bool} {past left entry now : List ℕ} {n : ℕ} (m : Moving words flags past left entry n now) where
+  -- all are
+  pub moving_all : left ≡ [] → Rewritten entry now 0 (live_count flags) (kept_word words flags)
+  moving_all none =
+      let all : length past ≡ live_count flags = rw (← length_live_slots flags, m.whole, none, append-nil past) in
+      rewritten_all (live_count flags) m.moved (omega (arith, m.counted)) (omega (arith, m.counted))
+
+  module _ {slot : ℕ} {rest : List ℕ} (q : left ≡ slot ∷ rest) where
+    pub moving_few : n < live_count flags
+    moving_few =
+        let size : live_count flags ≡ length past + (1 + length rest) = rw (← length_live_slots flags, m.whole, q) (simp length-append (omega arith)) in
+        omega (arith, m.counted)
+
+    -- the slot's place among the live ones
+    moving_here : get_or (live_slots flags) n 0 ≡ slot
+    moving_here = rw (m.whole, q, m.counted) (simp add-zero at (get_or-append-add past (slot ∷ rest) 0 0))
+
+    -- it is no lower
+    pub moving_low : n ≤ slot
+    moving_low =
+        let high = live_from_high 0 flags n (omega (arith, moving_few, length_live_slots flags)) in
+        omega (arith, moving_here)
+
+    -- it is below the bound
+    pub moving_below : slot < length flags
+    moving_below =
+        live_below flags slot
+        (sym (member_live_slots flags slot) ∙ rw (m.whole, q, member_append slot past (slot ∷ rest), member_first slot rest) (or_true (member slot past)))
+
+    -- its word is put in place
+    pub moving_on : (v : ℕ) → n < length entry → v ≡ get_or words slot 0 → Moving words flags (past ++ (slot ∷ [])) rest entry (n + 1) (set now n v)
+    moving_on v room is = record {
+      whole = m.whole ∙ rw q (sym (append_snoc past slot rest));
+      counted = simp length-append (omega (arith, m.counted));
+      moved = rewritten_next v m.moved room (is ∙ ap (λ (x : ℕ). get_or words x 0) (sym moving_here));
+    }
+
+-- where they go to the front of the words themselves, the slot's word is still where it was
+pub moving_kept : {words : List ℕ} {flags : List Bool} {past left now : List ℕ} {n slot : ℕ} {rest : List ℕ} → Moving words flags past left words n now → left ≡ slot ∷ rest
+    → get_or now slot 0 ≡ get_or words slot 0
+moving_kept {slot = slot} m q = m.moved.above slot (omega (arith, moving_low m q))
 
 -- ---- where every slot is live
 

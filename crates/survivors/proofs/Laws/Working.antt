@@ -13,7 +13,8 @@ use Rattle.plain.proofs.Laws.ListLaws.{member_append}
 use Rattle.shape.specs.Checked.{Checked}
 use Rattle.shape.specs.Shape.{Words, edge_live, lists}
 use Rattle.shape.proofs.Laws.Reading.{plain_node_flags}
-use Rattle.survivors.specs.Working.{both_walks, walks_in}
+use Rattle.survivors.specs.Lists.{walks_in}
+use Rattle.survivors.specs.Working.{both_walks}
 use Rattle.survivors.proofs.Laws.Lists.{lists_live, lists_renumbered, lists_total}
 
 module _ {w : Words} (k : Checked w) where

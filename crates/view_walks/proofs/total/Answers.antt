@@ -1,19 +1,13 @@
--- `view_walks::total` meets its contract: the check, and then the laws of the total past the bound and below it.
-use Rattle.plain.specs.Library.{◌∙◌}
-use Rattle.view.specs.Laws.Calls.{total_refuses, total_done}
-use Rattle.view_walks.proofs.Walking.{total_past, total_below}
+-- `view_walks::total` meets its contract: refused as its node is, or read of the list.
+use Rattle.plain.proofs.Laws.Exits.{refused_exit}
+use Rattle.view_walks.proofs.Walking.{placed_checked, total_refused, total_done_at}
 use Rattle.view_walks.proofs.total.Goals as goal
 
-pub returns-then-rule-ne0 : goal.returns-then-rule-ne0
-returns-then-rule-ne0 c = total_refuses c.judge-rule.ensures c.if-rule-ne0.true c.no_store_total.ensures
+pub returns-in_err-check_node : goal.returns-in_err-check_node
+returns-in_err-check_node c = rw (refused_exit _ c.from_residual.ensures.1) (total_refused c.args.direction c.in_err-check_node.ensures)
 
-pub returns-then-counts-node : goal.returns-then-counts-node
-returns-then-counts-node c =
-    total_done c.judge-rule.ensures c.if-rule-ne0.false (c.no_total.ensures ∙ total_past _ _ _ c.if-counts-node.true)
-
-pub total-sums-requires : goal.total-sums-requires
-total-sums-requires c = record { checked = c.judge-rule.ensures.checked c.if-rule-ne0.false; node_lt_bound = c.if-counts-node.false }
+pub total-requires-clause-checked : goal.total-requires-clause-checked
+total-requires-clause-checked c = placed_checked c.in_ok-check_node.ensures
 
 pub returns : goal.returns
-returns c =
-    total_done c.judge-rule.ensures c.if-rule-ne0.false (total_below _ _ _ c.if-counts-node.false c.total-sums.ensures)
+returns c = total_done_at c.args.direction c.in_ok-check_node.ensures c.total.ensures

@@ -1,13 +1,13 @@
--- `view_walks::walk` meets its contract: refused by the answer, or the list written.
-use Rattle.view_walks.proofs.Walking.{list_fits, walk_refused, walk_done}
+-- `view_walks::walk` meets its contract: refused as its list is, or written.
+use Rattle.plain.proofs.Laws.Exits.{refused_exit}
+use Rattle.view_walks.proofs.Walking.{fits_checked, walk_refused, walk_done}
 use Rattle.view_walks.proofs.walk.Goals as goal
 
-pub returns-then-answer-ne-DONE : goal.returns-then-answer-ne-DONE
-returns-then-answer-ne-DONE c = walk_refused c.list_answer-answer.ensures c.if-answer-ne-DONE.true
+pub returns-in_err-entries : goal.returns-in_err-entries
+returns-in_err-entries c = rw (refused_exit _ c.from_residual.ensures.1) (walk_refused c.in_err-entries.ensures)
 
-pub write_list-requires : goal.write_list-requires
-write_list-requires c = list_fits c.list_answer-answer.ensures c.if-answer-ne-DONE.false
+pub edges-requires-clause-checked : goal.edges-requires-clause-checked
+edges-requires-clause-checked c = fits_checked c.in_ok-entries.ensures
 
 pub returns : goal.returns
-returns c =
-    walk_done c.list_answer-answer.ensures c.if-answer-ne-DONE.false c.write_list.ensures
+returns c = walk_done c.in_ok-entries.ensures (rw c.edges.ensures at c.write.ensures.wrote)

@@ -2,11 +2,7 @@
 use Rattle.std.specs.Prelude.{true}
 use Rattle.shape.specs.Shape.{adjacency_in}
 use Rattle.adjacency.specs.Laws.Clear.{retired_walk}
-use Rattle.adjacency.proofs.Clearing.{entries_clearable}
 use Rattle.adjacency.proofs.clear.clear_adjacency.Goals as goal
-
-pub clear_left-requires : goal.clear_left-requires
-clear_left-requires c = entries_clearable c.requires
 
 pub returns : goal.returns
 returns c = let a = c.args in

@@ -2,7 +2,7 @@
 use Rattle.std.proofs.Common.{add-zero}
 use Rattle.plain.specs.Library.{arith}
 use Rattle.adjacency.specs.Laws.Clear.{retired_then}
-use Rattle.adjacency.proofs.Clearing.{clearing_start, clearing_on, clearing_end, retired_few}
+use Rattle.adjacency.proofs.Clearing.{clearing_start, clearing_on, retired_few}
 use Rattle.adjacency.proofs.clear.clear_left.Goals as goal
 
 pub loop-edge-init : goal.loop-edge-init
@@ -20,6 +20,3 @@ pub loop-edge-preserved : goal.loop-edge-preserved
 loop-edge-preserved c =
     let next = clearing_on c.loop-edge.invariant c.in-Some.ensures.steps (rw c.if-retire.false at c.retire.ensures) in
     rw add-zero at next
-
-pub returns : goal.returns
-returns c = clearing_end c.loop-edge.invariant c.in-None.ensures.steps.0

@@ -1,12 +1,8 @@
 -- `adjacency::walk::degree` meets its contract: with removed edges the walk is counted, and without the run or base part and the ring are.
 use Rattle.plain.specs.Library.{sym, ◌∙◌, arith}
 use Rattle.cursor.specs.Laws.Cursor.{ring_ready}
-use Rattle.cursor.specs.Laws.Stepping.{base_within}
 use Rattle.adjacency.specs.Laws.Walk.{given_degree, walk_short}
 use Rattle.adjacency.proofs.walk.degree.Goals as goal
-
-pub part_count-requires : goal.part_count-requires
-part_count-requires c = λ q. (base_within c.start-start.ensures.ready q).0
 
 pub ring_count-requires : goal.ring_count-requires
 ring_count-requires c = rw c.next_of.ensures (ring_ready c.start-start.ensures.ready)

@@ -3,9 +3,6 @@ use Rattle.plain.specs.Library.{◌∙◌}
 use Rattle.adjacency.specs.Laws.Walk.{started_left}
 use Rattle.adjacency.proofs.walk.entries.Goals as goal
 
-pub of-requires : goal.of-requires
-of-requires c = let columns = c.of-columns.ensures in rw (columns.entries_are, columns.next_are) c.start-start.ensures.ready
-
 pub returns : goal.returns
 returns c =
     let columns = c.of-columns.ensures in

@@ -3,10 +3,10 @@ use Rattle.join_columns.specs.Laws.Sides.{ends_copyable, ends_translatable, ends
 use Rattle.join_columns.proofs.axis.copy_ends.Goals as goal
 
 pub copy_live-requires : goal.copy_live-requires
-copy_live-requires c = ends_copyable c.requires
+copy_live-requires c = rw c.axis.ensures (ends_copyable c.requires)
 
 pub translate-requires : goal.translate-requires
-translate-requires c = ends_translatable c.requires c.copy_live.ensures
+translate-requires c = ends_translatable c.requires (rw c.axis.ensures at c.copy_live.ensures)
 
 pub returns : goal.returns
-returns c = ends_written c.requires c.copy_live.ensures c.translate.ensures
+returns c = ends_written c.requires (rw c.axis.ensures at c.copy_live.ensures) c.translate.ensures

@@ -1,46 +1,63 @@
 -- `join_columns::slots::copy_live` meets its contract. The loop's invariant: the words of the live slots passed stand at the front of `out`, in slot order, all its other words are as they
--- were. The measure is the number of slots left.
-use Rattle.std.specs.Prelude.{ℕ, ◌<◌, length, get_or}
-use Rattle.plain.specs.Library.{sym, ap, ◌∙◌, arith}
-use Rattle.plain.proofs.Laws.Rank.{rank_live}
+-- were.
+use Rattle.std.specs.Prelude.{◌<◌, ◌≡◌, length, refl}
+use Rattle.std.specs.Iterator.Adapters.{enumerate_source, enumerate_count}
+use Rattle.plain.specs.Library.{ap, inl, ◌∙◌, arith}
+use Rattle.plain.specs.Reads.{live_slots}
+use Rattle.plain.proofs.Laws.ListLaws.{map_snoc}
 use Rattle.liveness.specs.Flags.{live_flags}
-use Rattle.shape.proofs.Laws.Indexing.{rewritten_none, rewritten_all}
-use Rattle.survivors.proofs.Laws.Turns.{rewritten_next, passed_none, passed_live, passed_dead, slot_counted, all_counted}
+use Rattle.liveness.specs.Laws.Flags.{length_flags}
+use Rattle.liveness.specs.LiveSlots.{left}
+use Rattle.survivors.proofs.Laws.Turns.{live_slots_few, moving_none, moving_few, moving_below, moving_on, moving_all}
 use Rattle.join_columns.proofs.Copying.{copied_all}
-use Rattle.join_columns.proofs.slots.copy_live.Goals.{Then-is_live}
+use Rattle.join_columns.proofs.slots.copy_live.Goals.{After-into_iter-to-iterator, In-Some}
 use Rattle.join_columns.proofs.slots.copy_live.Goals as goal
 
--- a live slot is one of those that there is room for
-room : (c : Then-is_live) → c.loop-slot.to < length c.args.out.now
-room c =
-    let l = c.loop-slot in
-    let alive = sym c.is_live.ensures ∙ c.if-is_live.true in
-    omega (arith, rank_live (live_flags c.args.live.now c.args.bound) l.slot alive, l.invariant.0.ranked, c.requires.fits)
+-- before the first turn all live slots are left
+all_left : (c : After-into_iter-to-iterator)
+    → left (enumerate_source c.into_iter-to-iterator.result) ≡ live_slots (live_flags c.args.column.now.live.now c.args.column.now.slots.bound)
+all_left c =
+    ap (λ it. left (enumerate_source it)) c.into_iter-to-iterator.ensures.into_iter_gives ∙ ap left c.enumerate-to-items.ensures.source ∙ c.new-live_slots.ensures
 
-pub loop-slot-init : goal.loop-slot-init
-loop-slot-init c = (passed_none _ _ _, rewritten_none _ _ _)
+none_counted : (c : After-into_iter-to-iterator) → enumerate_count c.into_iter-to-iterator.result ≡ 0
+none_counted c = ap (λ it. enumerate_count it) c.into_iter-to-iterator.ensures.into_iter_gives ∙ c.enumerate-to-items.ensures.count
+
+pub loop-to-init : goal.loop-to-init
+loop-to-init c = moving_none c.args.out.now (all_left c) (none_counted c)
+
+pub loop-to-init-derived : goal.loop-to-init-derived
+loop-to-init-derived c =
+    ((tt, tt, inl (rw (none_counted c, all_left c) (omega (arith, live_slots_few c.args.column.now.live.now c.args.column.now.slots.bound)))), tt)
+
+-- the slot's word is there
+slot_in : (c : In-Some) → c.in-Some.slot < length c.args.column.now.words.now
+slot_in c =
+    let k = c.args.column.now in
+    omega (arith, moving_below c.loop-to.invariant c.in-Some.ensures.steps.0, length_flags k.live.now k.slots.bound, c.requires.readable.room)
+
+-- there is room for it
+to_in : (c : In-Some) → c.in-Some.to < length c.args.out.now
+to_in c = omega (arith, moving_few c.loop-to.invariant c.in-Some.ensures.steps.0, c.in-Some.ensures.steps.1, c.requires.fits)
+
+pub offset_bounds-column-slot : goal.offset_bounds-column-slot
+offset_bounds-column-slot c = omega (arith, slot_in (goal.at.offset_bounds-column-slot c).In-Some)
+
+pub bounds-column-slot : goal.bounds-column-slot
+bounds-column-slot c = omega (arith, slot_in (goal.at.bounds-column-slot c).In-Some)
+
+pub offset_bounds-out-to : goal.offset_bounds-out-to
+offset_bounds-out-to c = omega (arith, to_in (goal.at.offset_bounds-out-to c).In-Some)
 
 pub bounds-out-to : goal.bounds-out-to
-bounds-out-to c = omega (arith, room (goal.at.bounds-out-to c).Then-is_live)
+bounds-out-to c = omega (arith, to_in (goal.at.bounds-out-to c).In-Some)
 
-pub loop-slot-preserved-then-is_live : goal.loop-slot-preserved-then-is_live
-loop-slot-preserved-then-is_live c =
-    let l = c.loop-slot in
-    let alive = sym c.is_live.ensures ∙ c.if-is_live.true in (
-      passed_live l.invariant.0 c.loop-slot-test.true alive,
-      rewritten_next _ l.invariant.1 (room (goal.at.loop-slot-preserved-then-is_live c).Then-is_live) (ap (λ (x : ℕ). get_or c.args.words.now x 0) (sym (slot_counted l.invariant.0 alive))),
-    )
-
-pub loop-slot-preserved : goal.loop-slot-preserved
-loop-slot-preserved c =
-    let l = c.loop-slot in
-    (passed_dead l.invariant.0 c.loop-slot-test.true (sym c.is_live.ensures ∙ c.if-is_live.false), l.invariant.1)
-
-pub shape_of-out : goal.shape_of-out
-shape_of-out c = c.loop-slot.invariant.1.long
+pub loop-to-preserved : goal.loop-to-preserved
+loop-to-preserved c =
+    let steps = c.in-Some.ensures.steps in
+    rw (map_snoc (λ p. p.1) c.loop-to.yielded (c.in-Some.to, c.in-Some.slot), steps.1, steps.2)
+    (moving_on c.loop-to.invariant steps.0 _ (omega (arith, moving_few c.loop-to.invariant steps.0, c.requires.fits)) refl)
 
 pub returns : goal.returns
 returns c =
-    let l = c.loop-slot in
-    let count = all_counted l.invariant.0 c.loop-slot-test.false in
-    copied_all c.args.words.now (live_flags c.args.live.now c.args.bound) c.requires.fits (rewritten_all _ l.invariant.1 (omega arith) (omega arith))
+    let k = c.args.column.now in
+    copied_all k.words.now (live_flags k.live.now k.slots.bound) c.requires.fits (moving_all c.loop-to.invariant c.in-None.ensures.steps.0.0)

@@ -1,14 +1,13 @@
 -- `join_columns::slots::copy_live` meets its contract. The loop's invariant: the words of the live slots passed stand at the front of `out`, in slot order, all its other words are as they
--- were. The measure is the number of slots left.
-use Rattle.std.specs.Prelude.{◌-◌}
+-- were.
+use Rattle.std.specs.Prelude.{map}
+use Rattle.std.specs.Iterator.Adapters.{enumerate_source, enumerate_count}
 use Rattle.liveness.specs.Flags.{live_flags}
-use Rattle.shape.specs.Index.{Rewritten}
-use Rattle.survivors.specs.Slots.{kept_word}
-use Rattle.survivors.specs.Laws.Turns.{Passed}
+use Rattle.liveness.specs.LiveSlots.{left}
+use Rattle.survivors.specs.Laws.Turns.{Moving}
 use Rattle.join_columns.proofs.slots.copy_live.Given as goal
 
-abbrev pub invariant-loop-slot : goal.invariant-loop-slot
-invariant-loop-slot l = Passed l.live l.bound 0 l.slot l.to × Rewritten l.initial.out l.out 0 l.to (kept_word l.words (live_flags l.live l.bound))
-
-abbrev pub decreases-loop-slot : goal.decreases-loop-slot
-decreases-loop-slot l = l.bound - l.slot
+abbrev pub invariant-loop-to : goal.invariant-loop-to
+invariant-loop-to l =
+    Moving l.column.words.now (live_flags l.column.live.now l.column.slots.bound) (map (λ p. p.1) l.yielded) (left (enumerate_source l.to-iterator)) l.initial.out
+    (enumerate_count l.to-iterator) l.out

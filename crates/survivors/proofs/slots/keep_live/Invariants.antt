@@ -1,11 +1,12 @@
 -- `survivors::slots::keep_live` meets its contract. The loop's invariant: the words of the live slots passed stand at the front, in slot order, all others are as
--- they were. No live slot's word is overwritten before it is moved, as a slot's rank is at most its number.
+-- they were.
+use Rattle.std.specs.Prelude.{map}
+use Rattle.std.specs.Iterator.Adapters.{enumerate_source, enumerate_count}
 use Rattle.liveness.specs.Flags.{live_flags}
-use Rattle.shape.specs.Index.{Rewritten}
-use Rattle.survivors.specs.Laws.Turns.{Passed}
-use Rattle.survivors.specs.Slots.{kept_word}
+use Rattle.liveness.specs.LiveSlots.{left}
+use Rattle.survivors.specs.Laws.Turns.{Moving}
 use Rattle.survivors.proofs.slots.keep_live.Given as goal
 
-abbrev pub invariant-loop-slot : goal.invariant-loop-slot
-invariant-loop-slot l =
-    Passed l.live l.bound 0 l.slot l.to × Rewritten l.initial.words l.words 0 l.to (kept_word l.initial.words (live_flags l.live l.bound))
+abbrev pub invariant-loop-to : goal.invariant-loop-to
+invariant-loop-to l =
+    Moving l.initial.words (live_flags l.live l.bound) (map (λ p. p.1) l.yielded) (left (enumerate_source l.to-iterator)) l.initial.words (enumerate_count l.to-iterator) l.words

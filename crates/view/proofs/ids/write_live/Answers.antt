@@ -1,38 +1,38 @@
--- `view::ids::write_live` meets its contract. The loop's invariant is `Listing`, the measure the slots that are left.
-use Rattle.std.specs.Prelude.{◌≤◌}
-use Rattle.plain.specs.Library.{arith}
-use Rattle.plain.specs.Numbers.{LIMIT}
+-- `view::ids::write_live` meets its contract: after each turn one live slot more is written.
+use Rattle.std.specs.Prelude.{◌≡◌}
+use Rattle.std.proofs.Common.{inl}
+use Rattle.plain.specs.Library.{ap, ◌∙◌, arith}
 use Rattle.liveness.specs.Laws.Flags.{length_flags}
-use Rattle.view.proofs.Listing.{listing_start, listing_room, listing_few, listing_on, listing_later, listing_end}
-use Rattle.view.proofs.ids.write_live.Goals.{At-loop-slot}
+use Rattle.liveness.specs.LiveSlots.{left}
+use Rattle.view.proofs.Listing.{listing_start, listing_few, listing_room, listing_below, listing_on, listing_end}
 use Rattle.view.proofs.ids.write_live.Goals as goal
 
--- few are written
-few : (c : At-loop-slot) → c.loop-slot.n ≤ LIMIT
-few c =
-    omega (arith, listing_few c.loop-slot.invariant, length_flags c.args.words.now c.args.bound, c.requires.few)
+pub loop-n-init : goal.loop-n-init
+loop-n-init c =
+    let same = c.into_iter-n-iterator.ensures.into_iter_gives in
+    let count : c.into_iter-n-iterator.result.count ≡ 0 = ap (λ i. i.count) same ∙ c.enumerate-n-items.ensures.count in
+    let whole = ap (λ i. left i.iter) same ∙ ap left c.enumerate-n-items.ensures.source ∙ c.new.ensures in
+    let listing = listing_start whole c.requires.fits in record {
+      can = (tt, tt, inl (rw count (omega (arith, listing_few listing, length_flags c.args.words.now c.args.bound, c.requires.few))));
+      ends = tt;
+      listing = rw count listing;
+    }
 
-pub loop-slot-init : goal.loop-slot-init
-loop-slot-init c = listing_start c.next_live-slot.ensures c.requires.fits
-
-pub offset_bounds-slots-n : goal.offset_bounds-slots-n
-offset_bounds-slots-n c = omega (arith, few (goal.at.offset_bounds-slots-n c).At-loop-slot)
+pub overflow_cast-slots : goal.overflow_cast-slots
+overflow_cast-slots c =
+    omega (arith, listing_below c.loop-n.invariant.listing c.in-Some.ensures.steps.0, length_flags c.args.words.now c.args.bound, c.requires.few)
 
 pub bounds-slots-n : goal.bounds-slots-n
-bounds-slots-n c = listing_room c.loop-slot.invariant (rw length_flags c.loop-slot-test.true)
+bounds-slots-n c = omega (arith, listing_room c.loop-n.invariant.listing c.in-Some.ensures.steps.0, c.in-Some.ensures.steps.1)
 
-pub overflow_add-n : goal.overflow_add-n
-overflow_add-n c = omega (arith, few (goal.at.overflow_add-n c).At-loop-slot)
-
-pub loop-slot-smaller : goal.loop-slot-smaller
-loop-slot-smaller c =
-    omega (arith, c.loop-slot-test.true, listing_later c.loop-slot.invariant (rw length_flags c.loop-slot-test.true) c.next_live-slot-in-loop-slot.ensures)
-
-pub loop-slot-preserved : goal.loop-slot-preserved
-loop-slot-preserved c = listing_on c.loop-slot.invariant (rw length_flags c.loop-slot-test.true) c.next_live-slot-in-loop-slot.ensures
-
-pub shape_of-slots : goal.shape_of-slots
-shape_of-slots c = c.loop-slot.invariant.long
+pub loop-n-preserved : goal.loop-n-preserved
+loop-n-preserved c =
+    let steps = c.in-Some.ensures.steps in
+    let listing = listing_on c.loop-n.invariant.listing steps.0 in record {
+      can = (tt, tt, inl (rw steps.2 (omega (arith, listing_few listing, length_flags c.args.words.now c.args.bound, c.requires.few))));
+      ends = tt;
+      listing = rw (steps.2, steps.1) listing;
+    }
 
 pub returns : goal.returns
-returns c = listing_end c.loop-slot.invariant (rw length_flags c.loop-slot-test.false)
+returns c = listing_end c.loop-n.invariant.listing c.in-None.ensures.steps.0.0

@@ -1,9 +1,8 @@
 -- `view::whole::edge_count` meets its contract: the check, and then the counts of a checked store.
-use Rattle.plain.specs.Library.{ap}
-use Rattle.plain.specs.Refusals.{rule_of}
+use Rattle.std.specs.Prelude.{refl}
 use Rattle.view.specs.Laws.Calls.{checked_done}
 use Rattle.view.proofs.Counting.{edge_count_read}
 use Rattle.view.proofs.whole.edge_count.Goals as goal
 
 pub returns : goal.returns
-returns c = checked_done c.check_store.ensures (ap rule_of c.in_ok-check_store.was) (λ k. edge_count_read k)
+returns c = checked_done c.in_ok-check_store.ensures refl (λ k. edge_count_read k)

@@ -1,9 +1,8 @@
 -- `view::whole::is_empty` meets its contract: the check, and then the counts of a checked store.
-use Rattle.plain.specs.Library.{ap}
-use Rattle.plain.specs.Refusals.{rule_of}
+use Rattle.std.specs.Prelude.{refl}
 use Rattle.view.specs.Laws.Calls.{checked_done}
 use Rattle.view.proofs.Counting.{is_empty_read}
 use Rattle.view.proofs.whole.is_empty.Goals as goal
 
 pub returns : goal.returns
-returns c = checked_done c.check_store.ensures (ap rule_of c.in_ok-check_store.was) (λ k. is_empty_read k)
+returns c = checked_done c.in_ok-check_store.ensures refl (λ k. is_empty_read k)

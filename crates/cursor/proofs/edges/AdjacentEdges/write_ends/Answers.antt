@@ -1,5 +1,4 @@
 -- `write_ends` of the listed edges meets its contract.
-use Rattle.plain.proofs.Laws.ListLaws.{map_snoc}
 use Rattle.cursor.proofs.Writing.{writing_in, writing_on}
 use Rattle.cursor.proofs.edges.AdjacentEdges.write_ends.Goals as goal
 
@@ -9,4 +8,4 @@ bounds-ends-edge c = c.requires.within c.in-Some.edge (writing_in c.loop-n.invar
 pub loop-n-preserved : goal.loop-n-preserved
 loop-n-preserved c =
     let steps = c.in-Some.ensures.steps in
-    rw (map_snoc (λ p. p.1) c.loop-n.yielded (c.in-Some.n, c.in-Some.edge), steps.1, steps.2) (writing_on c.loop-n.invariant steps.0 c.requires.fits)
+    rw (steps.1, steps.2) (writing_on c.loop-n.invariant steps.0 c.requires.fits)

@@ -4,12 +4,6 @@ use Rattle.plain.specs.Lists.{keep}
 use Rattle.cursor.proofs.Going.{goes_on}
 use Rattle.cursor.proofs.edges.AdjacentEdgesIterator.next.Goals as goal
 
-pub is_listed-requires : goal.is_listed-requires
-is_listed-requires c = c.loop-edge.invariant.0
-
-pub invariant_of-self : goal.invariant_of-self
-invariant_of-self c = c.loop-edge.invariant.0
-
 pub returns-then-is_listed-clause-steps : goal.returns-then-is_listed-clause-steps
 unfolding keep
 returns-then-is_listed-clause-steps c =
@@ -23,9 +17,6 @@ pub loop-edge-preserved : goal.loop-edge-preserved
 unfolding keep
 loop-edge-preserved c =
     (c.loop-edge.invariant.0, rw (c.in-Some.ensures.steps, sym c.is_listed.ensures ∙ c.if-is_listed.false) at c.loop-edge.invariant.1)
-
-pub invariant_of-self-in_default : goal.invariant_of-self-in_default
-invariant_of-self-in_default c = c.loop-edge.invariant.0
 
 pub returns-clause-steps : goal.returns-clause-steps
 unfolding keep

@@ -1,11 +1,8 @@
 -- `find_end` of the entries meets its contract.
 use Rattle.plain.specs.Library.{sym, ◌∙◌, eq-eqb, ne_eqb}
-use Rattle.cursor.specs.Laws.Finding.{seek_start, seek_in, seek_found, seek_none, seek_skip, seek_on}
+use Rattle.cursor.specs.Laws.Finding.{seek_in, seek_found, seek_none, seek_skip, seek_on}
 use Rattle.cursor.proofs.entries.Entries.find_end.Goals.{else-ends-edge-via-then-ends-edge+else-is_listed, else-ends-edge-via-else-ends-edge}
 use Rattle.cursor.proofs.entries.Entries.find_end.Goals as goal
-
-pub loop-edge-init : goal.loop-edge-init
-loop-edge-init c = rw c.into_iter-edge-iterator.ensures.into_iter_gives (seek_start c.args.self)
 
 pub bounds-ends-edge : goal.bounds-ends-edge
 bounds-ends-edge c = c.requires.within c.in-Some.edge (seek_in c.loop-edge.invariant c.in-Some.ensures.steps)

@@ -1,0 +1,20 @@
+-- `count` of the listed edges meets its contract.
+use Rattle.plain.specs.Library.{sym, ◌∙◌, arith}
+use Rattle.cursor.specs.Laws.Reading.{keep_first, keep_past, keep_none}
+use Rattle.cursor.proofs.edges.AdjacentEdges.count.Goals as goal
+
+pub overflow_add-count : goal.overflow_add-count
+overflow_add-count c =
+    let more = rw (keep_first _ c.in-Some.ensures.steps (sym c.is_listed.ensures ∙ c.if-is_listed.true)) at c.loop-edge.invariant in
+    omega (arith, more)
+
+pub loop-edge-preserved-then-is_listed : goal.loop-edge-preserved-then-is_listed
+loop-edge-preserved-then-is_listed c =
+    let more = rw (keep_first _ c.in-Some.ensures.steps (sym c.is_listed.ensures ∙ c.if-is_listed.true)) at c.loop-edge.invariant in
+    omega (arith, more)
+
+pub loop-edge-preserved : goal.loop-edge-preserved
+loop-edge-preserved c = rw (keep_past _ c.in-Some.ensures.steps (sym c.is_listed.ensures ∙ c.if-is_listed.false)) at c.loop-edge.invariant
+
+pub returns : goal.returns
+returns c = omega (arith, rw (keep_none _ c.in-None.ensures.steps.0) at c.loop-edge.invariant)
