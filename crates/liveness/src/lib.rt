@@ -13,7 +13,6 @@ ghost use Rattle.plain.specs.Compaction.{rank as rank_of};
 ghost use Rattle.liveness.specs.Flags.{live_flags, packed, counted, next_live};
 ghost use Rattle.liveness.specs.Calls.{Pushed, Cleared, Reset};
 ghost use Rattle.liveness.specs.Ranks.{RanksFit, Ranked};
-ghost use Rattle.liveness.specs.Faults.{fault_of};
 
 // Appends a live slot: where it is the first of its word, the whole word is written, whatever stood there.
 pub fn push_live(words: &mut [u64], slots: usize)
@@ -42,21 +41,6 @@ pub fn is_live(words: &[u64], slots: usize, slot: usize) -> bool
         return false;
     }
     (words[slot / 64] >> (slot % 64)) % 2 == 1
-}
-
-// A slot's fault: `absent` at or above the bound, `removed` where it is dead, 0 where it is live. For operations and for the search for the nearest lot.
-#[tactic(auto, unfolding(crate::specs::Faults::fault_of))]
-pub fn fault(live: &[u64], bound: u32, slot: u32, absent: u32, removed: u32) -> u32
-    requires { bound ≤ 64 * length live.now }
-    ensures { result ≡ fault_of (live_flags live.now bound) bound slot absent removed }
-{
-    if bound <= slot {
-        return absent;
-    }
-    if is_live(live, bound as usize, slot as usize) {
-        return 0;
-    }
-    removed
 }
 
 // Makes a slot dead, and answers whether it was live.

@@ -1,11 +1,12 @@
 -- Decimal numbers digit by digit, from the last: how many there are, and what stands in the text as they are written.
-use Rattle.std.specs.Prelude.{ℕ, zero, suc, ◌+◌, ◌/◌, ◌%◌, ◌^◌, ◌≤◌, ◌<◌, ◌≡◌, refl, List, [], ◌∷◌, length, set, ltb}
-use Rattle.plain.specs.Library.{sym, ap, ◌∙◌, arith, lt-ltb, le-ltb}
+use Rattle.std.specs.Prelude.{ℕ, zero, suc, ◌+◌, ◌-◌, ◌*◌, ◌/◌, ◌%◌, ◌^◌, ◌≤◌, ◌<◌, ◌≡◌, refl, List, [], ◌∷◌, length, set, ltb}
+use Rattle.plain.specs.Library.{sym, ap, ◌∙◌, arith, lt-ltb, le-ltb, ltb-true}
+use Rattle.std.proofs.Common.{ltb-false}
 use native.Mathlib.Nat.{div-lt_iff_lt-mul, pow-suc}
 use Rattle.plain.specs.Lotstrip.{digits_before, decimal}
 use Rattle.plain.proofs.Laws.Booleans.{by_test}
 use Rattle.bits.specs.Put.{Put}
-use Rattle.bits.specs.Laws.Put.{put_none, put_before, put_length}
+use Rattle.bits.specs.Laws.Put.{put_none, put_before}
 
 -- ---- the definition by its cases
 
@@ -71,63 +72,82 @@ taken_one {n} {left} {rest} k =
 
 -- ---- counting
 
--- `left` has yet to be counted, and its last digit is among the `count`.
-pub record CountingDigits (n left count : ℕ) : Type 0 where
-  pub rest : List ℕ
-  pub taken : Taken n left rest
-  pub counted : count ≡ 1 + length rest
+power_some : (k : ℕ) → 0 < 10 ^ k
+power_some zero = omega arith
+power_some (suc k) = let h = power_some k in rw pow-suc (omega arith)
 
-pub counting_start : (n : ℕ) → n < 2 ^ 64 → CountingDigits n n 1
-counting_start n h = record { rest = []; taken = taken_none n h; counted = refl }
+-- of so many powers of ten a number has one digit more
+digits_long : (k t n : ℕ) (rest : List ℕ) → k < t → 10 ^ k ≤ n → n < 10 * 10 ^ k → length (digits_before t n rest) ≡ k + 1 + length rest
+digits_long k zero n rest few low high = absurd (omega arith)
+digits_long zero (suc t) n rest few low high = rw (digit_last t n rest (omega arith)) (omega arith)
+digits_long (suc k) (suc t) n rest few low high =
+    let low_power : 10 ^ k * 10 ≤ n = rw pow-suc at low in
+    let high_power : n < 10 * (10 ^ k * 10) = rw pow-suc at high in
+    let some = power_some k in
+    let h = digits_long k t (n / 10) ((48 + n % 10) ∷ rest) (omega arith) (omega arith) (omega arith) in
+    rw (digit_more t n rest (omega arith)) (omega arith)
 
-pub counting_more : {n left count : ℕ} → CountingDigits n left count → 10 ≤ left → CountingDigits n (left / 10) (count + 1)
-counting_more {n} {left} k h = record { rest = (48 + left % 10) ∷ k.rest; taken = taken_more k.taken h; counted = omega (arith, k.counted) }
+pub digits_of_power : (k n : ℕ) → k < 20 → 10 ^ k ≤ n → n < 10 * 10 ^ k → length (decimal n) ≡ k + 1
+digits_of_power k n few low high = let h = digits_long k 20 n [] few low high in omega arith
 
-pub counting_few : {n left count : ℕ} → CountingDigits n left count → count ≤ 20
-counting_few {n} k = omega (arith, k.counted, taken_one k.taken, decimal_most n)
-
-pub counting_end : {n left count : ℕ} → CountingDigits n left count → left < 10 → count ≡ length (decimal n)
-counting_end k h = omega (arith, k.counted, ap length (taken_last k.taken h))
+pub digits_of_zero : length (decimal 0) ≡ 1
+digits_of_zero = rw (digit_last 19 0 [] (omega arith)) refl
 
 -- ---- writing
 
--- The digits of n are written from the last on, to stand from p on in s: those from `end` on are there, and `left` is left.
-pub record WritingDigits (s : List ℕ) (p n left : ℕ) (t : List ℕ) (end : ℕ) : Type 0 where
+-- The last k digits of n are written, to stand before `end` in s, and `left` is left.
+pub record WritingDigits (s : List ℕ) (end n left k : ℕ) (t : List ℕ) : Type 0 where
   pub rest : List ℕ
-  pub taken : Taken n left rest
-  pub put : Put s end rest t
-  pub place : end + length rest ≡ p + length (decimal n)
-  pub room : p + length (decimal n) ≤ length s
+  pub many : length rest ≡ k
+  pub some : k < length (decimal n) → Taken n left rest
+  pub all : k ≡ length (decimal n) → rest ≡ decimal n
+  pub put : Put s (end - k) rest t
 
-pub digits_start : (s : List ℕ) (p n : ℕ) {end : ℕ} → n < 2 ^ 64 → p + length (decimal n) ≤ length s → end ≡ p + length (decimal n) → WritingDigits s p n n s end
-digits_start s p n {end} h room is =
-    record { rest = []; taken = taken_none n h; put = put_none s end (omega arith); place = omega arith; room = room }
+pub digits_start : (s : List ℕ) (end n : ℕ) → n < 2 ^ 64 → end ≤ length s → WritingDigits s end n n 0 s
+digits_start s end n h room = record {
+  rest = [];
+  many = refl;
+  some = λ l. taken_none n h;
+  all = λ e. absurd (omega (arith, taken_one (taken_none n h)));
+  put = put_none s (end - 0) (omega arith);
+}
 
-module _ {s t : List ℕ} {p n left end : ℕ} (w : WritingDigits s p n left t end) where
-  -- there is a place before
-  pub digits_place : p < end
-  digits_place = omega (arith, taken_one w.taken, w.place)
+pub digits_next : {s t : List ℕ} {end n left k : ℕ} → WritingDigits s end n left k t → k < length (decimal n) → length (decimal n) ≤ end
+    → WritingDigits s end n (left / 10) (k + 1) (set t (end - 1 - k) (48 + left % 10))
+digits_next {s} {t} {end} {n} {left} {k} w l fits =
+    by_test (ltb left 10) (λ q. last (ltb-true left 10 q)) (λ q. more (ltb-false left 10 q))
+  where
+    taken : Taken n left w.rest
+    taken = w.some l
 
-  -- and it is in the text
-  pub digits_room : end ≤ length t
-  digits_room = omega (arith, w.put.within, put_length w.put)
+    before : Put s (end - (k + 1)) ((48 + left % 10) ∷ w.rest) (set t (end - 1 - k) (48 + left % 10))
+    before =
+        let e : suc (end - (k + 1)) ≡ end - k = omega arith in
+        let f : end - 1 - k ≡ end - (k + 1) = omega arith in
+        rw f (put_before (48 + left % 10) (rw (← e) at w.put))
 
-  -- another digit there
-  earlier : (x : ℕ) {before : ℕ} → suc before ≡ end → Put s before (x ∷ w.rest) (set t before x)
-  earlier x e = put_before x (rw (← e) at w.put)
+    last : left < 10 → WritingDigits s end n (left / 10) (k + 1) (set t (end - 1 - k) (48 + left % 10))
+    last h =
+        let same : left % 10 ≡ left = omega arith in
+        let whole : (48 + left % 10) ∷ w.rest ≡ decimal n = rw same (sym (taken_last taken h)) in
+        record {
+          rest = (48 + left % 10) ∷ w.rest;
+          many = omega (arith, w.many);
+          some = λ m. absurd (omega (arith, w.many, ap length whole));
+          all = λ e. whole;
+          put = before;
+        }
 
-  pub digits_next : {before : ℕ} → suc before ≡ end → 10 ≤ left → WritingDigits s p n (left / 10) (set t before (48 + left % 10)) before
-  digits_next e h = record {
-    rest = (48 + left % 10) ∷ w.rest;
-    taken = taken_more w.taken h;
-    put = earlier (48 + left % 10) e;
-    place = omega (arith, w.place);
-    room = w.room;
-  }
+    more : 10 ≤ left → WritingDigits s end n (left / 10) (k + 1) (set t (end - 1 - k) (48 + left % 10))
+    more h =
+        let further = taken_more taken h in
+        record {
+          rest = (48 + left % 10) ∷ w.rest;
+          many = omega (arith, w.many);
+          some = λ m. further;
+          all = λ e. absurd (omega (arith, w.many, taken_one further));
+          put = before;
+        }
 
-  -- the first
-  pub digits_end : {before : ℕ} → suc before ≡ end → left < 10 → Put s p (decimal n) (set t before (48 + left))
-  digits_end {before} e h =
-      let all = taken_last w.taken h in
-      let first : before ≡ p = omega (arith, w.place, ap length all) in
-      rw (all, ← first) (earlier (48 + left) e)
+pub digits_end : {s t : List ℕ} {end n left k : ℕ} → WritingDigits s end n left k t → k ≡ length (decimal n) → Put s (end - length (decimal n)) (decimal n) t
+digits_end w e = rw (w.all e, e) at w.put

@@ -1,3 +1,4 @@
+mod Numbered
 mod Pieces
 mod Digits
 mod Lines

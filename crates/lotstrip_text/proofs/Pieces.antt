@@ -1,18 +1,16 @@
--- Writes that tell where they ended, one behind the other, and a loop that writes piece by piece.
-use Rattle.std.specs.Prelude.{ℕ, ◌+◌, ◌≤◌, ◌<◌, ◌≡◌, refl, List, [], ◌∷◌, ◌++◌, length, set}
+-- Text written one piece behind the other, and a loop that writes piece by piece.
+use Rattle.std.specs.Prelude.{ℕ, ◌+◌, ◌≤◌, ◌≡◌, refl, List, [], ◌++◌, length}
 use Rattle.plain.specs.Library.{sym, ap, ◌∙◌, append_assoc, append-nil, length-append, arith}
-use Rattle.bits.specs.Put.{Put}
-use Rattle.bits.specs.Laws.Put.{put_length, put_none, put_one, put_then}
+use Rattle.bits.specs.Laws.Put.{put_length, put_none, put_then}
+use Rattle.lotstrip_text.specs.declared.text.Text.{Text}
 use Rattle.lotstrip_text.specs.Appending.{Appended}
 
-pub append_then : {s t u f g : List ℕ} {p q end : ℕ} → Appended s p f t q → Appended t q g u end → Appended s p (f ++ g) u end
-append_then {s} {t} {u} {f} {g} {p} a b =
-    record { put = put_then a.put b.put a.ended; ended = rw length-append (omega (arith, a.ended, b.ended)) }
+pub append_then : {a b c : Text} {f g : List ℕ} → Appended a f b → Appended b g c → Appended a (f ++ g) c
+append_then h k = record { same = k.same ∙ h.same; put = put_then h.put k.put h.ended; ended = rw length-append (omega (arith, h.ended, k.ended)) }
 
--- one more behind a write
-pub append_one : {s t f : List ℕ} {p end : ℕ} (x : ℕ) → Put s p f t → end ≡ p + length f → end < length s → Appended s p (f ++ (x ∷ [])) (set t end x) (end + 1)
-append_one {s} {t} {f} {p} {end} x a is room =
-    append_then (record { put = a; ended = is }) (record { put = put_one t end x (omega (arith, put_length a)); ended = refl })
+-- the slice is as long as it was
+pub append_length : {a b : Text} {f : List ℕ} → Appended a f b → length b.bytes.now ≡ length a.bytes.now
+append_length h = put_length h.put
 
 -- ---- a loop that writes piece by piece
 
@@ -20,33 +18,34 @@ append_one {s} {t} {f} {p} {end} x a is room =
 pub record Next (left piece rest : List ℕ) : Type 0 where
   pub is : left ≡ piece ++ rest
 
--- From p on `whole` is being written: it has come to `to`, and `left` is left.
-pub record Writing (s : List ℕ) (p : ℕ) (whole left t : List ℕ) (to : ℕ) : Type 0 where
+-- `whole` is being written, and `left` is left.
+pub record Writing (a : Text) (whole left : List ℕ) (b : Text) : Type 0 where
   pub past : List ℕ
   pub parts : past ++ left ≡ whole
-  pub appended : Appended s p past t to
-  pub room : p + length whole ≤ length s
+  pub appended : Appended a past b
+  pub room : a.end + length whole ≤ length a.bytes.now
 
-pub writing_start : (s : List ℕ) (p : ℕ) (whole : List ℕ) → p + length whole ≤ length s → Writing s p whole whole s p
-writing_start s p whole h = record { past = []; parts = refl; appended = record { put = put_none s p (omega arith); ended = omega arith }; room = h }
+pub writing_start : (a : Text) (whole : List ℕ) → a.end + length whole ≤ length a.bytes.now → Writing a whole whole a
+writing_start a whole h =
+    record { past = []; parts = refl; appended = record { same = refl; put = put_none a.bytes.now a.end (omega arith); ended = omega arith }; room = h }
 
-module _ {s t whole left : List ℕ} {p to : ℕ} (w : Writing s p whole left t to) where
+module _ {a b : Text} {whole left : List ℕ} (w : Writing a whole left b) where
   -- the next piece has room
-  pub writing_room : {piece rest : List ℕ} → Next left piece rest → to + length piece ≤ length t
+  pub writing_room : {piece rest : List ℕ} → Next left piece rest → b.end + length piece ≤ length b.bytes.now
   writing_room {piece} {rest} next =
       let long = ap length (sym w.parts ∙ ap (λ (l : List ℕ). w.past ++ l) next.is) ∙ length-append w.past (piece ++ rest) in
-      omega (arith, w.room, w.appended.ended, put_length w.appended.put, long, length-append piece rest)
+      omega (arith, w.room, w.appended.ended, append_length w.appended, long, length-append piece rest)
 
   -- one piece more
-  pub writing_more : {piece rest u : List ℕ} {end : ℕ} → Next left piece rest → Appended t to piece u end → Writing s p whole rest u end
-  writing_more {piece} {rest} next a =
+  pub writing_more : {piece rest : List ℕ} {c : Text} → Next left piece rest → Appended b piece c → Writing a whole rest c
+  writing_more {piece} {rest} next k =
       record {
         past = w.past ++ piece;
         parts = append_assoc w.past piece rest ∙ ap (λ (l : List ℕ). w.past ++ l) (sym next.is) ∙ w.parts;
-        appended = append_then w.appended a;
+        appended = append_then w.appended k;
         room = w.room;
       }
 
   -- nothing is left
-  pub writing_end : left ≡ [] → Appended s p whole t to
+  pub writing_end : left ≡ [] → Appended a whole b
   writing_end is = let all : w.past ≡ whole = sym (append-nil w.past) ∙ ap (λ (l : List ℕ). w.past ++ l) (sym is) ∙ w.parts in rw all at w.appended

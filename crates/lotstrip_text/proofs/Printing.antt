@@ -6,23 +6,32 @@ use Rattle.plain.specs.Operations.{operation_words, operations}
 use Rattle.plain.specs.Calls.{fresh_state}
 use Rattle.plain.specs.Lotstrip.{lotstrip_capacities, words_of, codes, answer_lines, hexadecimal, word_bytes, operation_bytes, input_limit, lotstrip_run, lotstrip}
 use Rattle.plain.proofs.Laws.Strips.{length_operations, length_answers}
-use Rattle.bits.specs.Laws.Put.{put_length, put_written}
+use Rattle.bits.specs.Laws.Put.{put_written}
+use Rattle.lotstrip_text.specs.declared.text.Text.{Text}
 use Rattle.lotstrip_text.specs.Appending.{Appended}
 use Rattle.lotstrip_text.proofs.Lines.{lines_most, length_hex}
 use Rattle.lotstrip_text.specs.Input.{WordsRead}
 use Rattle.lotstrip_text.proofs.Words.{length_words}
 use Rattle.lotstrip_text.specs.Booking.{booking_answers, closing, Closing}
-use Rattle.lotstrip_text.specs.Printing.{LotstripOf, printed, text_room}
+use Rattle.lotstrip_text.specs.Printing.{LotstripOf, Roomy, printed}
+use Rattle.lotstrip_text.proofs.Pieces.{append_length}
 
 pub length_printed : (answers bytes : List ℕ) → length (printed answers bytes) ≡ length (answer_lines 0 answers) + length (hexadecimal bytes) + 1
 length_printed answers bytes = simp length-append (omega arith)
 
 -- ---- the ways that it ends
 
-pub told : {input entry exit text : List ℕ} {size : ℕ} → Appended entry 0 text exit size → text ≡ lotstrip input → LotstripOf input entry size exit
-told {input} {entry} {exit} {text} {size} a is =
-    let b : Appended entry 0 (lotstrip input) exit size = rw is at a in
-    record { sized = omega (arith, b.ended); within = omega (arith, b.ended, b.put.within, put_length b.put); shown = put_written b.put }
+pub told_as : {a b : Text} {text all : List ℕ} → text ≡ all → Appended a text b → Appended a all b
+told_as {a} {b} is h = subst (λ (l : List ℕ). Appended a l b) is h
+
+pub told : {input : List ℕ} {a b : Text} → a.end ≡ 0 → Appended a (lotstrip input) b → LotstripOf input a.bytes.now b.end b.bytes.now
+told {input} {a} {b} empty h =
+    let size : b.end ≡ length (lotstrip input) = omega (arith, h.ended, empty) in
+    record {
+      sized = size;
+      within = omega (arith, h.put.within, append_length h, empty, size);
+      shown = put_written (rw empty at h.put);
+    }
 
 module _ (input : List ℕ) where
   -- "more prints only `strip 2`"
@@ -84,14 +93,15 @@ module _ {input zeros words : List ℕ} (read : WordsRead input zeros words) (wh
     pub image_part : length (take size bytes') ≡ size
     image_part = ap length image_is ∙ sym comes.sized
 
-    pub print_room : {room : ℕ} → length input ≤ input_limit → text_room ≤ room → length (printed (take (2 * (length input / word_bytes / operation_words)) answers') (take size bytes')) ≤ room
+    pub print_room : {a : Text} → length input ≤ input_limit → Roomy a
+        → a.end + length (printed (take (2 * (length input / word_bytes / operation_words)) answers') (take size bytes')) ≤ length a.bytes.now
     print_room h k =
         let booked = booking_answers (words_of input) in
         let left = closing (words_of input) in
         rw (answers_are, image_is)
-        (omega (arith, length_printed booked left, lines_most 0 booked, answers_length, length_hex left, comes.short))
+        (omega (arith, k.begun, k.room, length_printed booked left, lines_most 0 booked, answers_length, length_hex left, comes.short))
 
-    pub run_printed : {entry exit : List ℕ} {end : ℕ} → Appended entry 0 (printed (take (2 * (length input / word_bytes / operation_words)) answers') (take size bytes')) exit end
-        → Appended entry 0 (lotstrip_run fresh_state (words_of input)) exit end
+    pub run_printed : {a b : Text} → Appended a (printed (take (2 * (length input / word_bytes / operation_words)) answers') (take size bytes')) b
+        → Appended a (lotstrip_run fresh_state (words_of input)) b
     unfolding lotstrip_run
-    run_printed a = rw (answers_are, image_is) at a
+    run_printed h = rw (answers_are, image_is) at h

@@ -1,10 +1,12 @@
 -- The input's words one by one.
-use Rattle.std.specs.Prelude.{ℕ, ◌+◌, ◌*◌, ◌/◌, ◌≤◌, ◌<◌, ◌≡◌, refl, List, [], ◌∷◌, length, drop}
-use Rattle.plain.specs.Library.{◌∙◌, length-drop, arith}
+use Rattle.std.specs.Prelude.{ℕ, ◌+◌, ◌*◌, ◌/◌, ◌≤◌, ◌<◌, ◌≡◌, refl, List, [], ◌∷◌, ◌++◌, length, set, drop}
+use Rattle.plain.specs.Library.{sym, ap, ◌∙◌, append_assoc, append-nil, length-append, length-drop, zero-add, arith}
+use Rattle.bits.specs.Put.{Put}
+use Rattle.bits.specs.Laws.Put.{put_none, put_one, put_then, put_length, put_written}
 use lib.Seq.{get_or-drop, drop-drop}
 use Rattle.plain.specs.Lotstrip.{words_of, word_bytes}
 use Rattle.lotstrip_text.proofs.Pieces.{Next}
-use Rattle.lotstrip_text.specs.Input.{word_at}
+use Rattle.lotstrip_text.specs.Input.{word_at, WordsRead}
 
 pub length_words : (bytes : List ℕ) → length (words_of bytes) ≡ length bytes / word_bytes
 unfolding words_of
@@ -41,3 +43,36 @@ words_none bytes i h = short (drop (word_bytes * i) bytes) (rw length-drop (omeg
     short (a ∷ b ∷ []) h = refl
     short (a ∷ b ∷ c ∷ []) h = refl
     short (a ∷ b ∷ c ∷ d ∷ rest) h = absurd (omega arith)
+
+-- ---- a loop that reads word by word
+
+-- the first i words are at the start of the slice
+pub record WordsTo (bytes s : List ℕ) (i : ℕ) (t : List ℕ) : Type 0 where
+  pub past : List ℕ
+  pub parts : past ++ words_of (drop (word_bytes * i) bytes) ≡ words_of bytes
+  pub many : length past ≡ i
+  pub put : Put s 0 past t
+
+pub words_start : (bytes s : List ℕ) → WordsTo bytes s 0 s
+words_start bytes s = record { past = []; parts = refl; many = refl; put = put_none s 0 (omega arith) }
+
+module _ {bytes s t : List ℕ} {i : ℕ} (k : WordsTo bytes s i t) where
+  module _ (l : i < length bytes / word_bytes) (room : length bytes / word_bytes ≤ length s) where
+    pub word_room : i < length t
+    word_room = omega (arith, put_length k.put)
+
+    pub words_more : WordsTo bytes s (i + 1) (set t i (word_at bytes (word_bytes * i)))
+    words_more =
+        let next = words_next bytes i l in
+        let rest = words_of (drop (word_bytes * (i + 1)) bytes) in
+        record {
+          past = k.past ++ (word_at bytes (word_bytes * i) ∷ []);
+          parts = append_assoc k.past (word_at bytes (word_bytes * i) ∷ []) rest ∙ ap (λ (z : List ℕ). k.past ++ z) (sym next.is) ∙ k.parts;
+          many = rw length-append (omega (arith, k.many));
+          put = put_then k.put (put_one t i (word_at bytes (word_bytes * i)) word_room) (sym k.many ∙ sym (zero-add (length k.past)));
+        }
+
+  pub words_all : length bytes / word_bytes ≤ i → WordsRead bytes s t
+  words_all h =
+      let all : k.past ≡ words_of bytes = sym (append-nil k.past) ∙ ap (λ (z : List ℕ). k.past ++ z) (sym (words_none bytes i h)) ∙ k.parts in
+      record { words = put_written (rw all at k.put) }

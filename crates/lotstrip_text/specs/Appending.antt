@@ -1,9 +1,10 @@
--- A write that tells where it ended.
+-- Text that grows in lent bytes.
 use Rattle.std.specs.Prelude.{ℕ, ◌+◌, ◌≡◌, List, length}
 use Rattle.bits.specs.Put.{Put}
+use Rattle.lotstrip_text.specs.declared.text.Text.{Text}
 
--- ---- a write and its end
-
-pub record Appended (s : List ℕ) (p : ℕ) (f t : List ℕ) (end : ℕ) : Type 0 where
-  pub put : Put s p f t
-  pub ended : end ≡ p + length f
+-- text was written behind what was there, into the slice that was lent
+pub record Appended (a : Text) (f : List ℕ) (b : Text) : Type 0 where
+  pub same : b.bytes.ghost_name ≡ a.bytes.ghost_name
+  pub put : Put a.bytes.now a.end f b.bytes.now
+  pub ended : b.end ≡ a.end + length f

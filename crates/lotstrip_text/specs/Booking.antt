@@ -43,12 +43,12 @@ pub record Exact (capacity : ℕ) (payloads live : List ℕ) : Type 0 where
   pub live_long : length live ≡ live_words capacity
 
 -- The memory lent has no word to spare, the strip is whole, and its answers have room.
-pub record Bookable (nodes lows highs live_nodes live_edges outgoing incoming words answers : List ℕ) : Type 0 where
-  pub nodes_exact : Exact lotstrip_capacities.nodes nodes live_nodes
-  pub edges_exact : Exact lotstrip_capacities.edges lows live_edges
-  pub highs_long : length highs ≡ lotstrip_capacities.edges
-  pub outgoing_long : length outgoing ≡ axis_length lotstrip_capacities
-  pub incoming_long : length incoming ≡ axis_length lotstrip_capacities
+pub record Bookable (w : Words) (words answers : List ℕ) : Type 0 where
+  pub nodes_exact : Exact lotstrip_capacities.nodes w.nodes w.live_nodes
+  pub edges_exact : Exact lotstrip_capacities.edges w.lows w.live_edges
+  pub highs_long : length w.highs ≡ lotstrip_capacities.edges
+  pub outgoing_long : length w.outgoing ≡ axis_length lotstrip_capacities
+  pub incoming_long : length w.incoming ≡ axis_length lotstrip_capacities
   pub whole : length words % operation_words ≡ 0
   pub room : 2 * (length words / operation_words) ≤ length answers
 

@@ -12,6 +12,12 @@ pub record Marked (entry : List ℕ) (edge : ℕ) (answer : Bool) (exit : List �
   pub answers : answer ≡ not (marked entry edge)
   pub marks : (e : ℕ) → marked exit e ≡ (eqb e edge || marked entry e)
 
+-- An entry is passed, whether it is listed and passes a test given: only a listed one is looked at, and marked.
+pub record Entered (listed passing : Bool) (entry : List ℕ) (edge : ℕ) (answer : Bool) (exit : List ℕ) : Type 0 where
+  pub unlisted : listed ≡ false → (answer ≡ true) × (exit ≡ entry)
+  pub failing : listed ≡ true → passing ≡ false → answer ≡ false
+  pub marking : listed ≡ true → passing ≡ true → Marked entry edge answer exit
+
 -- An entry is looked at, and marked where it passes a test.
 pub record Passed (passing : Bool) (entry : List ℕ) (edge : ℕ) (answer : Bool) (exit : List ℕ) : Type 0 where
   pub failing : passing ≡ false → answer ≡ false

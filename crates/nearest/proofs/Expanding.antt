@@ -69,11 +69,6 @@ pub record Expanding (n word : ℕ) (source : ℕ → ℕ) (list : List ℕ) (f�
   pub from_list : (e : ℕ) → member e left ≡ true → member e list ≡ true
   pub same_length : length f.work ≡ length f₀.work
 
-pub expanding_start : {n word : ℕ} {source : ℕ → ℕ} {list left : List ℕ} {f : Frontier} → Expandable n word source list f → left ≡ list
-    → Expanding n word source list f left f
-expanding_start {n} {word} {source} {list} {left} {f} able whole =
-    subst (λ (l : List ℕ). Expanding n word source list f l f) (sym whole) (record { able = able; same = refl; from_list = λ e m. m; same_length = refl })
-
 module _ {n word : ℕ} {source : ℕ → ℕ} {list : List ℕ} {f₀ : Frontier} {left : List ℕ} {f : Frontier} (i : Expanding n word source list f₀ left f) where
   module _ {e : ℕ} {later : List ℕ} (next : left ≡ e ∷ later) where
     able_next : Expandable n word source (e ∷ later) f

@@ -16,7 +16,8 @@ use adjacency::reads;
 use plain::TraversalDirection;
 use shape::Store;
 
-// Looks at a lot: one that is new gets its word and goes to the end of the queue. Answers the queue's length.
+// Looks at a lot: one that is new gets its word and goes to the end of the queue. Answers the queue's length, which goes beside the slice: a struct of both would have
+// to say at each call that its slice is still the one that was lent, and be no plainer.
 fn see(work: &mut [u32], node_capacity: usize, tail: usize, word: u32, lot: u32) -> usize
     requires { Seeable node_capacity lot tail work.old }
     ensures { frontier result work.new ≡ turn node_capacity word lot (frontier tail work.old) }
@@ -53,7 +54,7 @@ fn drain(store: &Store, first: usize, goal: u32, work: &mut [u32])
 {
     let mut head: usize = 0;
     let mut tail: usize = 1;
-    // A queue grows as it is taken from, so that no range says how far it goes.
+    // The queue grows while it is taken from, so that no range says how far it goes.
     while head < tail {
         if work[first] != 0 {
             return;

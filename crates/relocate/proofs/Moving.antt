@@ -113,10 +113,6 @@ module _ {ws : List ℕ} {ce cn : ℕ} {counts : Counts} {live : List ℕ} {tomb
   abbrev moving : List ℕ
   moving = swept flags (taken flags (adjacency_in ws ce cn counts old))
 
-  -- the node's run can be prepared
-  pub move_prepare_old : Preparable ws ce cn counts live tombstoned old
-  move_prepare_old = record { ready = placed_ready pre.axis pre.old_placed; all_live = pre.all_live }
-
   -- a gathered edge is live and ended at the node
   alive : (e : ℕ) → In e moving → live_in flags e ≡ true
   alive = swept_live flags (taken flags (adjacency_in ws ce cn counts old))

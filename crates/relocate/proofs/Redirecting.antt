@@ -95,10 +95,6 @@ module _ {ws : List ℕ} {ce cn : ℕ} {counts : Counts} {live : List ℕ} {tomb
   redirect_same q =
       record { previous = refl; unchanged = λ p. refl; changed = λ ne. absurd (ne q); live_only = λ ne. absurd (ne q); checked = λ nodes a b was. was; frame = axis_kept_none ws ce cn counts.nodes.bound counts.edges.bound; writes = λ i ne lo ln o n. refl }
 
-  -- the edge can leave its end
-  pub redirect_leave : Preparable ws ce cn counts live tombstoned old
-  redirect_leave = record { ready = placed_ready pre.axis pre.old_placed; all_live = pre.all_live }
-
   module _ (apart : old ≢ new) {us : List ℕ} (gone : Left ws us ce cn counts live old e) where
     -- a live entry of the run that it left was at the node
     own : (f : ℕ) → live_in flags f ≡ true → In f left_run → end_at ws f ≡ old

@@ -16,7 +16,7 @@ use Rattle.shape.proofs.Laws.NewBase.{base_between, base_range}
 use Rattle.shape.proofs.Laws.Walking.{between_none, between_some}
 use Rattle.shape.proofs.Laws.Taking.{keep_append, keep_again}
 use Rattle.shape.proofs.Laws.Keeping.{in_keep, in_either, in_second}
-use Rattle.adjacency.specs.Index.{Based, base_bounds}
+use Rattle.adjacency.specs.Index.{base_bounds}
 use Rattle.std.specs.declared.ops.Range.{Range}
 use Rattle.runs.specs.Runs.{Edited, Grown, Keepable}
 use Rattle.runs.specs.Laws.Runs.{run_of_marked}
@@ -44,10 +44,6 @@ module _ {ws : List ℕ} {ce cn : ℕ} {counts : Counts} {live : List ℕ} {node
   -- nothing is done yet
   start : Edited ws ws ce cn counts node [] base
   start = subst (λ (l : List ℕ). Edited ws ws ce cn counts node l base) pre.empty (edited_none pre.editable pre.marked)
-
-  -- the words have the index's offsets
-  pub copy_based : Based ws ce cn counts.nodes.base
-  copy_based = let e = pre.editable in record { sized = e.sized; within = omega (arith, pre.nodes_based, e.nodes_within) }
 
   pub copy_start : {bounds : Range ℕ} → bounds ≡ base_bounds ws ce cn counts.nodes.base node
       → Copying ws ws ce cn counts live node bounds.start bounds.end

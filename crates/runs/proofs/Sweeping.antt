@@ -203,9 +203,6 @@ module _ {ws : List ℕ} {ce cn : ℕ} {counts : Counts} {node : ℕ} {live : Li
     divided : entries ≡ front ++ behind
     divided = sym (take-append-drop f.length entries)
 
-    pub sweep_shorten : Shortenable ws ce cn counts node f.last f.length
-    sweep_shorten = record { editable = pre.scannable.editable; marked = pre.scannable.marked; front = seen.front }
-
     module _ {us : List ℕ} (short : Shortened ws us ce cn counts node f.length) where
       -- what is behind the front is in the run
       later : (e : ℕ) → In e behind → In e entries

@@ -1,20 +1,16 @@
 -- The ways that a strip ends, by what it answers before its first operation: refused, or its operations done in turn.
-use Rattle.std.specs.Prelude.{ℕ, zero, suc, ◌*◌, ◌/◌, ◌%◌, ◌≤◌, ◌<◌, ◌≡◌, refl, List, [], length, Result, Ok, Err, MatchResult}
+use Rattle.std.specs.Prelude.{ℕ, ◌*◌, ◌/◌, ◌%◌, ◌≤◌, ◌<◌, ◌≡◌, refl, List, [], length, Result, Ok, Err, MatchResult}
 use Rattle.plain.specs.Library.{sym, ap, subst, ◌∙◌, arith}
 use Rattle.plain.specs.declared.Answer.{Answer}
-use Rattle.plain.specs.declared.refusals.Rule.{Rule}
-use Rattle.plain.specs.declared.refusals.Rule.TheVariants.{Sizes, Live, Ends, Index, Rings, Runs, Walks}
 use Rattle.plain.specs.declared.refusals.Refusal.{Refusal}
 use Rattle.plain.specs.declared.refusals.Refusal.TheVariants.{TooShort}
 use Rattle.plain.specs.Answers.{done_of}
-use Rattle.plain.specs.Refusals.{rule_number}
 use Rattle.plain.specs.Lists.{written}
 use Rattle.plain.specs.Operations.{operation_words, operations}
 use Rattle.plain.specs.Calls.{Stripped, strip, judged_strip}
 use Rattle.plain.proofs.Laws.Strips.{length_operations}
 use Rattle.plain.proofs.Laws.CallCases.{strip_ragged, strip_short, strip_done}
 use Rattle.shape.specs.Shape.{Words, capacities, shape_of}
-use Rattle.shape.specs.Rules.{broken}
 use Rattle.shape.specs.Kept.{kept_none, kept_spared, nothing_spared, same_nodes, same_edges}
 use Rattle.shape.specs.Steps.{state_of}
 use Rattle.shape.proofs.Laws.NoFields.{kept_leaves}
@@ -40,15 +36,6 @@ module _ (w : Words) (words entry : List ℕ) where
         spared = nothing_spared w;
         leaves = λ p out held. refl;
       }
-
-  judged : {rule : ℕ} → Judged w rule → (rule ≡ 0 → ⊥) → StripOf w words entry 1 rule w entry
-  judged {rule} j broke = by rule j.first broke
-    where
-      by : (rule : ℕ) → rule ≡ broken w → (rule ≡ 0 → ⊥) → StripOf w words entry 1 rule w entry
-      by zero is broke = absurd (broke refl)
-      by (suc rule) is broke =
-          kept (record { number = 1; value = suc rule; words = []; after = state_of (shape_of w) })
-          (ap (λ (n : ℕ). judged_strip n (state_of (shape_of w)) (strip (capacities w) (state_of (shape_of w)) words (length entry))) (sym is)) refl refl (λ q. omega arith)
 
   module _ {rule : ℕ} (j : Judged w rule) (sound : rule ≡ 0) where
     told : stripped w words (length entry) ≡ strip (capacities w) (state_of (shape_of w)) words (length entry)
@@ -106,35 +93,20 @@ opened (uneven sound rest) none = absurd (omega arith)
 opened (short sound whole little) none = absurd (omega arith)
 opened (opens sound whole room) none = (whole, room)
 
--- the store v that is checked is the store w as it stands
-module _ {v w : Words} (same : v ≡ w) (words entry : List ℕ) where
-  -- a rule is broken
-  pub strip_unsound : (rule : Rule) → Judged v (rule_number rule) → StripOf w words entry 1 (rule_number rule) w entry
-  strip_unsound rule j = judged w words entry (subst (λ (u : Words). Judged u (rule_number rule)) same j) (some_rule rule)
-    where
-      some_rule : (rule : Rule) → rule_number rule ≡ 0 → ⊥
-      some_rule Sizes q = omega arith
-      some_rule Live q = omega arith
-      some_rule Ends q = omega arith
-      some_rule Index q = omega arith
-      some_rule Rings q = omega arith
-      some_rule Runs q = omega arith
-      some_rule Walks q = omega arith
+-- by the answer before the first operation, where the store v that was checked, which is the store w as it stands, breaks no rule
+module _ {v w : Words} (same : v ≡ w) (words entry : List ℕ) (j : Judged v 0) where
+  sound : Judged w 0
+  sound = subst (λ (u : Words). Judged u 0) same j
 
-  -- none is: by the answer before the first operation
-  module _ (j : Judged v 0) where
-    sound : Judged w 0
-    sound = subst (λ (u : Words). Judged u 0) same j
+  pub strip_refused : {r : Answer} → Opening 0 (length words) (length entry) r → (r.number ≡ 0 → ⊥) → StripOf w words entry r.number r.value w entry
+  strip_refused (unsound broke) some = absurd (broke refl)
+  strip_refused (uneven unbroken rest) some = not_whole w words entry sound refl rest
+  strip_refused (short unbroken whole little) some = no_room w words entry sound refl whole little
+  strip_refused (opens unbroken whole room) some = absurd (some refl)
 
-    pub strip_refused : {r : Answer} → Opening 0 (length words) (length entry) r → (r.number ≡ 0 → ⊥) → StripOf w words entry r.number r.value w entry
-    strip_refused (unsound broke) some = absurd (broke refl)
-    strip_refused (uneven unbroken rest) some = not_whole w words entry sound refl rest
-    strip_refused (short unbroken whole little) some = no_room w words entry sound refl whole little
-    strip_refused (opens unbroken whole room) some = absurd (some refl)
+  pub strip_runnable : {r : Answer} → Opening 0 (length words) (length entry) r → r.number ≡ 0 → Runnable w words entry
+  strip_runnable o none = let p = opened o none in runnable w words entry sound refl p.0 p.1
 
-    pub strip_runnable : {r : Answer} → Opening 0 (length words) (length entry) r → r.number ≡ 0 → Runnable w words entry
-    strip_runnable o none = let p = opened o none in runnable w words entry sound refl p.0 p.1
-
-    pub strip_run : {r : Answer} {u : Words} {exit : List ℕ} → Opening 0 (length words) (length entry) r → r.number ≡ 0
-        → Ran w (operations words) entry u exit → StripOf w words entry 0 0 u exit
-    strip_run o none ran = let p = opened o none in ran_through w words entry sound refl p.0 p.1 ran
+  pub strip_run : {r : Answer} {u : Words} {exit : List ℕ} → Opening 0 (length words) (length entry) r → r.number ≡ 0
+      → Ran w (operations words) entry u exit → StripOf w words entry 0 0 u exit
+  strip_run o none ran = let p = opened o none in ran_through w words entry sound refl p.0 p.1 ran

@@ -1,7 +1,7 @@
 -- The operations of a strip in turn: what holds as one begins, and the laws of the loop, operation by operation.
 use Rattle.std.specs.Prelude.{ℕ, ◌+◌, ◌*◌, ◌/◌, ◌≤◌, ◌<◌, ◌≡◌, refl, List, [], ◌∷◌, ◌++◌, length, get_or, set, take, drop}
 use Rattle.plain.specs.Library.{sym, ap, ap₂, subst, ◌∙◌, append_assoc, length-append, length-set, add-one, arith}
-use lib.Seq.{take-suc, take_all, length-take-le}
+use lib.Seq.{take-suc, length-take-le}
 use Rattle.plain.specs.declared.Operation.{Operation}
 use Rattle.plain.specs.declared.Operation.TheVariants.{Unknown}
 use Rattle.plain.specs.Lists.{written}
@@ -117,18 +117,3 @@ running_turn {w} {words} {entry} {count} {v} {u} {exit} {exit'} {i} {number} {va
           (subst (λ (l : List ℕ). Ran w (take i (operations words) ++ (get_or (operations words) i Unknown ∷ [])) entry u l) (sym puts)
           (ran_more r.ran (subst (λ (x : Operation). StepOf x v u number value) is does) (2 * i) (ap (λ (k : ℕ). 2 * k) (sym taken)) fits));
     }
-
--- its words are there
-pub running_words : {w : Words} {words entry : List ℕ} {count : ℕ} {v : Words} {exit : List ℕ} {i : ℕ} → Running w words entry count v exit i → i < count
-    → operation_words * i + operation_words ≤ length words
-running_words {words = words} r more = let counted = r.counted ∙ length_operations words in omega arith
-
--- and so is the room for its answer
-pub running_room : {w : Words} {words entry : List ℕ} {count : ℕ} {v : Words} {exit : List ℕ} {i : ℕ} → Running w words entry count v exit i → i < count
-    → 2 * i + 2 ≤ length exit
-running_room r more = omega (arith, r.room, r.same_room)
-
-pub running_end : {w : Words} {words entry : List ℕ} {count : ℕ} {v : Words} {exit : List ℕ} {i : ℕ} → Running w words entry count v exit i → count ≤ i
-    → Ran w (operations words) entry v exit
-running_end {w} {words} {entry} {count} {v} {exit} {i} r done =
-    subst (λ (l : List Operation). Ran w l entry v exit) (take_all i (operations words) (omega (arith, r.counted))) r.ran

@@ -6,6 +6,9 @@ use Rattle.plain.specs.declared.Slots.{Slots}
 use Rattle.plain.specs.declared.TraversalDirection.{TraversalDirection}
 use Rattle.plain.specs.declared.TraversalDirection.TheVariants.{Outgoing, Incoming}
 use Rattle.plain.specs.Calls.{check}
+use Rattle.plain.specs.Refusals.{rule_number}
+use Rattle.plain.specs.declared.refusals.Rule.{Rule}
+use Rattle.plain.specs.declared.refusals.Rule.TheVariants.{Sizes, Live, Ends, Index, Rings, Runs, Walks}
 use Rattle.plain.specs.Lists.{member, distinct, all, from}
 use Rattle.plain.specs.Plain.{Plain, node_bound, edge_bound, node_flags, edge_flags, list_of, end_of}
 use Rattle.shape.specs.Columns.{end_at}
@@ -170,3 +173,13 @@ pub answer_broken : (rule : ℕ) → (rule ≡ 0 → ⊥) → ◌≡◌ {A = Ans
 unfolding check
 answer_broken zero n = absurd (n refl)
 answer_broken (suc rule) n = refl
+
+-- a rule has a number
+pub numbered : (rule : Rule) → rule_number rule ≡ 0 → ⊥
+numbered Sizes q = absurd (omega arith)
+numbered Live q = absurd (omega arith)
+numbered Ends q = absurd (omega arith)
+numbered Index q = absurd (omega arith)
+numbered Rings q = absurd (omega arith)
+numbered Runs q = absurd (omega arith)
+numbered Walks q = absurd (omega arith)

@@ -10,7 +10,7 @@ use Rattle.shape.specs.Rules.{ring_right}
 use Rattle.shape.proofs.Laws.Checking.{below_all}
 use Rattle.validate_words.specs.Laws.Passing.{slots_from, slots_more, slots_none}
 use Rattle.validate_words.specs.Rings.{own_test}
-use Rattle.validate_words.specs.Climbs.{Picked, is_last, some_at, Linked, Climbs, Stepped}
+use Rattle.validate_words.specs.Climbs.{Picked, is_last, some_at, Linked, Climbs}
 use Rattle.validate_words.proofs.Ringing.{closes, closes_last, closes_more, ring_none, ring_some}
 
 -- what `pick` answers of a word that may be NONE
@@ -30,18 +30,6 @@ link_tested {ws} {ce} {e = e} least below own is up = record {
   up = λ other. let q = rw (ne_eqb (last_at ws ce (end_at ws e)) e other) at is.is in omega arith;
 }
 
-module _ {ws : List ℕ} {ce be eb nb e : ℕ} (low : end_at ws e < nb) where
-  -- an edge whose end has no ring
-  pub step_free : e < LIMIT → last_at ws ce (end_at ws e) ≡ NONE → Stepped ws ce be eb nb e 0
-  step_free few none = record {
-    climbs = record { end_below = low; linked = λ some. absurd (some none) };
-    counts = rw (ne_eqb (last_at ws ce (end_at ws e)) e (λ q. omega arith));
-  }
-
-  -- an edge that is linked
-  pub step_linked : {answer : ℕ} → Linked ws ce be eb e → Picked (last_at ws ce (end_at ws e)) e 1 0 answer → Stepped ws ce be eb nb e answer
-  step_linked k a = record { climbs = record { end_below = low; linked = λ _. k }; counts = a.is }
-
 module _ (ws : List ℕ) (ce be eb nb : ℕ) where
   abbrev last : ℕ → Bool
   last = is_last ws ce
@@ -57,15 +45,15 @@ module _ (ws : List ℕ) (ce be eb nb : ℕ) where
   climbing_start = record { least = omega arith; climbs = λ k l m. absurd (omega arith); counted = omega arith; few = omega arith }
 
   -- an edge climbs
-  pub climbing_on : {e lasts step : ℕ} → Climbing e lasts → e < eb → Stepped ws ce be eb nb e step → Climbing (e + 1) (lasts + step)
+  pub climbing_on : {e lasts step : ℕ} → Climbing e lasts → e < eb → Climbs ws ce be eb nb e → step ≡ cond (last e) 1 0 → Climbing (e + 1) (lasts + step)
   unfolding count
-  climbing_on {e} {lasts} {step} c l s = record {
+  climbing_on {e} {lasts} {step} c l s q = record {
     least = omega arith;
-    climbs = λ k low m. ⊎_elim (λ b. c.climbs k low b) (λ (b : e ≤ k). let at : k ≡ e = omega arith in rw at s.climbs) (below_or_not k e);
+    climbs = λ k low m. ⊎_elim (λ b. c.climbs k low b) (λ (b : e ≤ k). let at : k ≡ e = omega arith in rw at s) (below_or_not k e);
     counted =
         let more : count last (slots_from e eb) ≡ cond (last e) 1 0 + count last (slots_from (e + 1) eb) = rw (slots_more e eb l) in
-        omega (arith, c.counted, s.counts);
-    few = let one : cond (last e) 1 0 ≤ 1 = by_test (last e) (λ t. rw t (omega arith)) (λ t. rw t (omega arith)) in omega (arith, s.counts);
+        omega (arith, c.counted, q);
+    few = let one : cond (last e) 1 0 ≤ 1 = by_test (last e) (λ t. rw t (omega arith)) (λ t. rw t (omega arith)) in omega (arith, q);
   }
 
   -- What the test has found when it passes.

@@ -27,10 +27,11 @@ pub record Climbs (ws : List ℕ) (ce be eb nb e : ℕ) : Type 0 where
   pub end_below : end_at ws e < nb
   pub linked : (last_at ws ce (end_at ws e) ≡ NONE → ⊥) → Linked ws ce be eb e
 
--- What a step past an edge that climbs answers: 1 at a last edge, else 0.
-pub record Stepped (ws : List ℕ) (ce be eb nb e lasts : ℕ) : Type 0 where
-  pub climbs : Climbs ws ce be eb nb e
-  pub counts : lasts ≡ cond (is_last ws ce e) 1 0
+-- The words of an axis, and an edge whose end is a node.
+pub record EndReadable (ws : List ℕ) (ce cn e : ℕ) : Type 0 where
+  pub sized : Sized ws ce cn
+  pub below : e < ce
+  pub end_within : end_at ws e < cn
 
 -- The words of an axis, and an edge below the bound, whose end is a node.
 pub record LinkReadable (ws : List ℕ) (ce cn eb e : ℕ) : Type 0 where

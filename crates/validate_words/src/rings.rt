@@ -2,12 +2,12 @@
 // rings that pass cost a step an edge together, and the first that does not ends the check. Rings that climb, as all do that edges are only added to, are not
 // followed: one pass over the edges of the delta in their order tells that they close.
 
-ghost use Rattle.std.specs.Prelude.{◌+◌, ◌≤◌, ◌<◌, ◌≡◌, true, length, IfSome};
+ghost use Rattle.std.specs.Prelude.{◌+◌, ◌≤◌, ◌<◌, ◌≡◌, true, cond, length};
 ghost use Rattle.plain.specs.Lists.{all, from, count as count_of};
 ghost use Rattle.shape.specs.Rules.{ring_right as ring_test};
 ghost use Rattle.validate_words.specs.Sizes.{AxisSized};
 ghost use Rattle.validate_words.specs.Rings.{own_test, RingReadable};
-ghost use Rattle.validate_words.specs.Climbs.{Picked, some_at, Linked, Stepped, LinkReadable, StepReadable};
+ghost use Rattle.validate_words.specs.Climbs.{Picked, is_last, some_at, Linked, Climbs, EndReadable, LinkReadable, StepReadable};
 
 use plain::{Counts, NONE};
 
@@ -73,8 +73,7 @@ pub fn edge_linked(
         && pick(last, edge, bound, next) > edge
 }
 
-// A step past an edge of the delta: none where its end is no node, or has a ring and the edge is not linked; else how many rings it is the last of, 1 or 0. The number is
-// added up with no branch on what the words hold.
+// Whether the end of an edge of the delta is a node, and where that has a ring the edge is linked; only the yes is promised.
 fn edge_climbs(
     axis: &[u32],
     edge_capacity: usize,
@@ -83,22 +82,25 @@ fn edge_climbs(
     bound: u32,
     ends: u32,
     edge: u32,
-) -> Option<u32>
+) -> bool
     requires { StepReadable axis.now edge_capacity node_capacity bound ends edge }
-    ensures { IfSome result (Stepped axis.now edge_capacity base bound ends edge) }
+    ensures { result ≡ true → Climbs axis.now edge_capacity base bound ends edge }
 {
     let node = axis[edge as usize];
     if node >= ends {
-        return None;
+        return false;
     }
-    let last = axis[4 * edge_capacity + node as usize];
-    if last == NONE {
-        return Some(0);
-    }
-    if !edge_linked(axis, edge_capacity, node_capacity, base, bound, edge) {
-        return None;
-    }
-    Some(pick(last, edge, 1, 0))
+    axis[4 * edge_capacity + node as usize] == NONE
+        || edge_linked(axis, edge_capacity, node_capacity, base, bound, edge)
+}
+
+// How many rings an edge is the last of, 1 or 0: added up with no branch on what the words hold.
+fn rings_ended(axis: &[u32], edge_capacity: usize, node_capacity: usize, edge: u32) -> u32
+    requires { EndReadable axis.now edge_capacity node_capacity edge }
+    ensures { result ≡ cond (is_last axis.now edge_capacity edge) 1 0 }
+{
+    let node = axis[edge as usize];
+    pick(axis[4 * edge_capacity + node as usize], edge, 1, 0)
 }
 
 // How many nodes have a ring: the words of a column, `count` of them from `at` on, that are not NONE.
@@ -123,11 +125,10 @@ fn rings_climb(axis: &[u32], edge_capacity: usize, node_capacity: usize, counts:
     let ends = counts.nodes.bound;
     let mut lasts = 0;
     for e in base..bound {
-        let Some(step) = edge_climbs(axis, edge_capacity, node_capacity, base, bound, ends, e)
-        else {
+        if !edge_climbs(axis, edge_capacity, node_capacity, base, bound, ends, e) {
             return false;
-        };
-        lasts += step;
+        }
+        lasts += rings_ended(axis, edge_capacity, node_capacity, e);
     }
     ring_count(axis, 4 * edge_capacity, ends) == lasts
 }

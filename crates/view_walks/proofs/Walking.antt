@@ -113,9 +113,6 @@ module _ {w : Words} {d : TraversalDirection} {x room n : ℕ} where
   pub fits_below : Counted w d x room (Ok n) → x < w.counts.nodes.bound
   fits_below (fits j b size l) = b
 
-  pub fits_room : Counted w d x room (Ok n) → length (list_in d w x) ≤ room
-  fits_room (fits j b size l) = omega (arith, size)
-
   -- each of its edges has an end in the other direction, which is that of the plain lists
   module _ (c : Counted w d x room (Ok n)) where
     list_below : (e : ℕ) → member e (list_in d w x) ≡ true → e < w.counts.edges.bound

@@ -1,18 +1,11 @@
--- `lotstrip_text::lotstrip` meets its contract: too long, not whole operations, or run.
-use Rattle.plain.specs.Lotstrip.{codes}
-use Rattle.lotstrip_text.proofs.Printing.{told, too_long, ragged, runs}
+-- `lotstrip_text::lotstrip` meets its contract: what was told is in the slice that was lent.
+use Rattle.std.specs.Prelude.{ℕ, List}
+use Rattle.plain.specs.Library.{sym, subst₂, ◌∙◌}
+use Rattle.lotstrip_text.specs.Printing.{LotstripOf}
+use Rattle.lotstrip_text.proofs.Printing.{told}
 use Rattle.lotstrip_text.proofs.lotstrip.Goals as goal
-
-pub returns-then-input-gt-INPUT : goal.returns-then-input-gt-INPUT
-unfolding codes
-returns-then-input-gt-INPUT c =
-    told c.write_bytes.ensures (too_long c.args.input.now c.if-input-gt-INPUT.true)
-
-pub returns-then-input-ne0 : goal.returns-then-input-ne0
-unfolding codes
-returns-then-input-ne0 c =
-    told c.write_bytes-then-input-ne0.ensures (ragged c.args.input.now c.if-input-gt-INPUT.false c.if-input-ne0.true)
 
 pub returns : goal.returns
 returns c =
-    told c.run.ensures (runs c.args.input.now c.if-input-gt-INPUT.false c.if-input-ne0.false)
+    let moved = c.text-1.given.1.1 (sym (c.tell.ensures.same ∙ c.new-out.ensures.same)) in
+    subst₂ (λ (s t : List ℕ). LotstripOf c.args.input.now s c.tell.new.out.end t) c.new-out.ensures.here (sym moved) (told c.new-out.ensures.empty c.tell.ensures)

@@ -23,7 +23,7 @@ slice_bounds-print-end-2 c =
 
 pub print-requires : goal.print-requires
 print-requires c =
-    let pre = c.requires in print_room c.read_words.ensures pre.whole c.book-size.ensures pre.short pre.room
+    let pre = c.requires in print_room c.read_words.ensures pre.whole c.book-size.ensures pre.short pre.roomy
 
 pub returns : goal.returns
 returns c =

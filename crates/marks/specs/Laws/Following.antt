@@ -2,10 +2,10 @@
 use Rattle.std.specs.Prelude.{ℕ, ◌≡◌, refl, Bool, true, false, ◌&&◌, ◌||◌, not, List, [], ◌∷◌, ◌++◌, length, eqb}
 use Rattle.plain.specs.Library.{sym, ap, subst, ◌∙◌, inl, inr, ⊎_elim, not-true, not-false}
 use Rattle.std.proofs.lemmas.Bool.{false≢true}
-use Rattle.plain.specs.Lists.{member, distinct, all}
+use Rattle.plain.specs.Lists.{member, distinct, all, keep}
 use Rattle.plain.proofs.Laws.Booleans.{by_test, true_false, refuted, and_left, and_right, both_true, or_other, or_false, or_true}
 use Rattle.plain.proofs.Laws.ListLaws.{all_of, all_member, member_append, distinct_append}
-use Rattle.marks.specs.Marks.{marked, Marked, Passed, fresh, passes, Followed, Adds}
+use Rattle.marks.specs.Marks.{marked, Marked, Entered, Passed, fresh, passes, Followed, Adds}
 use Rattle.marks.specs.Laws.Fresh.{or_swap, passes_none, passes_fails, passes_marked, passes_more}
 
 -- Of a list of entries the rest is still to be followed; those before are marked.
@@ -65,6 +65,56 @@ module _ {test : ℕ → Bool} {l seen₀ seen rest exit later : List ℕ} {e : 
   -- it passes
   pub pass_more : answer ≡ true → length exit ≡ length seen → Following test l seen₀ exit later
   pass_more a long = by_test (test e) (λ t. follow_more f q t (p.marking t) a long) (λ t. absurd (false≢true (sym (p.failing t) ∙ a)))
+
+-- passing an entry: one that is not listed, one that does not pass, and one that is marked
+module _ {listed passing : Bool} {seen : List ℕ} {e : ℕ} where
+  pub entered_unlisted : listed ≡ false → Entered listed passing seen e true seen
+  entered_unlisted out = record {
+    unlisted = λ _. (refl, refl);
+    failing = λ h. absurd (false≢true (sym out ∙ h));
+    marking = λ h. absurd (false≢true (sym out ∙ h));
+  }
+
+  pub entered_failing : listed ≡ true → passing ≡ false → Entered listed passing seen e false seen
+  entered_failing there bad = record {
+    unlisted = λ h. absurd (false≢true (sym h ∙ there));
+    failing = λ _ _. refl;
+    marking = λ _ h. absurd (false≢true (sym bad ∙ h));
+  }
+
+  pub entered_marking : {answer : Bool} {exit : List ℕ} → listed ≡ true → passing ≡ true → Marked seen e answer exit → Entered listed passing seen e answer exit
+  entered_marking there good m = record {
+    unlisted = λ h. absurd (false≢true (sym h ∙ there));
+    failing = λ _ h. absurd (false≢true (sym h ∙ good));
+    marking = λ _ _. m;
+  }
+
+-- an entry of a walk, which is followed where it is listed
+module _ (listed : ℕ → Bool) {test : ℕ → Bool} {l seen₀ seen rest exit : List ℕ} {e : ℕ} (later : List ℕ) {answer : Bool}
+    (f : Following test l seen₀ seen rest) (q : rest ≡ keep listed (e ∷ later)) (n : Entered (listed e) (test e) seen e answer exit) where
+  -- what is left where it is, and where it is not
+  is_first : listed e ≡ true → rest ≡ e ∷ keep listed later
+  unfolding keep
+  is_first h = q ∙ rw h
+
+  is_passed : listed e ≡ false → rest ≡ keep listed later
+  unfolding keep
+  is_passed h = q ∙ rw h
+
+  -- it does not pass
+  pub enter_fails : (final : Bool) → answer ≡ false → Followed test final l seen₀ false exit
+  enter_fails final a =
+      by_test (listed e)
+      (λ h. by_test (test e) (λ t. follow_marked f (is_first h) final (n.marking h t) a) (λ t. follow_fails f (is_first h) final exit t))
+      (λ h. absurd (false≢true (sym a ∙ (n.unlisted h).0)))
+
+  -- it passes, or is not listed
+  pub enter_more : answer ≡ true → length exit ≡ length seen → Following test l seen₀ exit (keep listed later)
+  enter_more a long =
+      by_test (listed e)
+      (λ h. by_test (test e) (λ t. follow_more f (is_first h) t (n.marking h t) a long) (λ t. absurd (false≢true (sym (n.failing h t) ∙ a))))
+      (λ h. subst (λ (s : List ℕ). Following test l seen₀ s (keep listed later)) (sym (n.unlisted h).1)
+      (subst (λ (r : List ℕ). Following test l seen₀ seen r) (is_passed h) f))
 
 -- ---- a list that was followed to its end
 

@@ -36,8 +36,5 @@ loop-preserved c =
     let less : c.args.length - (c.loop.counter + 1) ≡ c.args.length - c.loop.counter - 1 = omega arith in
     rw less (append_more c.requires (some_left (goal.at.loop-preserved c).In-loop) c.loop.invariant c.keep_one.auto.axis c.keep_one.ensures)
 
-pub shape_of-axis : goal.shape_of-axis
-shape_of-axis c = c.loop.invariant.long
-
 pub returns : goal.returns
 returns c = append_end c.requires (omega (arith, c.loop-test.false)) c.loop.invariant

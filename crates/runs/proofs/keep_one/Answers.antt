@@ -1,11 +1,7 @@
 -- `runs::keep_one` meets its contract, from what `push` ensures.
 use Rattle.plain.specs.Library.{sym, ◌∙◌}
-use Rattle.runs.specs.Laws.Pushing.{keep_push, keep_live, keep_dead}
+use Rattle.runs.specs.Laws.Pushing.{keep_live, keep_dead}
 use Rattle.runs.proofs.keep_one.Goals as goal
-
-pub push-requires : goal.push-requires
-push-requires c =
-    keep_push c.requires (sym c.is_live.ensures ∙ c.if-is_live.true)
 
 pub returns-then-is_live : goal.returns-then-is_live
 returns-then-is_live c =

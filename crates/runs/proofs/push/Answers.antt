@@ -13,23 +13,8 @@ last_in c = push_last c.requires c.if-length-eq0.false
 pub overflow_add-axis : goal.overflow_add-axis
 overflow_add-axis c = omega (arith, push_short c.requires)
 
-pub bounds-axis-tail-2 : goal.bounds-axis-tail-2
-bounds-axis-tail-2 c = simp length-set (omega arith)
-
-pub bounds-axis-first : goal.bounds-axis-first
-bounds-axis-first c = simp length-set (omega arith)
-
 pub returns-then-length-eq0 : goal.returns-then-length-eq0
 returns-then-length-eq0 c = push_first c.requires c.if-length-eq0.true
-
-pub overflow_cast-axis : goal.overflow_cast-axis
-overflow_cast-axis c = omega (arith, last_in c)
-
-pub overflow_add-axis-2 : goal.overflow_add-axis-2
-overflow_add-axis-2 c = omega (arith, last_in c)
-
-pub offset_bounds-axis-edge_capacity : goal.offset_bounds-axis-edge_capacity
-offset_bounds-axis-edge_capacity c = omega (arith, last_in c)
 
 pub bounds-axis-edge_capacity : goal.bounds-axis-edge_capacity
 bounds-axis-edge_capacity c = simp length-set (omega (arith, last_in c))

@@ -12,12 +12,6 @@ bounds-axis-after c = simp length-set (omega (arith, unlink_entry c.requires))
 pub bounds-axis-at : goal.bounds-axis-at
 bounds-axis-at c = simp length-set (omega (arith, unlink_before c.requires))
 
-pub bounds-axis-tail : goal.bounds-axis-tail
-bounds-axis-tail c = simp length-set (omega arith)
-
-pub bounds-axis-tail-then-axis-tail : goal.bounds-axis-tail-then-axis-tail
-bounds-axis-tail-then-axis-tail c = simp length-set (omega arith)
-
 pub returns-then-axis-tail : goal.returns-then-axis-tail
 returns-then-axis-tail c = unlink_last c.requires c.if-axis-tail.true
 

@@ -1,5 +1,5 @@
 -- `store::remove_edge` meets its contract: its two ways are `removing_live` and `removing_none`.
-use Rattle.store.proofs.Editing.{edge_counted, removing_live, removing_none}
+use Rattle.store.proofs.Editing.{edge_counted, removing_live}
 use Rattle.store.proofs.remove_edge.Goals as goal
 
 pub fewer-less-requires : goal.fewer-less-requires
@@ -10,7 +10,3 @@ pub returns-clause-removed : goal.returns-clause-removed
 returns-clause-removed c =
     rw c.fewer-less.ensures
     (removing_live c.requires c.args.edge c.clear.ensures c.if-not-clear.false c.clear.auto.words)
-
-pub returns-then-not-clear-clause-removed : goal.returns-then-not-clear-clause-removed
-returns-then-not-clear-clause-removed c =
-    removing_none c.requires c.args.edge c.clear.ensures c.if-not-clear.true

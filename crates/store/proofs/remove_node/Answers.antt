@@ -2,7 +2,7 @@
 use Rattle.std.specs.Prelude.{refl}
 use Rattle.plain.specs.Library.{arith}
 use Rattle.plain.specs.declared.TraversalDirection.TheVariants.{Outgoing, Incoming}
-use Rattle.store.proofs.Clearing.{clearing_none, node_counted, node_clearable, edges_counted, edges_few, clearing_live}
+use Rattle.store.proofs.Clearing.{node_counted, node_clearable, edges_few, clearing_live}
 use Rattle.store.proofs.remove_node.Goals as goal
 
 pub clear_adjacency-out-requires : goal.clear_adjacency-out-requires
@@ -24,16 +24,8 @@ overflow_add-out c =
       edges_few c.requires c.args.node c.clear.ensures c.if-not-clear.false c.clear_adjacency-out.ensures c.clear_adjacency-back.ensures,
     )
 
-pub fewer-rest-requires : goal.fewer-rest-requires
-fewer-rest-requires c =
-    edges_counted c.requires c.args.node c.clear.ensures c.if-not-clear.false c.clear_adjacency-out.ensures c.clear_adjacency-back.ensures
-
 pub returns-clause-removed : goal.returns-clause-removed
 returns-clause-removed c =
     rw (c.fewer-less.ensures, c.fewer-rest.ensures)
     (clearing_live c.requires c.args.node c.clear.ensures c.if-not-clear.false c.clear_adjacency-out.ensures c.clear_adjacency-back.ensures
     c.clear.auto.words)
-
-pub returns-then-not-clear-clause-removed : goal.returns-then-not-clear-clause-removed
-returns-then-not-clear-clause-removed c =
-    clearing_none c.requires c.args.node c.clear.ensures c.if-not-clear.true

@@ -1,7 +1,7 @@
 -- `strip::run` meets its contract. The loop's invariant: the first `i` operations are done and answered, in the same slices.
 use Rattle.std.proofs.Common.{rules}
 use Rattle.strip.proofs.Silent.{untold}
-use Rattle.strip.proofs.Running.{running_start, running_turn, running_end}
+use Rattle.strip.proofs.Running.{running_start, running_turn}
 use Rattle.strip.proofs.run.Goals as goal
 
 pub loop-i-init : goal.loop-i-init
@@ -15,6 +15,3 @@ loop-i-preserved c = record {
   same = search rules;
   running = running_turn c.loop-i.invariant.running c.loop-i-test.true c.operation_at.ensures c.step-came.ensures.steps c.write_answer.ensures;
 }
-
-pub returns-clause-ran : goal.returns-clause-ran
-returns-clause-ran c = running_end c.loop-i.invariant.running c.loop-i-test.false

@@ -1,16 +1,10 @@
--- `lotstrip_text::text::digit_count` meets its contract. The loop's invariant: the count has the digits taken off and one more. The measure is what is left.
-use Rattle.plain.specs.Library.{arith}
-use Rattle.lotstrip_text.proofs.Digits.{counting_start, counting_more, counting_few, counting_end}
+-- `lotstrip_text::text::digit_count` meets its contract: one more than the power of ten.
+use Rattle.plain.specs.Library.{sym}
+use Rattle.lotstrip_text.proofs.Digits.{digits_of_power, digits_of_zero}
 use Rattle.lotstrip_text.proofs.text.digit_count.Goals as goal
 
-pub loop-left-init : goal.loop-left-init
-loop-left-init c = counting_start _ (omega arith)
+pub returns-in-Some : goal.returns-in-Some
+returns-in-Some c = let f = c.in-Some.ensures in sym (digits_of_power _ _ f.bound f.power_le f.next_power_gt)
 
-pub overflow_add-count : goal.overflow_add-count
-overflow_add-count c = omega (arith, counting_few c.loop-left.invariant)
-
-pub loop-left-preserved : goal.loop-left-preserved
-loop-left-preserved c = counting_more c.loop-left.invariant (omega arith)
-
-pub returns : goal.returns
-returns c = counting_end c.loop-left.invariant (omega arith)
+pub returns-in-None : goal.returns-in-None
+returns-in-None c = rw c.in-None.ensures.none (sym digits_of_zero)

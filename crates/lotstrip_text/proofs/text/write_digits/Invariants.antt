@@ -1,9 +1,6 @@
--- `lotstrip_text::text::write_digits` meets its contract. The loop's invariant: the digits taken off stand from `to` on. The measure is what is left.
+-- `lotstrip_text::text::write_digits` meets its contract: after each turn one digit more stands before the end.
 use Rattle.lotstrip_text.proofs.Digits.{WritingDigits}
 use Rattle.lotstrip_text.proofs.text.write_digits.Given as goal
 
-abbrev pub invariant-loop-left : goal.invariant-loop-left
-invariant-loop-left l = WritingDigits l.initial.text l.at l.n l.left l.text l.to
-
-abbrev pub decreases-loop-left : goal.decreases-loop-left
-decreases-loop-left l = l.left
+abbrev pub invariant-loop-digit : goal.invariant-loop-digit
+invariant-loop-digit l = WritingDigits l.initial.text l.end l.n l.left l.digit l.text

@@ -20,26 +20,8 @@ returns-then-moved-eq0 c = hand_none c.requires c.if-moved-eq0.true
 pub overflow_add-axis : goal.overflow_add-axis
 overflow_add-axis c = omega (arith, hand_short c.requires, c.requires.editable.sized.edges_within)
 
-pub bounds-axis-count-2 : goal.bounds-axis-count-2
-bounds-axis-count-2 c = simp length-set (omega arith)
-
-pub bounds-axis-tail-2 : goal.bounds-axis-tail-2
-bounds-axis-tail-2 c = simp length-set (omega arith)
-
-pub bounds-axis-firsts-then-present-eq0 : goal.bounds-axis-firsts-then-present-eq0
-bounds-axis-firsts-then-present-eq0 c = simp length-set (omega arith)
-
 pub returns-then-present-eq0 : goal.returns-then-present-eq0
 returns-then-present-eq0 c = hand_first c.requires (some_moved (goal.at.returns-then-present-eq0 c).Else-moved-eq0) c.if-present-eq0.true
-
-pub overflow_cast-axis : goal.overflow_cast-axis
-overflow_cast-axis c = omega (arith, last_in c)
-
-pub overflow_add-axis-2 : goal.overflow_add-axis-2
-overflow_add-axis-2 c = omega (arith, last_in c)
-
-pub offset_bounds-axis-edge_capacity : goal.offset_bounds-axis-edge_capacity
-offset_bounds-axis-edge_capacity c = omega (arith, last_in c)
 
 pub bounds-axis-edge_capacity : goal.bounds-axis-edge_capacity
 bounds-axis-edge_capacity c = simp length-set (omega (arith, last_in c))

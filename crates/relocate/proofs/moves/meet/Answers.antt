@@ -1,9 +1,6 @@
 -- `relocate::moves::meet` meets its contract, from what `prepare` ensures of each run.
-use Rattle.relocate.proofs.Moving.{move_prepare_old, move_prepare_new}
+use Rattle.relocate.proofs.Moving.{move_prepare_new}
 use Rattle.relocate.proofs.moves.meet.Goals as goal
-
-pub prepare-requires : goal.prepare-requires
-prepare-requires c = move_prepare_old c.requires
 
 pub prepare-requires-2 : goal.prepare-requires-2
 prepare-requires-2 c =

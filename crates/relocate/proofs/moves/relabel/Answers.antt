@@ -39,8 +39,5 @@ loop-preserved c =
     let less : n - (c.loop.counter + 1) ≡ n - c.loop.counter - 1 = omega arith in
     rw less (relabel_more c.requires _ (some_left (goal.at.loop-preserved c).In-loop) c.loop.invariant)
 
-pub shape_of-axis : goal.shape_of-axis
-shape_of-axis c = c.loop.invariant.now.long
-
 pub returns : goal.returns
 returns c = relabel_end c.requires _ (omega (arith, c.loop-test.false)) c.loop.invariant

@@ -1,9 +1,6 @@
 -- `runs::overlay::copy_base` meets its contract. The invariant is `Copying`.
-use Rattle.runs.proofs.Starting.{copy_based, copy_start, copy_keep, copy_more, copy_end}
+use Rattle.runs.proofs.Starting.{copy_start, copy_keep, copy_more, copy_end}
 use Rattle.runs.proofs.overlay.copy_base.Goals as goal
-
-pub base_bounds-base-requires : goal.base_bounds-base-requires
-base_bounds-base-requires c = copy_based c.requires
 
 pub loop-at-init : goal.loop-at-init
 loop-at-init c = copy_start c.requires c.base_bounds-base.ensures
@@ -14,9 +11,6 @@ keep_one-requires c = copy_keep c.requires c.loop-at-test.true c.loop-at.invaria
 pub loop-at-preserved : goal.loop-at-preserved
 loop-at-preserved c =
     copy_more c.requires c.loop-at-test.true c.loop-at.invariant c.keep_one.auto.axis c.keep_one.ensures
-
-pub shape_of-axis : goal.shape_of-axis
-shape_of-axis c = c.loop-at.invariant.long
 
 pub returns : goal.returns
 returns c = copy_end c.requires c.loop-at-test.false c.loop-at.invariant

@@ -1,6 +1,6 @@
 -- `runs::overlay::drain` meets its contract. The invariant is `Draining`; the measure is the length of what is to come of the ring.
 use Rattle.std.specs.Prelude.{◌<◌}
-use Rattle.plain.specs.Library.{◌∙◌, arith}
+use Rattle.plain.specs.Library.{arith}
 use Rattle.runs.proofs.Draining.{drain_readable, drain_none, drain_start, drain_below, drain_keep, drain_more, drain_less, drain_last}
 use Rattle.runs.proofs.overlay.drain.Goals.{At-loop-next}
 use Rattle.runs.proofs.overlay.drain.Goals as goal
@@ -43,13 +43,6 @@ loop-next-preserved c =
 
 pub keep_one-requires-2 : goal.keep_one-requires-2
 keep_one-requires-2 c = drain_keep c.requires c.loop-next.invariant
-
-pub detach-requires : goal.detach-requires
-detach-requires c =
-    record { edges_within = c.keep_one-2.ensures.editable.sized.edges_within; room = omega (arith, c.keep_one-2.ensures.editable) }
-
-pub shape_of-axis : goal.shape_of-axis
-shape_of-axis c = c.detach.auto.axis ∙ c.keep_one-2.auto.axis ∙ c.loop-next.invariant.long
 
 pub returns : goal.returns
 returns c =

@@ -7,7 +7,7 @@ pub loop-e-init : goal.loop-e-init
 loop-e-init c = climbing_start _ _ _ _ _
 
 pub loop-e-preserved : goal.loop-e-preserved
-loop-e-preserved c = climbing_on _ _ _ _ _ c.loop-e.invariant c.loop-e-test.true c.in-Some.ensures
+loop-e-preserved c = climbing_on _ _ _ _ _ c.loop-e.invariant c.loop-e-test.true (c.edge_climbs.ensures c.if-not-edge_climbs.false) c.rings_ended-lasts.ensures
 
 pub returns : goal.returns
 returns c =

@@ -1,0 +1,12 @@
+-- `lotstrip_text::text::Text::write_number` meets its contract.
+use Rattle.std.specs.Prelude.{◌+◌, ◌-◌, ◌≡◌, refl, length}
+use Rattle.plain.specs.Library.{arith}
+use Rattle.plain.specs.Lotstrip.{decimal}
+use Rattle.lotstrip_text.proofs.Pieces.{append_then}
+use Rattle.lotstrip_text.proofs.text.Text.write_number.Goals as goal
+
+pub returns : goal.returns
+returns c =
+    let from = c.args.self.now.end in
+    let e : from + c.digit_count.result - length (decimal c.args.n) ≡ from = omega (arith, c.digit_count.ensures) in
+    append_then (record { same = refl; put = rw e at c.write_digits.ensures; ended = omega (arith, c.digit_count.ensures) }) c.push.ensures
