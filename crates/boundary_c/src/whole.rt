@@ -12,7 +12,7 @@ ghost use Rattle.view.specs.Calls.{Answered, Replied};
 use crate::lent;
 use plain::refusals::Refusal;
 use plain::{Answer, Counts};
-use validate::check_store;
+use validate::judging::check_store;
 
 #[tactic(auto, unfolding(plain::specs::Calls::check))]
 #[unsafe(no_mangle)]
