@@ -1,14 +1,24 @@
 // Recorded lines on standard input: a call, the operations of a strip, the bytes of an image. Crate replay_main tells what a line is.
 
+ghost use Rattle.std.specs.Prelude.{◌<◌};
+
 use crate::Line;
 use std::io::{ErrorKind, Read};
 use std::{array, io};
 
-// The word that eight hexadecimal digits stand for; any other byte counts as 0.
+// What a hexadecimal digit stands for; any other byte gives some number too, where `char::to_digit` has none.
+fn digit(byte: u8) -> u32
+    ensures { result < 16 }
+{
+    let code = u32::from(byte);
+    (code % 16 + 9 * (code / 64)) % 16
+}
+
+// The word that eight digits stand for.
 fn word(digits: &[u8]) -> u32 {
-    digits.iter().fold(0, |word, byte| {
-        (word << 4) | char::from(*byte).to_digit(16).unwrap_or(0)
-    })
+    digits
+        .iter()
+        .fold(0, |word, byte| (word << 4) | digit(*byte))
 }
 
 // The next line of the input, behind each word of which stands a space or the end of the line; none where less than a line is left. A read that fails is answered.

@@ -43,12 +43,16 @@ fn step(rt: &(impl Input + Print), book: &mut Book, call: Call) -> io::Result<()
     }
 }
 
-// The calls of the input in turn. A proved loop has to end, and nothing says that the input does: it counts to a number that no input uses up.
+// The calls of the input in turn, up to its end or a line of the kind ffffffff. A proved loop has to end, and nothing says that the input does: it counts to a number
+// that no input uses up.
 fn run(rt: &(impl Input + Print), book: &mut Book) -> io::Result<()> {
     for _ in 0..u64::MAX {
         let Some(line) = input::next(rt)? else {
             return Ok(());
         };
+        if line[0] == u32::MAX {
+            return Ok(());
+        }
         step(rt, book, Call::from(line))?;
     }
     Ok(())
