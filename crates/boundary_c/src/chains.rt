@@ -3,6 +3,7 @@
 ghost use Rattle.shape.specs.Lent.{at_entry};
 ghost use Rattle.nearest.specs.Calls.{NearestOf};
 
+use crate::lent;
 use plain::{Answer, Counts};
 
 #[unsafe(no_mangle)]
@@ -24,8 +25,8 @@ pub extern "C" fn lot_nearest(
         (at_entry counts nodes.now lows.now highs.now live_nodes.now live_edges.now outgoing.now incoming.now)
         first second work.old chain.old result work.new chain.new }
 {
-    boundary::chains::lot_nearest(
-        counts, nodes, lows, highs, live_nodes, live_edges, outgoing, incoming, first, second,
-        work, chain,
-    )
+    let store = lent(
+        counts, nodes, lows, highs, live_nodes, live_edges, outgoing, incoming,
+    );
+    Answer::from(nearest::nearest(&store, first, second, work, chain))
 }

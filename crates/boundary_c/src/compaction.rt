@@ -3,7 +3,9 @@
 ghost use Rattle.shape.specs.Lent.{at_entry, at_exit};
 ghost use Rattle.compact.specs.Calls.{CompactOf};
 
+use crate::changed;
 use plain::{Changed, Counts};
+use shape::StoreMut;
 
 #[unsafe(no_mangle)]
 pub extern "C" fn lot_compact(
@@ -25,8 +27,16 @@ pub extern "C" fn lot_compact(
         (at_exit result.counts nodes.new lows.new highs.new live_nodes.new live_edges.new outgoing.new incoming.new)
         node_map.new edge_map.new work.new }
 {
-    boundary_books::compaction::lot_compact(
-        counts, nodes, lows, highs, live_nodes, live_edges, outgoing, incoming, node_map, edge_map,
-        work,
-    )
+    let mut store = StoreMut {
+        counts,
+        nodes,
+        lows,
+        highs,
+        live_nodes,
+        live_edges,
+        outgoing,
+        incoming,
+    };
+    let came = compact::compact(&mut store, node_map, edge_map, work);
+    changed(came, store.counts)
 }

@@ -1,11 +1,14 @@
-// The image of a store: written, and read on a box or on the skid.
+// The image of a store: written, and read on a box or on the skid, for each of which the C interface has a function.
 
 ghost use Rattle.plain.specs.Devices.{box, skid};
 ghost use Rattle.shape.specs.Lent.{at_entry, at_exit};
 ghost use Rattle.image_write.specs.Calls.{WriteOf};
 ghost use Rattle.image_read.specs.Calls.{ReadOf};
 
+use crate::{changed, lent};
+use memory::Device;
 use plain::{Answer, Changed, Counts};
+use shape::StoreMut;
 
 #[unsafe(no_mangle)]
 pub extern "C" fn lot_write_image(
@@ -24,9 +27,10 @@ pub extern "C" fn lot_write_image(
         (at_entry counts nodes.now lows.now highs.now live_nodes.now live_edges.now outgoing.now incoming.now)
         work.old bytes.old result work.new bytes.new }
 {
-    boundary_books::images::lot_write_image(
-        counts, nodes, lows, highs, live_nodes, live_edges, outgoing, incoming, work, bytes,
-    )
+    let store = lent(
+        counts, nodes, lows, highs, live_nodes, live_edges, outgoing, incoming,
+    );
+    Answer::from(image_write::write_image(&store, work, bytes))
 }
 
 #[unsafe(no_mangle)]
@@ -46,9 +50,18 @@ pub extern "C" fn lot_read_image(
         bytes.now result.number result.value
         (at_exit result.counts nodes.new lows.new highs.new live_nodes.new live_edges.new outgoing.new incoming.new) }
 {
-    boundary_books::images::lot_read_image(
-        counts, nodes, lows, highs, live_nodes, live_edges, outgoing, incoming, bytes,
-    )
+    let mut store = StoreMut {
+        counts,
+        nodes,
+        lows,
+        highs,
+        live_nodes,
+        live_edges,
+        outgoing,
+        incoming,
+    };
+    let came = image_read::read_image(Device::Box, &mut store, bytes);
+    changed(came, store.counts)
 }
 
 #[unsafe(no_mangle)]
@@ -68,7 +81,16 @@ pub extern "C" fn lot_skid_read_image(
         bytes.now result.number result.value
         (at_exit result.counts nodes.new lows.new highs.new live_nodes.new live_edges.new outgoing.new incoming.new) }
 {
-    boundary_books::images::lot_skid_read_image(
-        counts, nodes, lows, highs, live_nodes, live_edges, outgoing, incoming, bytes,
-    )
+    let mut store = StoreMut {
+        counts,
+        nodes,
+        lows,
+        highs,
+        live_nodes,
+        live_edges,
+        outgoing,
+        incoming,
+    };
+    let came = image_read::read_image(Device::Skid, &mut store, bytes);
+    changed(came, store.counts)
 }

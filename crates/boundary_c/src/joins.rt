@@ -3,7 +3,10 @@
 ghost use Rattle.shape.specs.Lent.{at_entry, at_exit};
 ghost use Rattle.join.specs.Calls.{no_counts, lent_maps, JoinOf};
 
+use crate::{changed, lent};
+use join::MapsMut;
 use plain::{Changed, Counts};
+use shape::StoreMut;
 
 #[unsafe(no_mangle)]
 pub extern "C" fn lot_join(
@@ -44,7 +47,7 @@ pub extern "C" fn lot_join(
         (at_exit result.counts nodes.new lows.new highs.new live_nodes.new live_edges.new outgoing.new incoming.new)
         (lent_maps first_node_map.new first_edge_map.new second_node_map.new second_edge_map.new) }
 {
-    boundary_books::joins::lot_join(
+    let first = lent(
         first,
         first_nodes,
         first_lows,
@@ -53,6 +56,8 @@ pub extern "C" fn lot_join(
         first_live_edges,
         first_outgoing,
         first_incoming,
+    );
+    let second = lent(
         second,
         second_nodes,
         second_lows,
@@ -61,6 +66,9 @@ pub extern "C" fn lot_join(
         second_live_edges,
         second_outgoing,
         second_incoming,
+    );
+    let mut memory = StoreMut {
+        counts: Counts::default(),
         nodes,
         lows,
         highs,
@@ -68,9 +76,21 @@ pub extern "C" fn lot_join(
         live_edges,
         outgoing,
         incoming,
-        first_node_map,
-        first_edge_map,
-        second_node_map,
-        second_edge_map,
-    )
+    };
+    let mut first_maps = MapsMut {
+        nodes: first_node_map,
+        edges: first_edge_map,
+    };
+    let mut second_maps = MapsMut {
+        nodes: second_node_map,
+        edges: second_edge_map,
+    };
+    let came = join::join(
+        &first,
+        &second,
+        &mut memory,
+        &mut first_maps,
+        &mut second_maps,
+    );
+    changed(came, memory.counts)
 }

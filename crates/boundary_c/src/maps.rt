@@ -8,19 +8,19 @@ use plain::Answer;
 pub extern "C" fn lot_lookup(renumbering: &[u32], slot: u32) -> Answer
     ensures { Lookup renumbering.now slot result }
 {
-    boundary::maps::lot_lookup(renumbering, slot)
+    Answer::from(Ok(renumbering::lookup(renumbering, slot)))
 }
 
 #[unsafe(no_mangle)]
 pub extern "C" fn lot_compose(first: &[u32], second: &[u32], res: &mut [u32]) -> Answer
     ensures { Compose first.now second.now res.old result res.new }
 {
-    boundary::maps::lot_compose(first, second, res)
+    Answer::from(renumbering::compose(first, second, res))
 }
 
 #[unsafe(no_mangle)]
 pub extern "C" fn lot_is_identity(nodes: &[u32], edges: &[u32]) -> Answer
     ensures { IsIdentity nodes.now edges.now result }
 {
-    boundary::maps::lot_is_identity(nodes, edges)
+    Answer::from(Ok(renumbering::is_identity(nodes, edges)))
 }

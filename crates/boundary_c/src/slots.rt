@@ -5,6 +5,7 @@ ghost use Rattle.shape.specs.Shape.{lists};
 ghost use Rattle.shape.specs.Lent.{at_entry};
 ghost use Rattle.view.specs.Calls.{Answered, Recorded};
 
+use crate::lent;
 use plain::{Answer, Counts, Record};
 
 #[unsafe(no_mangle)]
@@ -23,9 +24,10 @@ pub extern "C" fn lot_node_payload(
         (at_entry counts nodes.now lows.now highs.now live_nodes.now live_edges.now outgoing.now incoming.now)
         (λ w. node_payload (lists w) node) result }
 {
-    boundary::slots::lot_node_payload(
-        counts, nodes, lows, highs, live_nodes, live_edges, outgoing, incoming, node,
-    )
+    let store = lent(
+        counts, nodes, lows, highs, live_nodes, live_edges, outgoing, incoming,
+    );
+    Answer::from(view::slots::node_payload(&store, node))
 }
 
 #[unsafe(no_mangle)]
@@ -44,9 +46,10 @@ pub extern "C" fn lot_edge_record(
         (at_entry counts nodes.now lows.now highs.now live_nodes.now live_edges.now outgoing.now incoming.now)
         (λ w. edge_record (lists w) edge) result }
 {
-    boundary::slots::lot_edge_record(
-        counts, nodes, lows, highs, live_nodes, live_edges, outgoing, incoming, edge,
-    )
+    let store = lent(
+        counts, nodes, lows, highs, live_nodes, live_edges, outgoing, incoming,
+    );
+    Record::from(view::slots::edge_record(&store, edge))
 }
 
 #[unsafe(no_mangle)]
@@ -65,9 +68,10 @@ pub extern "C" fn lot_live_edge_record(
         (at_entry counts nodes.now lows.now highs.now live_nodes.now live_edges.now outgoing.now incoming.now)
         (λ w. live_edge_record (lists w) edge) result }
 {
-    boundary::slots::lot_live_edge_record(
-        counts, nodes, lows, highs, live_nodes, live_edges, outgoing, incoming, edge,
-    )
+    let store = lent(
+        counts, nodes, lows, highs, live_nodes, live_edges, outgoing, incoming,
+    );
+    Record::from(view::slots::live_edge_record(&store, edge))
 }
 
 #[unsafe(no_mangle)]
@@ -86,9 +90,10 @@ pub extern "C" fn lot_contains_node(
         (at_entry counts nodes.now lows.now highs.now live_nodes.now live_edges.now outgoing.now incoming.now)
         (λ w. contains_node (lists w) node) result }
 {
-    boundary::slots::lot_contains_node(
-        counts, nodes, lows, highs, live_nodes, live_edges, outgoing, incoming, node,
-    )
+    let store = lent(
+        counts, nodes, lows, highs, live_nodes, live_edges, outgoing, incoming,
+    );
+    Answer::from(view::slots::contains_node(&store, node))
 }
 
 #[unsafe(no_mangle)]
@@ -107,7 +112,8 @@ pub extern "C" fn lot_contains_edge(
         (at_entry counts nodes.now lows.now highs.now live_nodes.now live_edges.now outgoing.now incoming.now)
         (λ w. contains_edge (lists w) edge) result }
 {
-    boundary::slots::lot_contains_edge(
-        counts, nodes, lows, highs, live_nodes, live_edges, outgoing, incoming, edge,
-    )
+    let store = lent(
+        counts, nodes, lows, highs, live_nodes, live_edges, outgoing, incoming,
+    );
+    Answer::from(view::slots::contains_edge(&store, edge))
 }

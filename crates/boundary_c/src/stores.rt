@@ -1,11 +1,27 @@
-// A store: the counts by value and the seven lent slices. Made fresh, on a box or on the skid, and changed by a strip.
+// A store: the counts by value and the seven lent slices. Made fresh, on a box or on the skid, and changed by a strip. In the C interface each device has a function of its
+// own.
 
 ghost use Rattle.plain.specs.Devices.{box, skid};
+ghost use Rattle.memory.specs.Lengths.{device_of};
 ghost use Rattle.shape.specs.Lent.{at_entry, at_exit};
+ghost use Rattle.shape.specs.Stores.{words};
 ghost use Rattle.strip.specs.Fresh.{FreshOf};
 ghost use Rattle.strip.specs.Strip.{StripOf};
 
+use crate::{changed, lent};
+use memory::Device;
 use plain::{Changed, Counts};
+use shape::{Store, StoreMut};
+
+// What C is answered of a fresh store in the memory of this one.
+fn made(device: Device, memory: &Store) -> Changed
+    ensures { FreshOf (device_of device) (record (words memory.now) { counts = result.counts }) result.number result.value }
+{
+    match strip::fresh(device, memory.lengths()) {
+        Ok(counts) => changed(Ok(()), counts),
+        Err(refusal) => changed(Err(refusal), Counts::default()),
+    }
+}
 
 #[unsafe(no_mangle)]
 pub extern "C" fn lot_fresh(
@@ -21,9 +37,17 @@ pub extern "C" fn lot_fresh(
         (at_entry result.counts nodes.now lows.now highs.now live_nodes.now live_edges.now outgoing.now incoming.now)
         result.number result.value }
 {
-    boundary::stores::lot_fresh(
-        nodes, lows, highs, live_nodes, live_edges, outgoing, incoming,
-    )
+    let memory = lent(
+        Counts::default(),
+        nodes,
+        lows,
+        highs,
+        live_nodes,
+        live_edges,
+        outgoing,
+        incoming,
+    );
+    made(Device::Box, &memory)
 }
 
 #[unsafe(no_mangle)]
@@ -40,9 +64,17 @@ pub extern "C" fn lot_skid_fresh(
         (at_entry result.counts nodes.now lows.now highs.now live_nodes.now live_edges.now outgoing.now incoming.now)
         result.number result.value }
 {
-    boundary::stores::lot_skid_fresh(
-        nodes, lows, highs, live_nodes, live_edges, outgoing, incoming,
-    )
+    let memory = lent(
+        Counts::default(),
+        nodes,
+        lows,
+        highs,
+        live_nodes,
+        live_edges,
+        outgoing,
+        incoming,
+    );
+    made(Device::Skid, &memory)
 }
 
 #[unsafe(no_mangle)]
@@ -64,7 +96,16 @@ pub extern "C" fn lot_strip(
         (at_exit result.counts nodes.new lows.new highs.new live_nodes.new live_edges.new outgoing.new incoming.new)
         answers.new }
 {
-    boundary::stores::lot_strip(
-        counts, nodes, lows, highs, live_nodes, live_edges, outgoing, incoming, words, answers,
-    )
+    let mut store = StoreMut {
+        counts,
+        nodes,
+        lows,
+        highs,
+        live_nodes,
+        live_edges,
+        outgoing,
+        incoming,
+    };
+    let came = strip::strip(&mut store, words, answers);
+    changed(came, store.counts)
 }

@@ -1,4 +1,4 @@
-// Reads of a node's list, and finding. Each direction has a function of its own: a number for it would have values that mean none.
+// Reads of a node's list, and finding. In the C interface each direction has a function of its own: a number for it would have values that mean none.
 
 ghost use Rattle.plain.specs.declared.TraversalDirection.TheVariants.{Outgoing, Incoming};
 ghost use Rattle.plain.specs.Reads.{degree as degree_of, total as total_of, walk as walk_of, neighbors as neighbors_of, find as find_of};
@@ -6,6 +6,7 @@ ghost use Rattle.shape.specs.Shape.{lists};
 ghost use Rattle.shape.specs.Lent.{at_entry};
 ghost use Rattle.view.specs.Calls.{Answered, Totalled, Replied};
 
+use crate::lent;
 use plain::{Answer, Counts, Total, TraversalDirection};
 
 #[unsafe(no_mangle)]
@@ -24,9 +25,10 @@ pub extern "C" fn lot_out_degree(
         (at_entry counts nodes.now lows.now highs.now live_nodes.now live_edges.now outgoing.now incoming.now)
         (λ w. degree_of Outgoing (lists w) node) result }
 {
-    boundary::walks::lot_out_degree(
-        counts, nodes, lows, highs, live_nodes, live_edges, outgoing, incoming, node,
-    )
+    let store = lent(
+        counts, nodes, lows, highs, live_nodes, live_edges, outgoing, incoming,
+    );
+    Answer::from(view_walks::degree(&store, TraversalDirection::Outgoing, node))
 }
 
 #[unsafe(no_mangle)]
@@ -45,9 +47,10 @@ pub extern "C" fn lot_in_degree(
         (at_entry counts nodes.now lows.now highs.now live_nodes.now live_edges.now outgoing.now incoming.now)
         (λ w. degree_of Incoming (lists w) node) result }
 {
-    boundary::walks::lot_in_degree(
-        counts, nodes, lows, highs, live_nodes, live_edges, outgoing, incoming, node,
-    )
+    let store = lent(
+        counts, nodes, lows, highs, live_nodes, live_edges, outgoing, incoming,
+    );
+    Answer::from(view_walks::degree(&store, TraversalDirection::Incoming, node))
 }
 
 #[unsafe(no_mangle)]
@@ -66,9 +69,10 @@ pub extern "C" fn lot_out_total(
         (at_entry counts nodes.now lows.now highs.now live_nodes.now live_edges.now outgoing.now incoming.now)
         (λ w. total_of Outgoing (lists w) node) result }
 {
-    boundary::walks::lot_out_total(
-        counts, nodes, lows, highs, live_nodes, live_edges, outgoing, incoming, node,
-    )
+    let store = lent(
+        counts, nodes, lows, highs, live_nodes, live_edges, outgoing, incoming,
+    );
+    Total::from(view_walks::total(&store, TraversalDirection::Outgoing, node))
 }
 
 #[unsafe(no_mangle)]
@@ -87,9 +91,10 @@ pub extern "C" fn lot_in_total(
         (at_entry counts nodes.now lows.now highs.now live_nodes.now live_edges.now outgoing.now incoming.now)
         (λ w. total_of Incoming (lists w) node) result }
 {
-    boundary::walks::lot_in_total(
-        counts, nodes, lows, highs, live_nodes, live_edges, outgoing, incoming, node,
-    )
+    let store = lent(
+        counts, nodes, lows, highs, live_nodes, live_edges, outgoing, incoming,
+    );
+    Total::from(view_walks::total(&store, TraversalDirection::Incoming, node))
 }
 
 #[unsafe(no_mangle)]
@@ -109,9 +114,10 @@ pub extern "C" fn lot_outgoing(
         (at_entry counts nodes.now lows.now highs.now live_nodes.now live_edges.now outgoing.now incoming.now)
         (λ w room. walk_of Outgoing (lists w) node room) slots.old result slots.new }
 {
-    boundary::walks::lot_outgoing(
-        counts, nodes, lows, highs, live_nodes, live_edges, outgoing, incoming, node, slots,
-    )
+    let store = lent(
+        counts, nodes, lows, highs, live_nodes, live_edges, outgoing, incoming,
+    );
+    Answer::from(view_walks::walk(&store, TraversalDirection::Outgoing, node, slots))
 }
 
 #[unsafe(no_mangle)]
@@ -131,9 +137,10 @@ pub extern "C" fn lot_incoming(
         (at_entry counts nodes.now lows.now highs.now live_nodes.now live_edges.now outgoing.now incoming.now)
         (λ w room. walk_of Incoming (lists w) node room) slots.old result slots.new }
 {
-    boundary::walks::lot_incoming(
-        counts, nodes, lows, highs, live_nodes, live_edges, outgoing, incoming, node, slots,
-    )
+    let store = lent(
+        counts, nodes, lows, highs, live_nodes, live_edges, outgoing, incoming,
+    );
+    Answer::from(view_walks::walk(&store, TraversalDirection::Incoming, node, slots))
 }
 
 #[unsafe(no_mangle)]
@@ -153,9 +160,10 @@ pub extern "C" fn lot_successors(
         (at_entry counts nodes.now lows.now highs.now live_nodes.now live_edges.now outgoing.now incoming.now)
         (λ w room. neighbors_of Outgoing (lists w) node room) slots.old result slots.new }
 {
-    boundary::walks::lot_successors(
-        counts, nodes, lows, highs, live_nodes, live_edges, outgoing, incoming, node, slots,
-    )
+    let store = lent(
+        counts, nodes, lows, highs, live_nodes, live_edges, outgoing, incoming,
+    );
+    Answer::from(view_walks::neighbors(&store, TraversalDirection::Outgoing, node, slots))
 }
 
 #[unsafe(no_mangle)]
@@ -175,9 +183,10 @@ pub extern "C" fn lot_predecessors(
         (at_entry counts nodes.now lows.now highs.now live_nodes.now live_edges.now outgoing.now incoming.now)
         (λ w room. neighbors_of Incoming (lists w) node room) slots.old result slots.new }
 {
-    boundary::walks::lot_predecessors(
-        counts, nodes, lows, highs, live_nodes, live_edges, outgoing, incoming, node, slots,
-    )
+    let store = lent(
+        counts, nodes, lows, highs, live_nodes, live_edges, outgoing, incoming,
+    );
+    Answer::from(view_walks::neighbors(&store, TraversalDirection::Incoming, node, slots))
 }
 
 #[unsafe(no_mangle)]
@@ -197,7 +206,8 @@ pub extern "C" fn lot_find(
         (at_entry counts nodes.now lows.now highs.now live_nodes.now live_edges.now outgoing.now incoming.now)
         (λ w. find_of (lists w) first second) result }
 {
-    boundary::walks::lot_find(
-        counts, nodes, lows, highs, live_nodes, live_edges, outgoing, incoming, first, second,
-    )
+    let store = lent(
+        counts, nodes, lows, highs, live_nodes, live_edges, outgoing, incoming,
+    );
+    Answer::from(view_walks::finding::find(&store, first, second))
 }

@@ -9,8 +9,12 @@ ghost use Rattle.shape.specs.Rules.{broken};
 ghost use Rattle.shape.specs.Steps.{state_of};
 ghost use Rattle.view.specs.Calls.{Answered, Replied};
 
+use crate::lent;
+use plain::refusals::Refusal;
 use plain::{Answer, Counts};
+use validate::judging::check_store;
 
+#[tactic(auto, unfolding(plain::specs::Calls::check))]
 #[unsafe(no_mangle)]
 pub extern "C" fn lot_check(
     counts: Counts,
@@ -24,9 +28,10 @@ pub extern "C" fn lot_check(
 ) -> Answer
     ensures { result ≡ check_answer (broken (at_entry counts nodes.now lows.now highs.now live_nodes.now live_edges.now outgoing.now incoming.now)) }
 {
-    boundary::whole::lot_check(
+    let store = lent(
         counts, nodes, lows, highs, live_nodes, live_edges, outgoing, incoming,
-    )
+    );
+    Answer::from(check_store(&store).map_err(Refusal::from))
 }
 
 #[unsafe(no_mangle)]
@@ -44,9 +49,10 @@ pub extern "C" fn lot_node_bound(
         (at_entry counts nodes.now lows.now highs.now live_nodes.now live_edges.now outgoing.now incoming.now)
         (λ w. node_bound_answer (lists w)) result }
 {
-    boundary::whole::lot_node_bound(
+    let store = lent(
         counts, nodes, lows, highs, live_nodes, live_edges, outgoing, incoming,
-    )
+    );
+    Answer::from(view::whole::node_bound(&store))
 }
 
 #[unsafe(no_mangle)]
@@ -64,9 +70,10 @@ pub extern "C" fn lot_edge_bound(
         (at_entry counts nodes.now lows.now highs.now live_nodes.now live_edges.now outgoing.now incoming.now)
         (λ w. edge_bound_answer (lists w)) result }
 {
-    boundary::whole::lot_edge_bound(
+    let store = lent(
         counts, nodes, lows, highs, live_nodes, live_edges, outgoing, incoming,
-    )
+    );
+    Answer::from(view::whole::edge_bound(&store))
 }
 
 #[unsafe(no_mangle)]
@@ -84,9 +91,10 @@ pub extern "C" fn lot_node_count(
         (at_entry counts nodes.now lows.now highs.now live_nodes.now live_edges.now outgoing.now incoming.now)
         (λ w. node_count (lists w)) result }
 {
-    boundary::whole::lot_node_count(
+    let store = lent(
         counts, nodes, lows, highs, live_nodes, live_edges, outgoing, incoming,
-    )
+    );
+    Answer::from(view::whole::node_count(&store))
 }
 
 #[unsafe(no_mangle)]
@@ -104,9 +112,10 @@ pub extern "C" fn lot_edge_count(
         (at_entry counts nodes.now lows.now highs.now live_nodes.now live_edges.now outgoing.now incoming.now)
         (λ w. edge_count (lists w)) result }
 {
-    boundary::whole::lot_edge_count(
+    let store = lent(
         counts, nodes, lows, highs, live_nodes, live_edges, outgoing, incoming,
-    )
+    );
+    Answer::from(view::whole::edge_count(&store))
 }
 
 #[unsafe(no_mangle)]
@@ -124,9 +133,10 @@ pub extern "C" fn lot_is_empty(
         (at_entry counts nodes.now lows.now highs.now live_nodes.now live_edges.now outgoing.now incoming.now)
         (λ w. is_empty (lists w)) result }
 {
-    boundary::whole::lot_is_empty(
+    let store = lent(
         counts, nodes, lows, highs, live_nodes, live_edges, outgoing, incoming,
-    )
+    );
+    Answer::from(view::whole::is_empty(&store))
 }
 
 #[unsafe(no_mangle)]
@@ -144,9 +154,10 @@ pub extern "C" fn lot_is_compact(
         (at_entry counts nodes.now lows.now highs.now live_nodes.now live_edges.now outgoing.now incoming.now)
         (λ w. is_compact (state_of (shape_of w))) result }
 {
-    boundary::whole::lot_is_compact(
+    let store = lent(
         counts, nodes, lows, highs, live_nodes, live_edges, outgoing, incoming,
-    )
+    );
+    Answer::from(view::compactness::is_compact(&store))
 }
 
 #[unsafe(no_mangle)]
@@ -165,9 +176,10 @@ pub extern "C" fn lot_node_ids(
         (at_entry counts nodes.now lows.now highs.now live_nodes.now live_edges.now outgoing.now incoming.now)
         (λ w room. node_slots (lists w) room) slots.old result slots.new }
 {
-    boundary::whole::lot_node_ids(
-        counts, nodes, lows, highs, live_nodes, live_edges, outgoing, incoming, slots,
-    )
+    let store = lent(
+        counts, nodes, lows, highs, live_nodes, live_edges, outgoing, incoming,
+    );
+    Answer::from(view::ids::node_ids(&store, slots))
 }
 
 #[unsafe(no_mangle)]
@@ -186,7 +198,8 @@ pub extern "C" fn lot_edge_ids(
         (at_entry counts nodes.now lows.now highs.now live_nodes.now live_edges.now outgoing.now incoming.now)
         (λ w room. edge_slots (lists w) room) slots.old result slots.new }
 {
-    boundary::whole::lot_edge_ids(
-        counts, nodes, lows, highs, live_nodes, live_edges, outgoing, incoming, slots,
-    )
+    let store = lent(
+        counts, nodes, lows, highs, live_nodes, live_edges, outgoing, incoming,
+    );
+    Answer::from(view::ids::edge_ids(&store, slots))
 }

@@ -1,193 +1,88 @@
-// Recorded calls that change the store, for the program replay_main: a strip, a compaction, an image read. Each prints what was answered and written.
+// Recorded calls that change the store, for the program replay_main: a fresh one, a strip, a compaction, an image read. Each prints what was answered and written.
 
 #![tactic(auto)]
 
-use plain::{Changed, Counts};
-use replay::{Book, Call, input, print};
+use memory::Device;
+use plain::Answer;
+use replay::book::Book;
+use replay::input;
+use replay::print::{print_written, within};
 use std::io;
 
+// A fresh store of other capacities in the same memory.
+pub fn fresh(
+    rt: &impl Print,
+    book: &mut Book,
+    device: Device,
+    nodes: u32,
+    edges: u32,
+) -> io::Result<()> {
+    book.node_capacity = nodes;
+    book.edge_capacity = edges;
+    let made = strip::fresh(device, book.store().lengths());
+    book.counts = made.unwrap_or_default();
+    rt.println(Answer::from(made.map(|_| ())))
+}
+
 // A strip, whole.
-pub fn strip_of(rt: &(impl Input + Print), book: Book, call: Call) -> io::Result<Book> {
-    let node_capacity = book.node_capacity;
-    let edge_capacity = book.edge_capacity;
-    let mut nodes = book.nodes;
-    let mut lows = book.lows;
-    let mut highs = book.highs;
-    let mut live_nodes = book.live_nodes;
-    let mut live_edges = book.live_edges;
-    let mut outgoing = book.outgoing;
-    let mut incoming = book.incoming;
-    let mut words: [u32; 4096] = [0; 4096];
-    let mut answers: [u32; 2048] = [0; 2048];
-    input::read_operations(rt, &mut words, call.third)?;
-    let n = print::within(node_capacity, &nodes);
-    let e = print::within(edge_capacity, &lows);
-    let length = print::within(call.first, &words);
-    let room = print::within(call.second, &answers);
-    let changed = strip::strip(
-        book.counts,
-        &mut nodes[..n],
-        &mut lows[..e],
-        &mut highs,
-        &mut live_nodes,
-        &mut live_edges,
-        &mut outgoing,
-        &mut incoming,
-        &words[..length],
-        &mut answers[..room],
-    );
-    print::print_written(
-        rt,
-        changed.number,
-        changed.value,
-        &answers,
-        print::wide(call.second),
-    )?;
-    let counts = changed.counts;
-    Ok(Book {
-        counts,
-        node_capacity,
-        edge_capacity,
-        nodes,
-        lows,
-        highs,
-        live_nodes,
-        live_edges,
-        outgoing,
-        incoming,
-    })
+pub fn run_strip(
+    rt: &(impl Input + Print),
+    book: &mut Book,
+    words: u32,
+    answers: u32,
+    lines: u32,
+) -> io::Result<()> {
+    let mut lent_words: [u32; 4096] = [0; 4096];
+    let mut lent_answers: [u32; 2048] = [0; 2048];
+    input::read_operations(rt, &mut lent_words, lines)?;
+    let length = within(words, &lent_words);
+    let room = within(answers, &lent_answers);
+    let mut store = book.store_mut();
+    let done = strip::strip(&mut store, &lent_words[..length], &mut lent_answers[..room]);
+    book.counts = store.counts;
+    print_written(rt, done, &lent_answers, u64::from(answers))
 }
 
 // A compaction with slices of the recorded lengths; where it is done, maps and work.
-pub fn compact(rt: &impl Print, book: Book, call: Call) -> io::Result<Book> {
-    let node_capacity = book.node_capacity;
-    let edge_capacity = book.edge_capacity;
-    let mut nodes = book.nodes;
-    let mut lows = book.lows;
-    let mut highs = book.highs;
-    let mut live_nodes = book.live_nodes;
-    let mut live_edges = book.live_edges;
-    let mut outgoing = book.outgoing;
-    let mut incoming = book.incoming;
-    let mut node_map: [u32; 2048] = [0; 2048];
-    let mut edge_map: [u32; 2048] = [0; 2048];
-    let mut work: [u32; 2048] = [0; 2048];
-    let n = print::within(node_capacity, &nodes);
-    let e = print::within(edge_capacity, &lows);
-    let first = print::within(call.first, &node_map);
-    let second = print::within(call.second, &edge_map);
-    let third = print::within(call.third, &work);
-    let changed = compact::compact(
-        book.counts,
-        &mut nodes[..n],
-        &mut lows[..e],
-        &mut highs,
-        &mut live_nodes,
-        &mut live_edges,
-        &mut outgoing,
-        &mut incoming,
-        &mut node_map[..first],
-        &mut edge_map[..second],
-        &mut work[..third],
+pub fn compact(
+    rt: &impl Print,
+    book: &mut Book,
+    node_map: u32,
+    edge_map: u32,
+    work: u32,
+) -> io::Result<()> {
+    let mut lent_node_map: [u32; 2048] = [0; 2048];
+    let mut lent_edge_map: [u32; 2048] = [0; 2048];
+    let mut lent_work: [u32; 2048] = [0; 2048];
+    let nodes = within(node_map, &lent_node_map);
+    let edges = within(edge_map, &lent_edge_map);
+    let words = within(work, &lent_work);
+    let mut store = book.store_mut();
+    let done = compact::compact(
+        &mut store,
+        &mut lent_node_map[..nodes],
+        &mut lent_edge_map[..edges],
+        &mut lent_work[..words],
     );
-    print::print_written(
-        rt,
-        changed.number,
-        changed.value,
-        &node_map,
-        print::wide(call.first),
-    )?;
-    print::print_written(
-        rt,
-        changed.number,
-        changed.value,
-        &edge_map,
-        print::wide(call.second),
-    )?;
-    print::print_written(
-        rt,
-        changed.number,
-        changed.value,
-        &work,
-        print::wide(call.third),
-    )?;
-    let counts = changed.counts;
-    Ok(Book {
-        counts,
-        node_capacity,
-        edge_capacity,
-        nodes,
-        lows,
-        highs,
-        live_nodes,
-        live_edges,
-        outgoing,
-        incoming,
-    })
+    book.counts = store.counts;
+    print_written(rt, done, &lent_node_map, u64::from(node_map))?;
+    print_written(rt, done, &lent_edge_map, u64::from(edge_map))?;
+    print_written(rt, done, &lent_work, u64::from(work))
 }
 
-// An image read on a box or on the skid, by the kind of call.
-fn read_on(
-    kind: u32,
-    counts: Counts,
-    nodes: &mut [u32],
-    lows: &mut [u32],
-    highs: &mut [u32],
-    live_nodes: &mut [u64],
-    live_edges: &mut [u64],
-    outgoing: &mut [u32],
-    incoming: &mut [u32],
-    bytes: &[u8],
-) -> Changed {
-    if kind == 19 {
-        return image_read::skid_read_image(
-            counts, nodes, lows, highs, live_nodes, live_edges, outgoing, incoming, bytes,
-        );
-    }
-    image_read::read_image(
-        counts, nodes, lows, highs, live_nodes, live_edges, outgoing, incoming, bytes,
-    )
-}
-
-// An image read in place of all.
-pub fn read_image(rt: &(impl Input + Print), book: Book, call: Call) -> io::Result<Book> {
-    let node_capacity = book.node_capacity;
-    let edge_capacity = book.edge_capacity;
-    let mut nodes = book.nodes;
-    let mut lows = book.lows;
-    let mut highs = book.highs;
-    let mut live_nodes = book.live_nodes;
-    let mut live_edges = book.live_edges;
-    let mut outgoing = book.outgoing;
-    let mut incoming = book.incoming;
-    let mut bytes: [u8; 4096] = [0; 4096];
-    input::read_bytes(rt, &mut bytes, call.second)?;
-    let n = print::within(node_capacity, &nodes);
-    let e = print::within(edge_capacity, &lows);
-    let length = print::within_bytes(call.first, &bytes);
-    let changed = read_on(
-        call.kind,
-        book.counts,
-        &mut nodes[..n],
-        &mut lows[..e],
-        &mut highs,
-        &mut live_nodes,
-        &mut live_edges,
-        &mut outgoing,
-        &mut incoming,
-        &bytes[..length],
-    );
-    let counts = print::print_changed(rt, changed)?;
-    Ok(Book {
-        counts,
-        node_capacity,
-        edge_capacity,
-        nodes,
-        lows,
-        highs,
-        live_nodes,
-        live_edges,
-        outgoing,
-        incoming,
-    })
+// An image read in place of all, on a box or on the skid.
+pub fn read_image(
+    rt: &(impl Input + Print),
+    book: &mut Book,
+    device: Device,
+    bytes: u32,
+    lines: u32,
+) -> io::Result<()> {
+    let mut lent_bytes: [u8; 4096] = [0; 4096];
+    input::read_bytes(rt, &mut lent_bytes, lines)?;
+    let length = within(bytes, &lent_bytes);
+    let mut store = book.store_mut();
+    let read = image_read::read_image(device, &mut store, &lent_bytes[..length]);
+    book.counts = store.counts;
+    rt.println(Answer::from(read))
 }

@@ -2,43 +2,21 @@
 
 #![tactic(auto)]
 
+use join::MapsMut;
 use plain::Counts;
-use replay::{Call, print};
+use replay::print::{print_written, within};
+use shape::{Store, StoreMut};
 use std::io;
 
-// The image of what is in the joined memory. Its arrays are lent as arrays: that they are as long as they were is then known by their types.
-fn print_joined(
-    rt: &impl Print,
-    counts: Counts,
-    nodes: &[u32; 1024],
-    lows: &[u32; 2048],
-    highs: &[u32; 2048],
-    live_nodes: &[u64; 16],
-    live_edges: &[u64; 32],
-    outgoing: &[u32; 14337],
-    incoming: &[u32; 14337],
-) -> io::Result<()> {
+// The image of what is in the joined memory.
+fn print_joined(rt: &impl Print, memory: &StoreMut) -> io::Result<()> {
     let mut work: [u32; 4096] = [0; 4096];
     let mut bytes: [u8; 32768] = [0; 32768];
-    replay_reads::print_image(
-        rt, counts, nodes, lows, highs, live_nodes, live_edges, outgoing, incoming, &mut work,
-        &mut bytes,
-    )
+    replay_reads::print_image(rt, &memory.as_store(), &mut work, &mut bytes)
 }
 
 // The store joined with itself in a memory with room for any two that are recorded; where it is done, the four maps and the image of what is there.
-pub fn join_with_itself(
-    rt: &impl Print,
-    counts: Counts,
-    nodes: &[u32],
-    lows: &[u32],
-    highs: &[u32],
-    live_nodes: &[u64],
-    live_edges: &[u64],
-    outgoing: &[u32],
-    incoming: &[u32],
-    call: Call,
-) -> io::Result<()> {
+pub fn join_with_itself(rt: &impl Print, store: &Store, maps: u32) -> io::Result<()> {
     let mut all_nodes: [u32; 1024] = [7; 1024];
     let mut all_lows: [u32; 2048] = [7; 2048];
     let mut all_highs: [u32; 2048] = [7; 2048];
@@ -50,53 +28,40 @@ pub fn join_with_itself(
     let mut first_edge_map: [u32; 2048] = [0; 2048];
     let mut second_node_map: [u32; 2048] = [0; 2048];
     let mut second_edge_map: [u32; 2048] = [0; 2048];
-    let room = print::within(call.first, &first_node_map);
-    let changed = join::join(
-        counts,
-        nodes,
-        lows,
-        highs,
-        live_nodes,
-        live_edges,
-        outgoing,
-        incoming,
-        counts,
-        nodes,
-        lows,
-        highs,
-        live_nodes,
-        live_edges,
-        outgoing,
-        incoming,
-        &mut all_nodes,
-        &mut all_lows,
-        &mut all_highs,
-        &mut all_live_nodes,
-        &mut all_live_edges,
-        &mut all_outgoing,
-        &mut all_incoming,
-        &mut first_node_map[..room],
-        &mut first_edge_map[..room],
-        &mut second_node_map[..room],
-        &mut second_edge_map[..room],
+    let room = within(maps, &first_node_map);
+    let mut memory = StoreMut {
+        counts: Counts::default(),
+        nodes: &mut all_nodes,
+        lows: &mut all_lows,
+        highs: &mut all_highs,
+        live_nodes: &mut all_live_nodes,
+        live_edges: &mut all_live_edges,
+        outgoing: &mut all_outgoing,
+        incoming: &mut all_incoming,
+    };
+    let mut first_maps = MapsMut {
+        nodes: &mut first_node_map[..room],
+        edges: &mut first_edge_map[..room],
+    };
+    let mut second_maps = MapsMut {
+        nodes: &mut second_node_map[..room],
+        edges: &mut second_edge_map[..room],
+    };
+    let second = *store;
+    let joined = join::join(
+        store,
+        &second,
+        &mut memory,
+        &mut first_maps,
+        &mut second_maps,
     );
-    let lent = print::wide(call.first);
-    print::print_written(rt, changed.number, changed.value, &first_node_map, lent)?;
-    print::print_written(rt, changed.number, changed.value, &first_edge_map, lent)?;
-    print::print_written(rt, changed.number, changed.value, &second_node_map, lent)?;
-    print::print_written(rt, changed.number, changed.value, &second_edge_map, lent)?;
-    if changed.number == 0 {
-        print_joined(
-            rt,
-            changed.counts,
-            &all_nodes,
-            &all_lows,
-            &all_highs,
-            &all_live_nodes,
-            &all_live_edges,
-            &all_outgoing,
-            &all_incoming,
-        )?;
+    let count = u64::from(maps);
+    print_written(rt, joined, &first_node_map, count)?;
+    print_written(rt, joined, &first_edge_map, count)?;
+    print_written(rt, joined, &second_node_map, count)?;
+    print_written(rt, joined, &second_edge_map, count)?;
+    if joined.is_ok() {
+        print_joined(rt, &memory)?;
     }
     Ok(())
 }

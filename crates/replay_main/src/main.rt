@@ -10,170 +10,51 @@
 
 #![tactic(auto)]
 
-use plain::{Changed, Counts, Slots};
-use replay::{Book, Call, input, print};
+use replay::book::Book;
+use replay::call::Call;
+use replay::input;
 use std::io;
 
-// A fresh store, on a box or on the skid.
-fn made(
-    kind: u32,
-    nodes: &[u32],
-    lows: &[u32],
-    highs: &[u32],
-    live_nodes: &[u64],
-    live_edges: &[u64],
-    outgoing: &[u32],
-    incoming: &[u32],
-) -> Changed {
-    if kind == 18 {
-        return strip::skid_fresh(
-            nodes, lows, highs, live_nodes, live_edges, outgoing, incoming,
-        );
+// One call on the store.
+fn step(rt: &(impl Input + Print), book: &mut Book, call: Call) -> io::Result<()> {
+    match call {
+        Call::Fresh {
+            device,
+            nodes,
+            edges,
+        } => replay_changes::fresh(rt, book, device, nodes, edges),
+        Call::Strip {
+            words,
+            answers,
+            lines,
+        } => replay_changes::run_strip(rt, book, words, answers, lines),
+        Call::Compact {
+            node_map,
+            edge_map,
+            work,
+        } => replay_changes::compact(rt, book, node_map, edge_map, work),
+        Call::ReadImage {
+            device,
+            bytes,
+            lines,
+        } => replay_changes::read_image(rt, book, device, bytes, lines),
+        Call::JoinWithItself { maps } => replay_joins::join_with_itself(rt, &book.store(), maps),
+        Call::Read(read) => replay_reads::read(rt, &book.store(), read),
     }
-    strip::fresh(
-        nodes, lows, highs, live_nodes, live_edges, outgoing, incoming,
-    )
 }
 
-// A fresh store of other capacities in the same memory.
-fn fresh(rt: &impl Print, book: Book, call: Call) -> io::Result<Book> {
-    let nodes = book.nodes;
-    let lows = book.lows;
-    let highs = book.highs;
-    let live_nodes = book.live_nodes;
-    let live_edges = book.live_edges;
-    let outgoing = book.outgoing;
-    let incoming = book.incoming;
-    let n = print::within(call.first, &nodes);
-    let e = print::within(call.second, &lows);
-    let changed = made(
-        call.kind,
-        &nodes[..n],
-        &lows[..e],
-        &highs,
-        &live_nodes,
-        &live_edges,
-        &outgoing,
-        &incoming,
-    );
-    let counts = print::print_changed(rt, changed)?;
-    Ok(Book {
-        counts,
-        node_capacity: call.first,
-        edge_capacity: call.second,
-        nodes,
-        lows,
-        highs,
-        live_nodes,
-        live_edges,
-        outgoing,
-        incoming,
-    })
-}
-
-// One call that leaves the store as it is, on slices of its capacities.
-fn read(rt: &impl Print, book: Book, call: Call) -> io::Result<()> {
-    let nodes = book.nodes;
-    let lows = book.lows;
-    let highs = book.highs;
-    let live_nodes = book.live_nodes;
-    let live_edges = book.live_edges;
-    let outgoing = book.outgoing;
-    let incoming = book.incoming;
-    let n = print::within(book.node_capacity, &nodes);
-    let e = print::within(book.edge_capacity, &lows);
-    if call.kind == 22 {
-        return replay_joins::join_with_itself(
-            rt,
-            book.counts,
-            &nodes[..n],
-            &lows[..e],
-            &highs,
-            &live_nodes,
-            &live_edges,
-            &outgoing,
-            &incoming,
-            call,
-        );
-    }
-    replay_reads::read(
-        rt,
-        book.counts,
-        &nodes[..n],
-        &lows[..e],
-        &highs,
-        &live_nodes,
-        &live_edges,
-        &outgoing,
-        &incoming,
-        call,
-    )
-}
-
-// One call on the store; the store afterwards.
-fn step(rt: &(impl Input + Print), book: Book, call: Call) -> io::Result<Book> {
-    let kind = call.kind;
-    if kind == 0 || kind == 18 {
-        return fresh(rt, book, call);
-    }
-    if kind == 1 {
-        return replay_changes::strip_of(rt, book, call);
-    }
-    if kind == 12 {
-        return replay_changes::compact(rt, book, call);
-    }
-    if kind == 15 || kind == 19 {
-        return replay_changes::read_image(rt, book, call);
-    }
-    read(rt, book, call)?;
-    Ok(book)
-}
-
-// The calls of the input in turn. A proved loop has to end, and nothing says that the input does: it counts from a number that no input uses up.
-fn run(rt: &(impl Input + Print), book: Book) -> io::Result<()> {
-    let mut book = book;
-    let mut calls: u64 = 18446744073709551615;
-    while calls > 0 {
-        let call = input::next(rt)?;
-        if call.kind == input::END {
+// The calls of the input in turn. A proved loop has to end, and nothing says that the input does: it counts to a number that no input uses up.
+fn run(rt: &(impl Input + Print), book: &mut Book) -> io::Result<()> {
+    for _ in 0..u64::MAX {
+        let Some(line) = input::next(rt)? else {
             return Ok(());
-        }
-        book = step(rt, book, call)?;
-        calls -= 1;
+        };
+        step(rt, book, Call::from(line))?;
     }
     Ok(())
 }
 
 fn main(rt: HostRuntime) -> io::Result<()> {
-    let none = Slots {
-        bound: 0,
-        base: 0,
-        live: 0,
-    };
-    let counts = Counts {
-        nodes: none,
-        edges: none,
-    };
-    let nodes: [u32; 512] = [0; 512];
-    let lows: [u32; 1024] = [0; 1024];
-    let highs: [u32; 1024] = [0; 1024];
-    let live_nodes: [u64; 8] = [0; 8];
-    let live_edges: [u64; 16] = [0; 16];
-    let outgoing: [u32; 7169] = [0; 7169];
-    let incoming: [u32; 7169] = [0; 7169];
-    run(
-        &rt,
-        Book {
-            counts,
-            node_capacity: 0,
-            edge_capacity: 0,
-            nodes,
-            lows,
-            highs,
-            live_nodes,
-            live_edges,
-            outgoing,
-            incoming,
-        },
-    )
+    let mut book = Book::new();
+    run(&rt, &mut book)
 }

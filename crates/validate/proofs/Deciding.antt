@@ -1,14 +1,9 @@
 -- What rule 1 establishes, the first broken rule in parts, what each rule takes from the rules before it, and rule 7 by the words of each direction.
-use Rattle.std.specs.Prelude.{ℕ, zero, suc, ◌*◌, ◌^◌, ◌≤◌, ◌<◌, ◌≡◌, refl, Bool, true, false, ◌&&◌, ◌||◌, not, List, length, get_or, eqb, ltb}
+use Rattle.std.specs.Prelude.{ℕ, ◌*◌, ◌^◌, ◌≤◌, ◌<◌, ◌≡◌, Bool, true, false, ◌&&◌, ◌||◌, not, List, length, get_or, eqb, ltb}
 use Rattle.plain.specs.Library.{sym, ap, ap₂, ◌∙◌, arith, ltb-true}
-use Rattle.plain.specs.declared.Answer.{Answer}
 use Rattle.plain.specs.declared.Slots.{Slots}
 use Rattle.plain.specs.declared.TraversalDirection.{TraversalDirection}
 use Rattle.plain.specs.declared.TraversalDirection.TheVariants.{Outgoing, Incoming}
-use Rattle.plain.specs.Calls.{check}
-use Rattle.plain.specs.Refusals.{rule_number}
-use Rattle.plain.specs.declared.refusals.Rule.{Rule}
-use Rattle.plain.specs.declared.refusals.Rule.TheVariants.{Sizes, Live, Ends, Index, Rings, Runs, Walks}
 use Rattle.plain.specs.Lists.{member, distinct, all, from}
 use Rattle.plain.specs.Plain.{Plain, node_bound, edge_bound, node_flags, edge_flags, list_of, end_of}
 use Rattle.shape.specs.Columns.{end_at}
@@ -160,26 +155,3 @@ module _ (w : Words) (d : TraversalDirection) where
         sym (walks_read (plain_of (shape_of w)) d (node_walk ws ce cn w.counts w.live_nodes w.live_edges) (end_at ws) (node_live w) (edge_live w)
         w.counts.nodes.bound w.counts.edges.bound (plain_node_bound w) (plain_edge_bound w) (plain_node_flags w) (plain_edge_flags w) (list_is_walk w d) (plain_end w d)
         (λ x e l m. walk_below (walkable x l) (get_or (node_live w) x false) e m) (axis_sound w t d).ends_below)
-
--- ---- the answer
-
--- no rule is broken
-pub answer_done : (rule : ℕ) → rule ≡ 0 → ◌≡◌ {A = Answer} (record { number = 0; value = 0 }) (check rule)
-unfolding check
-answer_done rule q = rw q
-
--- one is
-pub answer_broken : (rule : ℕ) → (rule ≡ 0 → ⊥) → ◌≡◌ {A = Answer} (record { number = 1; value = rule }) (check rule)
-unfolding check
-answer_broken zero n = absurd (n refl)
-answer_broken (suc rule) n = refl
-
--- a rule has a number
-pub numbered : (rule : Rule) → rule_number rule ≡ 0 → ⊥
-numbered Sizes q = absurd (omega arith)
-numbered Live q = absurd (omega arith)
-numbered Ends q = absurd (omega arith)
-numbered Index q = absurd (omega arith)
-numbered Rings q = absurd (omega arith)
-numbered Runs q = absurd (omega arith)
-numbered Walks q = absurd (omega arith)
