@@ -1,5 +1,6 @@
 mod Directions
 mod Counting
+mod Parts
 mod Reading
 mod Answering
 mod ReadCases

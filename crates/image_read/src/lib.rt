@@ -5,7 +5,7 @@
 
 mod whole;
 
-ghost use Rattle.std.specs.Prelude.{◌≡◌};
+ghost use Rattle.std.specs.Prelude.{◌≡◌, length};
 ghost use Rattle.plain.specs.Answers.{done_of};
 ghost use Rattle.plain.specs.Bits.{fields_at};
 ghost use Rattle.plain.specs.Calls.{read_image};
@@ -30,22 +30,14 @@ use plain::refusals::Refusal;
 use plain::{Counts, NONE, Slots};
 use shape::StoreMut;
 
-// Reads `count` fields of `width` bits, the first at bit `position` and each `stride` bits further, into words from `at` on.
-fn read_fields(
-    bytes: &[u8],
-    position: usize,
-    stride: usize,
-    width: u32,
-    words: &mut [u32],
-    at: usize,
-    count: usize,
-)
-    requires { SpreadFits bytes.now position stride width words.old at count }
-    ensures { Rewritten words.old words.new at count (spread bytes.now position stride width) }
+// Reads fields of `width` bits into words, the first at bit `position` and each `stride` bits further.
+fn read_fields(bytes: &[u8], position: usize, stride: usize, width: u32, words: &mut [u32])
+    requires { SpreadFits bytes.now position stride width words.old 0 (length words.old) }
+    ensures { Rewritten words.old words.new 0 (length words.old) (spread bytes.now position stride width) }
 {
     let mut from = position;
-    for i in 0..count {
-        words[at + i] = read_field(bytes, from, width);
+    for word in words.iter_mut() {
+        *word = read_field(bytes, from, width);
         from += stride;
     }
 }
@@ -65,15 +57,8 @@ fn read_base(
     ensures { Rebuilt axis.old edge_capacity node_capacity count_nodes count_edges (fields_at bytes.now position width count_edges) axis.new }
 {
     index::count_offsets(axis, edge_capacity, node_capacity, count_nodes, count_edges);
-    read_fields(
-        bytes,
-        position,
-        width as usize,
-        width,
-        axis,
-        edge_capacity,
-        count_edges,
-    );
+    let lists = &mut axis[edge_capacity..edge_capacity + count_edges];
+    read_fields(bytes, position, width as usize, width, lists);
     index::fill_words(axis, 4 * edge_capacity, count_nodes, NONE);
     index::fill_words(axis, 4 * edge_capacity + 4 * node_capacity, count_nodes, 0);
 }
@@ -95,7 +80,7 @@ fn read_axis(
     let node_width = least_width(image.nodes);
     let edge_width = least_width(image.edges);
     let stride = places::record_width(image.nodes);
-    read_fields(image.bytes, ends, stride, node_width, axis, 0, m);
+    read_fields(image.bytes, ends, stride, node_width, &mut axis[..m]);
     read_base(
         axis,
         edge_capacity,
@@ -119,8 +104,8 @@ fn read_weights(lows: &mut [u32], highs: &mut [u32], image: &Image)
     let stride = places::record_width(image.nodes);
     let first = places::edges_start(image.nodes) + (end + end);
     let second = first + width as usize;
-    read_fields(image.bytes, first, stride, width, lows, 0, m);
-    read_fields(image.bytes, second, stride, width, highs, 0, m);
+    read_fields(image.bytes, first, stride, width, &mut lows[..m]);
+    read_fields(image.bytes, second, stride, width, &mut highs[..m]);
 }
 
 // Reads the payloads of nodes and edges.
@@ -131,7 +116,7 @@ fn read_payloads(nodes: &mut [u32], lows: &mut [u32], highs: &mut [u32], image: 
     let n = image.nodes as usize;
     let width = places::NODE_PAYLOAD_WIDTH;
     let first = places::NODES_START;
-    read_fields(image.bytes, first, width as usize, width, nodes, 0, n);
+    read_fields(image.bytes, first, width as usize, width, &mut nodes[..n]);
     read_weights(lows, highs, image);
 }
 

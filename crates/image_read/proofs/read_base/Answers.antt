@@ -1,7 +1,16 @@
 -- `image_read::read_base` meets its contract: call by call.
+use Rattle.std.specs.Prelude.{◌+◌, ◌-◌, ◌≤◌, ◌≡◌, length}
+use Rattle.plain.specs.Library.{arith}
 use Rattle.image_read.proofs.Directions.{base_read}
+use Rattle.image_read.proofs.Parts.{part_rewritten_as}
 use Rattle.image_read.proofs.read_base.Goals as goal
 
 pub returns : goal.returns
 returns c =
-    base_read c.requires c.count_offsets.ensures c.read_fields.ensures c.fill_words.ensures c.fill_words-2.ensures
+    let a = c.args in
+    let all = a.edge_capacity + a.count_edges in
+    let many : all - a.edge_capacity ≡ a.count_edges = omega arith in
+    let room : a.edge_capacity + (all - a.edge_capacity) ≤ length c.count_offsets.new.axis = omega (arith, c.count_offsets.ensures.long, c.requires.entries.room) in
+    base_read c.requires c.count_offsets.ensures
+    (part_rewritten_as c.count_offsets.new.axis a.edge_capacity (all - a.edge_capacity) room c.read_fields.ensures many)
+    c.fill_words.ensures c.fill_words-2.ensures
