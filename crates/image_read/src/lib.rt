@@ -93,7 +93,7 @@ fn read_axis(
     );
 }
 
-// Reads the weights of the edges out of their records: the lows, and the highs, each behind its low.
+// Reads the weights of the edges out of their records: the lows, and the highs, each behind its low. Two slices, and so two calls.
 fn read_weights(lows: &mut [u32], highs: &mut [u32], image: &Image)
     requires { WeightsReadable lows.old highs.old image.now.bytes.now image.now.nodes image.now.edges }
     ensures { WeightsRead lows.old highs.old image.now.bytes.now image.now.nodes image.now.edges lows.new highs.new }

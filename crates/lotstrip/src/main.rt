@@ -18,6 +18,7 @@ fn read_input(reader: &mut impl Read, bytes: &mut [u8]) -> io::Result<usize>
     ensures { IfOk result (λ count. count ≤ length bytes.new) }
 {
     let mut done: usize = 0;
+    // Moves on by what each read gave, so that it is no counted index.
     while done < bytes.len() {
         let more = reader.read(&mut bytes[done..])?;
         if more == 0 {
@@ -29,7 +30,7 @@ fn read_input(reader: &mut impl Read, bytes: &mut [u8]) -> io::Result<usize>
 }
 
 fn main(rt: HostRuntime) -> ExitCode {
-    // one byte more than a strip may have, so that more is told from as many
+    // No heap: fixed arrays. One byte more than a strip may have, so that more is told from as many.
     let mut bytes: [u8; INPUT + 1] = [0; INPUT + 1];
     let mut text: [u8; TEXT] = [0; TEXT];
     let Ok(length) = read_input(&mut rt.reader(), &mut bytes) else {

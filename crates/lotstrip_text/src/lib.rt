@@ -32,6 +32,7 @@ fn run(input: &[u8], out: &mut Text)
     requires { Runnable input.now out.old }
     ensures { Appended out.old (lotstrip_run fresh_state (words_of input.now)) out.new }
 {
+    // No heap: fixed arrays.
     let mut words: [u32; WORDS] = [0; WORDS];
     let mut answers: [u32; ANSWERS] = [0; ANSWERS];
     let mut bytes: [u8; IMAGE] = [0; IMAGE];

@@ -8,7 +8,7 @@ use crate::print::within;
 use plain::Counts;
 use shape::{Store, StoreMut};
 
-// A store, its recorded capacities, and memory for every store that is recorded: what a call is lent is cut at the capacities.
+// A store, its recorded capacities, and memory for every store that is recorded, in fixed arrays, as there is no heap: what a call is lent is cut at the capacities.
 #[derive(Drop)]
 pub struct Book {
     pub counts: Counts,

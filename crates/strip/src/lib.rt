@@ -43,7 +43,7 @@ fn operation_at(words: &[u32], i: usize) -> Operation
     ])
 }
 
-// Writes the two words of answer i.
+// Writes the two words of answer i: the words that a caller in C reads.
 fn write_answer(answers: &mut [u32], i: usize, came: Result<u32, Refusal>)
     requires room { 2 * i + 2 ≤ length answers.old }
     requires untold { IfErr came (λ refusal. value_of refusal ≡ none) }
