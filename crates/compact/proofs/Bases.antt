@@ -8,7 +8,7 @@ use Rattle.liveness.specs.Laws.Flags.{length_flags}
 use Rattle.liveness.specs.Flags.{live_flags}
 use Rattle.shape.specs.Columns.{end_at}
 use Rattle.shape.specs.Index.{Rewritten}
-use Rattle.compact.specs.Bases.{AxisCompacted, Compactable, Rebuildable, Rebuilt}
+use Rattle.compact.specs.Bases.{Compactable, Rebuildable}
 use Rattle.survivors.specs.Slots.{Translatable, kept_word, translated_word}
 
 module _ {ws : List ℕ} {ce cn : ℕ} {live : List ℕ} {bound : ℕ} {node_map : List ℕ} {n m : ℕ} {entries : List ℕ}
@@ -47,8 +47,3 @@ module _ {ws : List ℕ} {ce cn : ℕ} {live : List ℕ} {bound : ℕ} {node_map
       where
         new_end : {b : List ℕ} → Rewritten a b 0 m (translated_word a node_map) → (i : ℕ) → i < m → get_or b i 0 ≡ get_or node_map (end_at ws (get_or (live_slots flags) i 0)) 0
         new_end {b} t i h = ap (λ (z : ℕ). get_or b z 0) (sym (zero-add i)) ∙ t.within i h ∙ ap (λ (z : ℕ). get_or node_map z 0) (moved_end i h)
-
-    -- all of it
-    pub compacted : {b c : List ℕ} → Rewritten a b 0 m (translated_word a node_map) → Rebuilt b ce cn n m entries c
-        → AxisCompacted ws ce cn live bound node_map n m entries c
-    compacted {b} t s = record { moved = a; renumbered = b; moves = rw pre.counted r; renumbers = t; rebuilds = s }

@@ -3,6 +3,7 @@ use Rattle.std.specs.Prelude.{ℕ, ◌*◌, ◌≤◌, ◌≡◌, refl, Bool, Li
 use Rattle.plain.specs.Library.{Option, none, some, sym, ap, ◌∙◌, inl, append_assoc, length-map, length-append, length-drop, take_at, arith}
 use lib.Seq.{drop_at}
 use Rattle.plain.specs.declared.refusals.Refusal.{Refusal}
+use Rattle.plain.specs.declared.refusals.Rule.{Rule}
 use Rattle.plain.specs.declared.TraversalDirection.TheVariants.{Outgoing}
 use Rattle.plain.specs.Answers.{done_of}
 use Rattle.plain.specs.Calls.{Compacted, compacting, compaction, judged_compaction, short_answer}
@@ -10,7 +11,7 @@ use Rattle.plain.specs.Compaction.{Survivors, survivors, source_of, target_of, r
 use Rattle.plain.specs.Lists.{written, joined}
 use Rattle.plain.specs.Memory.{first_short}
 use Rattle.plain.specs.Reads.{live_edges, live_count}
-use Rattle.plain.specs.Refusals.{number_of, value_of}
+use Rattle.plain.specs.Refusals.{number_of, value_of, rule_number}
 use Rattle.plain.specs.WellFormed.{Sound}
 use Rattle.plain.specs.Laws.CallCases.{LongEnough, no_slice, slice_fits}
 use Rattle.plain.proofs.Laws.Compacting.{survivors_sound, length_surviving_edges}
@@ -27,6 +28,7 @@ use Rattle.compact.specs.Laws.Holding.{holding_shape, holding_state, holding_che
 use Rattle.compact.proofs.Again.{dropped_again}
 use Rattle.compact.proofs.Compacted.{dropped_holding, dropped_renewed}
 use Rattle.compact.proofs.Settling.{droppable}
+use Rattle.compact.proofs.Telling.{rule_is}
 
 module _ (w : Words) (node_map edge_map work : List ℕ) where
   -- refused: not a word changes
@@ -49,6 +51,14 @@ module _ (w : Words) (node_map edge_map work : List ℕ) where
     spared = nothing_spared w;
     leaves = λ p out. inl refl;
   }
+
+  -- "words are no store | 1 | rule 1 to 7 | everything"
+  pub compact_judged : (rule : Rule) → Judged w (rule_number rule) → CompactOf w node_map edge_map work 1 (rule_number rule) w node_map edge_map work
+  compact_judged rule j =
+      kept (record { number = 1; value = rule_number rule; node_map = []; edge_map = []; work = []; after = state_of (shape_of w) })
+      (ap (λ (n : ℕ). judged_compaction n (state_of (shape_of w)) (compaction (state_of (shape_of w)) (length node_map) (length edge_map) (length work))) (sym j.first)
+      ∙ rw (rule_is rule).1)
+      refl refl refl refl (λ q. omega arith)
 
   module _ {rule : ℕ} (j : Judged w rule) (sound : rule ≡ 0) where
     many_edges : live_edges (lists w) ≡ w.counts.edges.live

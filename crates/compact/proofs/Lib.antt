@@ -4,3 +4,4 @@ mod Settling
 mod Compacted
 mod Again
 mod Entry
+pub mod Telling

@@ -1,14 +1,12 @@
 -- Compacting a checked store, call by call: what each call asks holds, the maps once they are written.
 use Rattle.std.specs.Prelude.{ℕ, ◌≡◌, Bool, false, true, List, get_or, length}
 use Rattle.plain.specs.Library.{◌∙◌, ap, zero-add, arith}
-use Rattle.plain.specs.declared.TraversalDirection.TheVariants.{Outgoing}
 use Rattle.plain.specs.Compaction.{rank, renumbering}
 use Rattle.plain.specs.Lists.{written}
 use Rattle.liveness.specs.Laws.Flags.{length_flags}
 use Rattle.shape.specs.Shape.{Words, edge_live, node_live}
 use Rattle.compact.specs.Dropping.{Droppable}
 use Rattle.compact.specs.Settling.{Settleable}
-use Rattle.survivors.specs.Slots.{MapFits}
 use Rattle.survivors.specs.Working.{Workable}
 use Rattle.survivors.proofs.Laws.Slots.{mapped_long, written_from}
 
@@ -16,22 +14,6 @@ pub written_at : (flags : List Bool) (entry : List ℕ) (x : ℕ) → get_or fla
 written_at flags entry x live = written_from 0 flags entry x live ∙ zero-add (rank flags x)
 
 module _ {w : Words} {node_map edge_map work : List ℕ} (pre : Settleable w node_map edge_map work) where
-  pub nodes_map_fits : MapFits w.live_nodes w.counts.nodes.bound 0 node_map
-  nodes_map_fits =
-      let k = pre.checked in
-      let long = k.nodes.live_long in
-      let within = k.nodes.bounded.bound_within in
-      let few = (k.axis Outgoing).sized.nodes_within in
-      record { there = omega arith; few = omega arith; room = pre.nodes_room }
-
-  pub edges_map_fits : MapFits w.live_edges w.counts.edges.bound 0 edge_map
-  edges_map_fits =
-      let k = pre.checked in
-      let long = k.edges.live_long in
-      let within = k.edges.bounded.bound_within in
-      let few = (k.axis Outgoing).sized.edges_within in
-      record { there = omega arith; few = omega arith; room = pre.edges_room }
-
   pub workable : {edge-map' : List ℕ} → edge-map' ≡ written (renumbering (edge_live w)) edge_map → Workable w edge-map' work
   workable {edge-map'} is = record {
     listable = record { checked = pre.checked; room = pre.work_room };

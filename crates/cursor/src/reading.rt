@@ -5,7 +5,7 @@ ghost use Rattle.plain.specs.Numbers.{NONE as none};
 ghost use Rattle.plain.specs.Lists.{keep, written};
 ghost use Rattle.liveness.specs.Flags.{live_flags};
 ghost use Rattle.cursor.specs.Cursor.{word, listed, Within, ListWritten};
-ghost use Rattle.cursor.specs.Finding.{first_of, ends_at};
+ghost use Rattle.cursor.specs.Finding.{first_of, ends_at, Among};
 ghost use Rattle.cursor.specs.Summing.{sums_of, Summable};
 
 use crate::edges::AdjacentEdges;
@@ -84,7 +84,8 @@ impl<'a> Entries<'a> {
     ) -> Option<u32>
         requires within { Within ends.now self }
         requires live_long { slots ≤ 64 * length live.now }
-        ensures { unwrap_or result none ≡ first_of (ends_at ends.now end) (keep (listed tombstoned (live_flags live.now slots)) self.entry) }
+        ensures first { unwrap_or result none ≡ first_of (ends_at ends.now end) (keep (listed tombstoned (live_flags live.now slots)) self.entry) }
+        ensures among { Among result (keep (listed tombstoned (live_flags live.now slots)) self.entry) }
     {
         for edge in self {
             if ends[edge as usize] == end && is_listed(tombstoned, live, slots, edge) {

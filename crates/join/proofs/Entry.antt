@@ -4,7 +4,6 @@ use Rattle.plain.specs.Library.{sym, ap, ap₂, subst, ◌∙◌, inl, arith, eq
 use Rattle.plain.specs.declared.Answer.{Answer}
 use Rattle.plain.specs.declared.refusals.Refusal.{Refusal}
 use Rattle.plain.specs.declared.refusals.Rule.{Rule}
-use Rattle.plain.specs.declared.refusals.Rule.TheVariants.{Sizes as BrokenSizes, Live, Ends, Index, Rings, Runs, Walks}
 use Rattle.plain.specs.Answers.{done_of}
 use Rattle.plain.specs.Calls.{judged}
 use Rattle.plain.specs.Compaction.{survivors, renumbering_from}
@@ -21,6 +20,7 @@ use Rattle.shape.specs.Shape.{Words, lengths_of, shape_of, lists}
 use Rattle.shape.specs.Steps.{state_of}
 use Rattle.shape.proofs.Laws.Reading.{plain_node_bound, plain_edge_bound, plain_node_flags, plain_edge_flags}
 use Rattle.validate.specs.Judging.{Judged}
+use Rattle.compact.proofs.Telling.{rule_is}
 use Rattle.compact.specs.Laws.Holding.{Holding, holding_shape, holding_state, holding_checked, holding_canonical, canonical_leaves}
 use Rattle.join_columns.specs.Answers.{sizes_of}
 use Rattle.join.specs.Calls.{LentMaps, joining_of, JoinOf}
@@ -56,15 +56,9 @@ joined_holds : {v : Words} (p q : Plain) → Holding v (joined_survivors (surviv
 unfolding joined_plain
 joined_holds p q h = holding_state h
 
--- a rule has a number
-rule_some : (rule : Rule) (a : Answer) → record { number = 1; value = rule_number rule } ≡ judged (rule_number rule) a
-rule_some BrokenSizes a = refl
-rule_some Live a = refl
-rule_some Ends a = refl
-rule_some Index a = refl
-rule_some Rings a = refl
-rule_some Runs a = refl
-rule_some Walks a = refl
+-- what is told of a broken rule
+rule_told : (rule : Rule) (a : Answer) → record { number = 1; value = rule_number rule } ≡ judged (rule_number rule) a
+rule_told rule a = rw (rule_is rule).1
 
 module _ (first second w : Words) (maps : LentMaps) where
   -- by the counts, and by the lists
@@ -103,14 +97,14 @@ module _ (first second w : Words) (maps : LentMaps) where
   -- the first book is none
   pub first_broken : (rule : Rule) → Judged first (rule_number rule) → {v : Words} → v ≡ w → JoinOf first second w maps 1 (rule_number rule) v maps
   unfolding join
-  first_broken rule a = refuses (rule_some rule _ ∙ ap (λ (p : ℕ). judged p (judged (broken second) by_lists)) a.first) (λ q. omega arith)
+  first_broken rule a = refuses (rule_told rule _ ∙ ap (λ (p : ℕ). judged p (judged (broken second) by_lists)) a.first) (λ q. omega arith)
 
   module _ (a : Judged first 0) where
     -- the second is none
     pub second_broken : (rule : Rule) → Judged second (rule_number rule) → {v : Words} → v ≡ w → JoinOf first second w maps 1 (rule_number rule) v maps
     unfolding join
     second_broken rule b =
-        refuses (rule_some rule _ ∙ ap₂ {C = Answer} (λ (p q : ℕ). judged p (judged q by_lists)) a.first b.first) (λ q. omega arith)
+        refuses (rule_told rule _ ∙ ap₂ {C = Answer} (λ (p q : ℕ). judged p (judged q by_lists)) a.first b.first) (λ q. omega arith)
 
     module _ (b : Judged second 0) where
       -- of checked books the sizes are those of the lists

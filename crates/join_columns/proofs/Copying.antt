@@ -1,6 +1,6 @@
 -- Copying the words of live slots, one book's behind the other's, call by call.
 use Rattle.std.specs.Prelude.{ℕ, ◌≤◌, ◌≡◌, Bool, List, ◌++◌, map, drop, get_or, length}
-use Rattle.plain.specs.Library.{◌∙◌, ap, sym, map-map, length-map, arith}
+use Rattle.plain.specs.Library.{◌∙◌, ap, sym, map-map, length-map}
 use Rattle.plain.specs.declared.Slots.{Slots}
 use Rattle.plain.specs.Lists.{from, written}
 use Rattle.plain.specs.Reads.{live_count, live_slots}
@@ -10,8 +10,8 @@ use Rattle.liveness.specs.Flags.{live_flags}
 use Rattle.shape.specs.Index.{Rewritten}
 use Rattle.survivors.specs.Slots.{kept_word, live_words_of}
 use Rattle.survivors.proofs.Laws.Slots.{rewritten_list, length_live_words}
-use Rattle.join_columns.specs.Slots.{BothCopyable, Copyable}
-use Rattle.join_columns.specs.Laws.Written.{rest, room_behind, with_rest, written_behind}
+use Rattle.join_columns.specs.Slots.{BothCopyable}
+use Rattle.join_columns.specs.Laws.Written.{rest, with_rest, written_behind}
 
 -- words rewritten by those of the live slots
 pub copied_all : (words : List ℕ) (flags : List Bool) {entry exit : List ℕ} → live_count flags ≤ length entry
@@ -32,15 +32,9 @@ module _ {out : List ℕ} {first : Slots} {words live : List ℕ} {second : Slot
   abbrev two : List ℕ
   two = live_words_of words' (live_flags live' second.bound)
 
-  pub first_copyable : Copyable words live first.bound out
-  first_copyable = record { readable = pre.first_readable; fits = omega (arith, pre.counted, pre.room) }
-
   long : length one ≡ first.live
   long = length_live_words words (live_flags live first.bound) ∙ sym pre.counted
 
   module _ {a : List ℕ} (is : a ≡ written one out) where
-    pub second_copyable : Copyable words' live' second.bound (rest first.live a)
-    second_copyable = record { readable = pre.second_readable; fits = room_behind one out first.live long is (live_count (live_flags live' second.bound)) pre.room }
-
     pub both_copied : {part : List ℕ} → part ≡ written two (rest first.live a) → with_rest first.live a part ≡ written (one ++ two) out
     both_copied is-too = written_behind one out first.live long is two is-too

@@ -5,9 +5,13 @@ use Rattle.plain.specs.declared.refusals.Refusal.{Refusal}
 use Rattle.plain.specs.Answers.{done_of}
 use Rattle.plain.specs.Step.{Capacities}
 use Rattle.plain.specs.Memory.{Lengths}
+use Rattle.plain.specs.Numbers.{above_limit, above_skid}
 use Rattle.plain.specs.Devices.{Device, box, skid, Takes}
 use Rattle.plain.specs.Calls.{within}
 use Rattle.memory.specs.declared.Lengths.{Lengths as Measures}
+use Rattle.memory.specs.declared.Above.{Above}
+use Rattle.memory.specs.declared.Above.TheVariants.{Limit, Skid as OfSkid}
+use Rattle.memory.specs.declared.Limits.{Limits}
 use Rattle.memory.specs.declared.Device.{Device as Chosen}
 use Rattle.memory.specs.declared.Device.TheVariants.{Box, Skid}
 
@@ -27,6 +31,15 @@ lengths nodes lows highs live_nodes live_edges outgoing incoming = record {
 
 abbrev pub measured : Measures → Lengths
 measured l = lengths l.nodes l.lows l.highs l.live_nodes l.live_edges l.outgoing l.incoming
+
+-- the number that it refuses more with
+abbrev pub above_number : Above → ℕ
+above_number Limit = above_limit
+above_number OfSkid = above_skid
+
+-- the device of these limits
+abbrev pub limited : Limits → Device
+limited l = record { limits = caps l.nodes l.edges; number = above_number l.above }
 
 -- the device of the definitions
 abbrev pub device_of : Chosen → Device

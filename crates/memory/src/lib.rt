@@ -8,7 +8,7 @@ ghost use Rattle.plain.specs.Answers.{done_of};
 ghost use Rattle.plain.specs.Refusals.{number_of, value_of, image_rule_of};
 ghost use Rattle.plain.specs.Memory.{first_short, other_slices, live_words, axis_length};
 ghost use Rattle.plain.specs.Calls.{fresh, short_answer, reading};
-ghost use Rattle.memory.specs.Lengths.{caps, measured, device_of, Taken, Few, FewSlots};
+ghost use Rattle.memory.specs.Lengths.{caps, measured, above_number, device_of, limited, Taken, Few, FewSlots};
 
 use plain::LIMIT;
 use plain::refusals::{ImageRule, Refusal};
@@ -25,56 +25,78 @@ pub struct Lengths {
     pub incoming: usize,
 }
 
+// How a device refuses what is above its limits.
+#[derive(Clone, Copy, PartialEq, Eq, Debug)]
+pub enum Above {
+    // By AboveLimit, as a box does.
+    Limit,
+    // By AboveSkid, as the skid does.
+    Skid,
+}
+
+// The most nodes and edges that a device takes, and how it refuses more.
+#[derive(Clone, Copy, PartialEq, Eq, Debug)]
+pub struct Limits {
+    pub nodes: u32,
+    pub edges: u32,
+    pub above: Above,
+}
+
 // The devices that run the library.
 #[derive(Clone, Copy, PartialEq, Eq, Debug)]
 pub enum Device {
-    // A box: "capacity above 32,768 | 13".
+    // A box.
     Box,
-    // The skid: "64 lots and 128 transfers", "It refuses with 15".
+    // "The skid that washes tanks".
     Skid,
 }
 
 impl Device {
-    // The most nodes that it takes.
-    fn most_nodes(self) -> u32
-        ensures { result ≡ (device_of self).limits.nodes }
+    pub fn limits(self) -> Limits
+        ensures { limited result ≡ device_of self }
     {
         match self {
-            Device::Box => LIMIT,
-            Device::Skid => 64,
+            Device::Box => Limits::BOX,
+            Device::Skid => Limits::SKID,
         }
     }
+}
 
-    // The most edges that it takes.
-    fn most_edges(self) -> u32
-        ensures { result ≡ (device_of self).limits.edges }
-    {
-        match self {
-            Device::Box => LIMIT,
-            Device::Skid => 128,
-        }
-    }
+impl Limits {
+    // "capacity above 32,768 | 13"
+    pub const BOX: Limits = Limits {
+        nodes: LIMIT,
+        edges: LIMIT,
+        above: Above::Limit,
+    };
+
+    // "64 lots and 128 transfers", "It refuses with 15"
+    pub const SKID: Limits = Limits {
+        nodes: 64,
+        edges: 128,
+        above: Above::Skid,
+    };
 
     // How it refuses so many.
     fn refusal(self, asked: usize) -> Refusal
-        ensures number { number_of result ≡ (device_of self).number }
+        ensures number { number_of result ≡ above_number self.above }
         ensures value { value_of result ≡ asked }
     {
-        match self {
-            Device::Box => Refusal::AboveLimit(asked as u64),
-            Device::Skid => Refusal::AboveSkid(asked as u64),
+        match self.above {
+            Above::Limit => Refusal::AboveLimit(asked as u64),
+            Above::Skid => Refusal::AboveSkid(asked as u64),
         }
     }
 
-    // Refuses more nodes or edges than the device takes, nodes before edges, with the number asked for.
+    // Refuses more nodes or edges than these, nodes before edges, with the number asked for.
     #[tactic(auto, unfolding(plain::specs::Calls::within))]
     pub fn take(self, nodes: usize, edges: usize) -> Result<(), Refusal>
-        ensures { Taken (device_of self) (caps nodes edges) result }
+        ensures { Taken (limited self) (caps nodes edges) result }
     {
-        if (self.most_nodes() as usize) < nodes {
+        if (self.nodes as usize) < nodes {
             return Err(self.refusal(nodes));
         }
-        if (self.most_edges() as usize) < edges {
+        if (self.edges as usize) < edges {
             return Err(self.refusal(edges));
         }
         Ok(())
@@ -125,19 +147,19 @@ fn check_others(lengths: Lengths) -> Result<(), Refusal>
 // the image, a slice too short.
 #[tactic(auto, unfolding(plain::specs::Calls::reading, plain::specs::Calls::within, plain::specs::Memory::first_short))]
 pub fn check_reading(
-    device: Device,
+    limits: Limits,
     lengths: Lengths,
     rule: Result<(), ImageRule>,
     count_nodes: u32,
     count_edges: u32,
 ) -> Result<(), Refusal>
-    ensures { done_of result ≡ reading (device_of device) (measured lengths) (image_rule_of rule) count_nodes count_edges }
+    ensures { done_of result ≡ reading (limited limits) (measured lengths) (image_rule_of rule) count_nodes count_edges }
 {
-    device.take(lengths.nodes, lengths.lows)?;
+    limits.take(lengths.nodes, lengths.lows)?;
     rule?;
     let asked_nodes = count_nodes as usize;
     let asked_edges = count_edges as usize;
-    device.take(asked_nodes, asked_edges)?;
+    limits.take(asked_nodes, asked_edges)?;
     need(asked_nodes, lengths.nodes)?;
     need(asked_edges, lengths.lows)?;
     check_others(lengths)
@@ -145,9 +167,9 @@ pub fn check_reading(
 
 // Refuses to make a store in memory of these lengths: the limits, then a slice too short.
 #[tactic(auto, unfolding(plain::specs::Calls::fresh, plain::specs::Calls::within))]
-pub fn check_fresh(device: Device, lengths: Lengths) -> Result<(), Refusal>
-    ensures { done_of result ≡ fresh (device_of device) (measured lengths) }
+pub fn check_fresh(limits: Limits, lengths: Lengths) -> Result<(), Refusal>
+    ensures { done_of result ≡ fresh (limited limits) (measured lengths) }
 {
-    device.take(lengths.nodes, lengths.lows)?;
+    limits.take(lengths.nodes, lengths.lows)?;
     check_others(lengths)
 }

@@ -1,9 +1,11 @@
 -- The words of a store that is lent as one value, and what refuses a slot of it.
-use Rattle.std.specs.Prelude.{ℕ, ◌≡◌, Bool, false, cond, List, Result, Ok, Err, get_or, leb}
+use Rattle.std.specs.Prelude.{ℕ, ◌≡◌, ◌<◌, Bool, false, cond, List, Result, Ok, Err, get_or, leb, length}
+use Rattle.plain.specs.declared.EdgeRecord.{EdgeRecord}
 use Rattle.plain.specs.declared.refusals.Refusal.{Refusal}
+use Rattle.shape.specs.declared.Layout.{Layout}
 use Rattle.shape.specs.declared.Store.{Store}
 use Rattle.shape.specs.declared.StoreMut.{StoreMut}
-use Rattle.shape.specs.Shape.{Words, store}
+use Rattle.shape.specs.Shape.{Words, store, edge_capacity, edge_payload_at, node_capacity}
 
 -- of a store that is lent to be read
 abbrev pub words : Store → Words
@@ -12,6 +14,21 @@ words s = store s.counts s.nodes.now s.lows.now s.highs.now s.live_nodes.now s.l
 -- of a store that is lent to be written
 abbrev pub words_mut : StoreMut → Words
 words_mut s = store s.counts s.nodes.now s.lows.now s.highs.now s.live_nodes.now s.live_edges.now s.outgoing.now s.incoming.now
+
+-- the layout of its axes
+abbrev pub layout_of : Words → Layout
+layout_of w = record { edge_capacity = edge_capacity w; node_capacity = node_capacity w; counts = w.counts }
+
+-- the words of an edge's record are there
+pub record EdgeThere (w : Words) (e : ℕ) : Type 0 where
+  pub source_there : e < length w.outgoing
+  pub target_there : e < length w.incoming
+  pub low_there : e < length w.lows
+  pub high_there : e < length w.highs
+
+-- its ends and its payload
+abbrev pub edge_of : Words → ℕ → EdgeRecord
+edge_of w e = record { source = get_or w.outgoing e 0; target = get_or w.incoming e 0; payload = edge_payload_at w e }
 
 -- the slices are those that were lent
 pub record SameSlices (a b : StoreMut) : Type 0 where

@@ -7,12 +7,21 @@ ghost use Rattle.std.specs.Prelude.{◌*◌, ◌≤◌, ◌≡◌, false, length
 ghost use Rattle.plain.specs.declared.refusals.Refusal.TheVariants.{OutOfRangeNode, RemovedNode, OutOfRangeEdge, RemovedEdge};
 ghost use Rattle.memory.specs.Lengths.{measured};
 ghost use Rattle.shape.specs.Shape.{axis_words, edge_live, lengths_of, node_live};
-ghost use Rattle.shape.specs.Stores.{words, words_mut, slot_refused};
+ghost use Rattle.shape.specs.Stores.{words, words_mut, layout_of, edge_of, slot_refused, EdgeThere};
 
 use liveness::is_live;
 use memory::Lengths;
 use plain::refusals::Refusal;
-use plain::{Counts, TraversalDirection};
+use plain::{Counts, EdgePayload, EdgeRecord, TraversalDirection};
+
+// How an axis is laid out: by the capacities where its columns begin, and by the counts how much of each is in use. What works on the words of one axis is given it beside
+// them, by value, since the words are lent now to be read and now to be written.
+#[derive(Clone, Copy)]
+pub struct Layout {
+    pub edge_capacity: usize,
+    pub node_capacity: usize,
+    pub counts: Counts,
+}
 
 // A store to be read: its counts and the seven slices that are lent.
 #[derive(Clone, Copy)]
@@ -35,6 +44,32 @@ impl<'a> Store<'a> {
         match direction {
             TraversalDirection::Outgoing => self.outgoing,
             TraversalDirection::Incoming => self.incoming,
+        }
+    }
+
+    // The layout of both its axes: "the low one's length is the capacity".
+    pub fn layout(&self) -> Layout
+        ensures { result ≡ layout_of (words self.now) }
+    {
+        Layout {
+            edge_capacity: self.lows.len(),
+            node_capacity: self.nodes.len(),
+            counts: self.counts,
+        }
+    }
+
+    // The record of an edge slot, also of a removed one.
+    pub fn edge_at(&self, edge: usize) -> EdgeRecord
+        requires { EdgeThere (words self.now) edge }
+        ensures { result ≡ edge_of (words self.now) edge }
+    {
+        EdgeRecord {
+            source: self.outgoing[edge],
+            target: self.incoming[edge],
+            payload: EdgePayload {
+                low: self.lows[edge],
+                high: self.highs[edge],
+            },
         }
     }
 
@@ -138,5 +173,12 @@ impl StoreMut<'_> {
             outgoing: self.outgoing,
             incoming: self.incoming,
         }
+    }
+
+    // The layout of both its axes.
+    pub fn layout(&self) -> Layout
+        ensures { result ≡ layout_of (words_mut self.now) }
+    {
+        self.as_store().layout()
     }
 }

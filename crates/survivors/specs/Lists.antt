@@ -1,13 +1,13 @@
 -- The lists that compaction takes over from one direction, by the words of its axis: the walks of the live nodes, ring order included.
-use Rattle.std.specs.Prelude.{ℕ, ◌+◌, ◌*◌, ◌≤◌, ◌<◌, ◌≡◌, Bool, true, List, ◌++◌, map, length, take, drop}
+use Rattle.std.specs.Prelude.{ℕ, ◌+◌, ◌*◌, ◌≤◌, ◌<◌, ◌≡◌, true, List, ◌++◌, map, length, take, drop}
 use Rattle.plain.specs.declared.Counts.{Counts}
 use Rattle.plain.specs.declared.TraversalDirection.{TraversalDirection}
 use Rattle.plain.specs.Lists.{joined, keep}
 use Rattle.plain.specs.Reads.{live_slots}
 use Rattle.liveness.specs.Flags.{live_flags}
-use Rattle.shape.specs.Shape.{Words, axis_words, edge_capacity, node_capacity}
+use Rattle.shape.specs.Shape.{Words, axis_words, edge_capacity, edge_live, node_capacity}
 use Rattle.cursor.specs.Cursor.{listed}
-use Rattle.adjacency.specs.Walk.{walk_in, Walkable}
+use Rattle.adjacency.specs.Walk.{walk_in, tombstoned_in, Walkable}
 
 -- the walks of the live nodes in slot order, one behind the other
 unfoldable pub live_walks : List ℕ → ℕ → ℕ → Counts → List ℕ → List ℕ → List ℕ
@@ -27,11 +27,15 @@ pub record ListsFit (d : TraversalDirection) (w : Words) (out : List ℕ) : Type
 
 -- ---- one walk behind what stands in a slice
 
--- What it takes to put the listed ones of a walk's entries there: together with the first `from` words they are no more than `total` words of the slice.
-pub record PutFits (entries : List ℕ) (tombstoned : Bool) (live : List ℕ) (slots : ℕ) (out : List ℕ) (total from : ℕ) : Type 0 where
-  pub live_long : slots ≤ 64 * length live
-  pub room : from + length (keep (listed tombstoned (live_flags live slots)) entries) ≤ total
-  pub within : total ≤ length out
+-- the listed ones of a walk's entries
+abbrev pub listed_in : Words → List ℕ → List ℕ
+listed_in w entries = keep (listed (tombstoned_in w.counts) (edge_live w)) entries
+
+-- What it takes to put the listed ones of a walk's entries there: together with the first `from` words they are no more than the live edges.
+pub record PutFits (w : Words) (entries out : List ℕ) (from : ℕ) : Type 0 where
+  pub live_long : w.counts.edges.bound ≤ 64 * length w.live_edges
+  pub room : from + length (listed_in w entries) ≤ w.counts.edges.live
+  pub within : w.counts.edges.live ≤ length out
 
 -- A list put behind the first `from` words of a slice, so that the first `end` are those and the list. Words from there up to `total` may have changed, others not.
 pub record ListPut (list entry : List ℕ) (total from end : ℕ) (exit : List ℕ) : Type 0 where

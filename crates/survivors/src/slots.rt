@@ -25,6 +25,7 @@ pub fn write_map(live: &[u64], bound: usize, first: u32, map: &mut [u32])
             map[slot] = next;
             next += 1;
         } else {
+            // NONE, since the map's words go to C.
             map[slot] = NONE;
         }
     }

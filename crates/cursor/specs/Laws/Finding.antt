@@ -63,6 +63,10 @@ module _ {wanted test : ℕ → Bool} {all left : List ℕ} (i : Seeking wanted 
     pub seek_found : wanted e ≡ true → test e ≡ true → first_of wanted (keep test all) ≡ e
     seek_found t p = search_found i.searching (keep_first test q p) t
 
+    -- one that is listed is among the listed ones
+    pub seek_among : test e ≡ true → In e (keep test all)
+    seek_among p = search_in i.searching (keep_first test q p)
+
     -- past an entry that is not listed
     pub seek_skip : test e ≡ false → Seeking wanted test all rest
     seek_skip p = record { searching = rw (keep_past test q p) at i.searching; among = λ k m. i.among k (rw q (member_later k e rest m)) }

@@ -1,6 +1,6 @@
 -- `join_memory::settle` meets its contract: the maps, both directions, the payloads, the live words, call by call.
 use Rattle.std.specs.Prelude.{length}
-use Rattle.plain.specs.Library.{ap₂, subst₂, sym, arith}
+use Rattle.plain.specs.Library.{ap₂, subst₂, sym}
 use Rattle.plain.specs.declared.TraversalDirection.TheVariants.{Outgoing, Incoming}
 use Rattle.plain.specs.declared.Slots.{Slots}
 use Rattle.plain.specs.declared.Counts.{Counts}
@@ -8,17 +8,8 @@ use Rattle.shape.specs.Kept.{each_length}
 use Rattle.shape.specs.Shape.{axis_words}
 use Rattle.join_columns.specs.Sides.{AxisJoinable, AxisJoined, Side}
 use Rattle.join_memory.specs.Settling.{cleared}
-use Rattle.join_memory.specs.Laws.Settling.{few_nodes, few_edges, first_maps_fit, second_maps_fit, nodes_copyable, lows_copyable, highs_copyable, nodes_resettable, edges_resettable, axis_joinable}
+use Rattle.join_memory.specs.Laws.Settling.{second_maps_fit, axis_joinable}
 use Rattle.join_memory.proofs.settle.Goals as goal
-
-pub overflow_add-all_nodes : goal.overflow_add-all_nodes
-overflow_add-all_nodes c = omega (arith, few_nodes c.requires)
-
-pub overflow_add-all_edges : goal.overflow_add-all_edges
-overflow_add-all_edges c = omega (arith, few_edges c.requires)
-
-pub write_maps-requires : goal.write_maps-requires
-write_maps-requires c = first_maps_fit c.requires
 
 pub write_maps-requires-2 : goal.write_maps-requires-2
 write_maps-requires-2 c = second_maps_fit c.requires
@@ -34,27 +25,6 @@ join_axis-requires-2 c =
     subst₂ (λ (s t : Side). AxisJoinable (axis_words Incoming (cleared c.args.memory.now)) (length c.args.memory.now.lows.now) (length c.args.memory.now.nodes.now) s t)
     (sym (c.of-first_book.ensures Incoming)) (sym (c.of-second_book.ensures Incoming))
     (axis_joinable c.requires c.write_maps.ensures.written c.write_maps-2.ensures.written Incoming)
-
-pub join_slots-requires : goal.join_slots-requires
-join_slots-requires c = nodes_copyable c.requires
-
-pub join_slots-requires-2 : goal.join_slots-requires-2
-join_slots-requires-2 c = lows_copyable c.requires
-
-pub join_slots-requires-3 : goal.join_slots-requires-3
-join_slots-requires-3 c = highs_copyable c.requires
-
-pub overflow_cast-all_nodes : goal.overflow_cast-all_nodes
-overflow_cast-all_nodes c = omega (arith, few_nodes c.requires)
-
-pub reset_all_live-requires : goal.reset_all_live-requires
-reset_all_live-requires c = nodes_resettable c.requires
-
-pub overflow_cast-all_edges : goal.overflow_cast-all_edges
-overflow_cast-all_edges c = omega (arith, few_edges c.requires)
-
-pub reset_all_live-requires-2 : goal.reset_all_live-requires-2
-reset_all_live-requires-2 c = edges_resettable c.requires
 
 pub returns-clause-settled : goal.returns-clause-settled
 returns-clause-settled c =

@@ -15,7 +15,7 @@ use Rattle.plain.specs.Renumbering.{lookup}
 use Rattle.liveness.specs.Laws.Flags.{length_flags}
 use Rattle.liveness.specs.Flags.{live_flags}
 use Rattle.shape.specs.Index.{Rewritten}
-use Rattle.shape.proofs.Laws.Indexing.{rewritten_set, rewritten_again, rewritten_all, rewritten_as, rewritten_here, rewritten_none}
+use Rattle.shape.proofs.Laws.Indexing.{rewritten_set, rewritten_again, rewritten_all, rewritten_as, rewritten_here}
 use Rattle.shape.specs.Columns.{cell}
 use Rattle.survivors.specs.Slots.{kept_word, translated_word}
 use Rattle.survivors.proofs.Laws.Slots.{rewritten_written}
@@ -120,10 +120,6 @@ live_from_high a (false ∷ flags) i h = let rest = live_from_high (suc a) flags
 pub live_slots_few : (live : List ℕ) (bound : ℕ) → length (live_slots (live_flags live bound)) ≤ bound
 live_slots_few live bound =
     omega (arith, length_live_slots (live_flags live bound), count_length (λ (f : Bool). f) (live_flags live bound), length_flags live bound)
-
--- no word is in place
-pub moving_none : {words : List ℕ} {flags : List Bool} {left : List ℕ} {n : ℕ} (entry : List ℕ) → left ≡ live_slots flags → n ≡ 0 → Moving words flags [] left entry n entry
-moving_none {words} {flags} entry is none = record { whole = sym is; counted = none; moved = rw none (rewritten_none entry 0 (kept_word words flags)) }
 
 module _ {words : List ℕ} {flags : List Bool} {past left entry now : List ℕ} {n : ℕ} (m : Moving words flags past left entry n now) where
   -- all are

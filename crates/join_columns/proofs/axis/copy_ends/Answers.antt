@@ -1,9 +1,6 @@
 -- `join_columns::axis::copy_ends` meets its contract: the ends, then put through the node map.
-use Rattle.join_columns.specs.Laws.Sides.{ends_copyable, ends_translatable, ends_written}
+use Rattle.join_columns.specs.Laws.Sides.{ends_translatable, ends_written}
 use Rattle.join_columns.proofs.axis.copy_ends.Goals as goal
-
-pub copy_live-requires : goal.copy_live-requires
-copy_live-requires c = rw c.axis.ensures (ends_copyable c.requires)
 
 pub translate-requires : goal.translate-requires
 translate-requires c = ends_translatable c.requires (rw c.axis.ensures at c.copy_live.ensures)

@@ -1,9 +1,6 @@
 -- `join_columns::axis::write_entries` meets its contract: the lists, then put through the edge map.
-use Rattle.join_columns.specs.Laws.Sides.{lists_fit, entries_translatable, entries_written}
+use Rattle.join_columns.specs.Laws.Sides.{entries_translatable, entries_written}
 use Rattle.join_columns.proofs.axis.write_entries.Goals as goal
-
-pub write_lists-requires : goal.write_lists-requires
-write_lists-requires c = lists_fit c.requires
 
 pub translate-requires : goal.translate-requires
 translate-requires c = entries_translatable c.requires c.write_lists.ensures

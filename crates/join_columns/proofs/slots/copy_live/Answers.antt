@@ -8,7 +8,7 @@ use Rattle.plain.proofs.Laws.ListLaws.{map_snoc}
 use Rattle.liveness.specs.Flags.{live_flags}
 use Rattle.liveness.specs.Laws.Flags.{length_flags}
 use Rattle.liveness.specs.LiveSlots.{left}
-use Rattle.survivors.proofs.Laws.Turns.{live_slots_few, moving_none, moving_few, moving_below, moving_on, moving_all}
+use Rattle.survivors.proofs.Laws.Turns.{live_slots_few, moving_few, moving_below, moving_on, moving_all}
 use Rattle.join_columns.proofs.Copying.{copied_all}
 use Rattle.join_columns.proofs.slots.copy_live.Goals.{After-into_iter-to-iterator, In-Some}
 use Rattle.join_columns.proofs.slots.copy_live.Goals as goal
@@ -21,9 +21,6 @@ all_left c =
 
 none_counted : (c : After-into_iter-to-iterator) → enumerate_count c.into_iter-to-iterator.result ≡ 0
 none_counted c = ap (λ it. enumerate_count it) c.into_iter-to-iterator.ensures.into_iter_gives ∙ c.enumerate-to-items.ensures.count
-
-pub loop-to-init : goal.loop-to-init
-loop-to-init c = moving_none c.args.out.now (all_left c) (none_counted c)
 
 pub loop-to-init-derived : goal.loop-to-init-derived
 loop-to-init-derived c =

@@ -1,15 +1,18 @@
 -- `find_end` of the entries meets its contract.
 use Rattle.plain.specs.Library.{sym, ◌∙◌, eq-eqb, ne_eqb}
-use Rattle.cursor.specs.Laws.Finding.{seek_in, seek_found, seek_none, seek_skip, seek_on}
+use Rattle.cursor.specs.Laws.Finding.{seek_in, seek_found, seek_among, seek_none, seek_skip, seek_on}
 use Rattle.cursor.proofs.entries.Entries.find_end.Goals.{else-ends-edge-via-then-ends-edge+else-is_listed, else-ends-edge-via-else-ends-edge}
 use Rattle.cursor.proofs.entries.Entries.find_end.Goals as goal
 
 pub bounds-ends-edge : goal.bounds-ends-edge
 bounds-ends-edge c = c.requires.within c.in-Some.edge (seek_in c.loop-edge.invariant c.in-Some.ensures.steps)
 
-pub returns-then-is_listed : goal.returns-then-is_listed
-returns-then-is_listed c =
+pub returns-then-is_listed-clause-first : goal.returns-then-is_listed-clause-first
+returns-then-is_listed-clause-first c =
     sym (seek_found c.loop-edge.invariant c.in-Some.ensures.steps (eq-eqb _ _ c.if-ends-edge.true) (sym c.is_listed.ensures ∙ c.if-is_listed.true))
+
+pub returns-then-is_listed-clause-among : goal.returns-then-is_listed-clause-among
+returns-then-is_listed-clause-among c = seek_among c.loop-edge.invariant c.in-Some.ensures.steps (sym c.is_listed.ensures ∙ c.if-is_listed.true)
 
 pub loop-edge-preserved : goal.loop-edge-preserved
 loop-edge-preserved c =
@@ -18,5 +21,5 @@ loop-edge-preserved c =
       | else-ends-edge-via-else-ends-edge w ↦ seek_on c.loop-edge.invariant c.in-Some.ensures.steps (ne_eqb _ _ w.if-ends-edge.false)
     ]
 
-pub returns : goal.returns
-returns c = sym (seek_none c.loop-edge.invariant c.in-None.ensures.steps.0)
+pub returns-clause-first : goal.returns-clause-first
+returns-clause-first c = sym (seek_none c.loop-edge.invariant c.in-None.ensures.steps.0)
