@@ -7,6 +7,7 @@ ghost use Rattle.adjacency.specs.Index.{offsets_column, bounds_at};
 ghost use Rattle.adjacency.specs.Axis.{Columns};
 
 use crate::{index, walk};
+use shape::Layout;
 use std::ops::Range;
 
 // `entries` is what a walk reads before the ring: the compressed index's edge numbers, or in their place the run links, where the walk is linked. `next` is the
@@ -19,30 +20,25 @@ pub struct Axis<'a> {
 }
 
 // The column of the compressed index's offsets.
-pub fn offsets_of(axis: &[u32], edge_capacity: usize, node_capacity: usize) -> &[u32]
-    requires { Sized axis.now edge_capacity node_capacity }
-    ensures { result.now ≡ offsets_column axis.now edge_capacity node_capacity }
+pub fn offsets_of(axis: &[u32], layout: Layout) -> &[u32]
+    requires { Sized axis.now layout.edge_capacity layout.node_capacity }
+    ensures { result.now ≡ offsets_column axis.now layout.edge_capacity layout.node_capacity }
 {
-    let from = 4 * edge_capacity + 5 * node_capacity;
-    let to = from + node_capacity + 1;
+    let from = 4 * layout.edge_capacity + 5 * layout.node_capacity;
+    let to = from + layout.node_capacity + 1;
     &axis[from..to]
 }
 
 impl<'a> Axis<'a> {
     // Of the parts of one packed slice.
-    pub fn of(
-        words: &'a [u32],
-        edge_capacity: usize,
-        node_capacity: usize,
-        linked: bool,
-    ) -> Axis<'a>
-        requires { Sized words.now edge_capacity node_capacity }
-        ensures { Columns words.now edge_capacity node_capacity linked result }
+    pub fn of(words: &'a [u32], layout: Layout, linked: bool) -> Axis<'a>
+        requires { Sized words.now layout.edge_capacity layout.node_capacity }
+        ensures { Columns words.now layout.edge_capacity layout.node_capacity linked result }
     {
         Axis {
-            offsets: offsets_of(words, edge_capacity, node_capacity),
-            entries: walk::entries_of(words, edge_capacity, linked),
-            next: walk::next_of(words, edge_capacity),
+            offsets: offsets_of(words, layout),
+            entries: walk::entries_of(words, layout, linked),
+            next: walk::next_of(words, layout),
         }
     }
 

@@ -8,7 +8,7 @@ ghost use Rattle.adjacency.specs.Clear.{Retired, LeftClearable, Clearable};
 
 use crate::walk;
 use cursor::entries::Entries;
-use plain::Counts;
+use shape::Layout;
 
 // Makes an edge dead. Answers whether it was live.
 fn retire(live_edges: &mut [u64], slots: usize, edge: u32) -> bool
@@ -33,17 +33,10 @@ fn clear_left(entries: Entries, live_edges: &mut [u64], slots: usize) -> u32
 }
 
 // Makes every edge of the walk of a live node dead. Answers how many were live.
-pub fn clear_adjacency(
-    axis: &[u32],
-    edge_capacity: usize,
-    node_capacity: usize,
-    counts: Counts,
-    live_edges: &mut [u64],
-    node: usize,
-) -> u32
-    requires { Clearable axis.now edge_capacity node_capacity counts live_edges.old node }
-    ensures { Retired counts.edges.bound (walk_in axis.now edge_capacity node_capacity counts live_edges.old node true) live_edges.old live_edges.new result }
+pub fn clear_adjacency(axis: &[u32], layout: Layout, live_edges: &mut [u64], node: usize) -> u32
+    requires { Clearable axis.now layout.edge_capacity layout.node_capacity layout.counts live_edges.old node }
+    ensures { Retired layout.counts.edges.bound (walk_in axis.now layout.edge_capacity layout.node_capacity layout.counts live_edges.old node true) live_edges.old live_edges.new result }
 {
-    let entries = walk::entries(axis, edge_capacity, node_capacity, counts, node, true);
-    clear_left(entries, live_edges, counts.edges.bound as usize)
+    let entries = walk::entries(axis, layout, node, true);
+    clear_left(entries, live_edges, layout.counts.edges.bound as usize)
 }

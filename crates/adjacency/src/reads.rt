@@ -21,9 +21,7 @@ pub fn edges<'a>(store: &Store<'a>, direction: TraversalDirection, node: u32) ->
     let axis = store.axis(direction);
     walk::edges(
         axis,
-        store.lows.len(),
-        store.nodes.len(),
-        store.counts,
+        store.layout(),
         store.live_edges,
         node as usize,
         store.is_node_live(node),
@@ -38,9 +36,7 @@ pub fn degree(store: &Store, direction: TraversalDirection, node: u32) -> usize
 {
     walk::degree(
         store.axis(direction),
-        store.lows.len(),
-        store.nodes.len(),
-        store.counts,
+        store.layout(),
         store.live_edges,
         node as usize,
         store.is_node_live(node),
@@ -55,9 +51,7 @@ pub fn total(store: &Store, direction: TraversalDirection, node: u32) -> Sums
 {
     walk::total(
         store.axis(direction),
-        store.lows.len(),
-        store.nodes.len(),
-        store.counts,
+        store.layout(),
         store.live_edges,
         node as usize,
         store.is_node_live(node),

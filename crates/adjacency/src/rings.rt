@@ -1,10 +1,11 @@
 // The rings: of each node the edges appended since its base part was built or its run took them over. A ring is circular; the node has its last edge, and that
 // edge's link leads to the first; NONE in its place is the empty ring, since the words are lent. So an append takes constant time and the ring is read in the
-// order of appending. What a call asks and promises of the words is a record of specs/Rings.antt; `edge_capacity` and `node_capacity` are those of the axis.
+// order of appending. What a call asks and promises of the words is a record of specs/Rings.antt.
 
 ghost use Rattle.adjacency.specs.Rings.{Appendable, Appended, Openable, Opened, EndsReadable, EndsRead, Detachable, Detached};
 
 use plain::NONE;
+use shape::Layout;
 
 // The first and the last edge of a ring that is not empty.
 #[derive(Clone, Copy)]
@@ -13,22 +14,14 @@ pub struct RingEnds {
     pub last: u32,
 }
 
-// Makes `node` the end of the new edge `appended` and appends the edge to the node's ring. `bound` and `base` are the node bound and the number of base edges.
-pub fn append(
-    axis: &mut [u32],
-    edge_capacity: usize,
-    node_capacity: usize,
-    bound: usize,
-    base: usize,
-    node: usize,
-    appended: u32,
-)
-    requires { Appendable axis.old edge_capacity node_capacity bound base node appended }
-    ensures { Appended axis.old axis.new edge_capacity bound base node appended }
+// Makes `node` the end of the new edge `appended` and appends the edge to the node's ring.
+pub fn append(axis: &mut [u32], layout: Layout, node: usize, appended: u32)
+    requires { Appendable axis.old layout.edge_capacity layout.node_capacity layout.counts.nodes.bound layout.counts.edges.base node appended }
+    ensures { Appended axis.old axis.new layout.edge_capacity layout.counts.nodes.bound layout.counts.edges.base node appended }
 {
     let slot = appended as usize;
-    let at = 4 * edge_capacity + node;
-    let to = 2 * edge_capacity + slot;
+    let at = 4 * layout.edge_capacity + node;
+    let to = 2 * layout.edge_capacity + slot;
     let last = axis[at];
     axis[slot] = node as u32;
     axis[at] = appended;
@@ -36,39 +29,39 @@ pub fn append(
         axis[to] = appended;
         return;
     }
-    let from = 2 * edge_capacity + last as usize;
+    let from = 2 * layout.edge_capacity + last as usize;
     axis[to] = axis[from];
     axis[from] = appended;
 }
 
 // Gives the new node slot `node` the empty ring and no run, whatever stood there.
-pub fn open_node(axis: &mut [u32], edge_capacity: usize, node_capacity: usize, node: usize)
-    requires { Openable axis.old edge_capacity node_capacity node }
-    ensures { Opened axis.old axis.new edge_capacity node_capacity node }
+pub fn open_node(axis: &mut [u32], layout: Layout, node: usize)
+    requires { Openable axis.old layout.edge_capacity layout.node_capacity node }
+    ensures { Opened axis.old axis.new layout.edge_capacity layout.node_capacity node }
 {
-    axis[4 * edge_capacity + node] = NONE;
-    axis[4 * edge_capacity + 4 * node_capacity + node] = 0;
+    axis[4 * layout.edge_capacity + node] = NONE;
+    axis[4 * layout.edge_capacity + 4 * layout.node_capacity + node] = 0;
 }
 
 // The ends of the node's ring, None where it is empty.
-pub fn ring_ends(axis: &[u32], edge_capacity: usize, node: usize) -> Option<RingEnds>
-    requires { EndsReadable axis.now edge_capacity node }
-    ensures { EndsRead axis.now edge_capacity node result }
+pub fn ring_ends(axis: &[u32], layout: Layout, node: usize) -> Option<RingEnds>
+    requires { EndsReadable axis.now layout.edge_capacity node }
+    ensures { EndsRead axis.now layout.edge_capacity node result }
 {
-    let last = axis[4 * edge_capacity + node];
+    let last = axis[4 * layout.edge_capacity + node];
     if last == NONE {
         return None;
     }
     Some(RingEnds {
-        first: axis[2 * edge_capacity + last as usize],
+        first: axis[2 * layout.edge_capacity + last as usize],
         last,
     })
 }
 
 // Forgets the node's ring, whose edges a run has taken over.
-pub fn detach(axis: &mut [u32], edge_capacity: usize, node: usize)
-    requires { Detachable axis.old edge_capacity node }
-    ensures { Detached axis.old axis.new edge_capacity node }
+pub fn detach(axis: &mut [u32], layout: Layout, node: usize)
+    requires { Detachable axis.old layout.edge_capacity node }
+    ensures { Detached axis.old axis.new layout.edge_capacity node }
 {
-    axis[4 * edge_capacity + node] = NONE;
+    axis[4 * layout.edge_capacity + node] = NONE;
 }

@@ -6,4 +6,4 @@ use Rattle.adjacency.proofs.clear.clear_adjacency.Goals as goal
 
 pub returns : goal.returns
 returns c = let a = c.args in
-    retired_walk true (adjacency_in a.axis.now a.edge_capacity a.node_capacity a.counts a.node) (rw c.entries-entries.ensures at c.clear_left.ensures)
+    retired_walk true (adjacency_in a.axis.now a.layout.edge_capacity a.layout.node_capacity a.layout.counts a.node) (rw c.entries-entries.ensures at c.clear_left.ensures)

@@ -5,8 +5,8 @@ use Rattle.adjacency.proofs.reads.edges.Goals as goal
 
 pub edges-requires : goal.edges-requires
 edges-requires c =
-    rw c.axis-axis.ensures (checked_walkable c.requires.checked c.args.direction c.args.node c.requires.node_lt_bound)
+    rw (c.axis-axis.ensures, c.layout.ensures) (checked_walkable c.requires.checked c.args.direction c.args.node c.requires.node_lt_bound)
 
 pub returns : goal.returns
 returns c =
-    (rw (c.axis-axis.ensures, c.is_node_live.ensures) at c.edges.ensures) ∙ sym (list_is_walk _ c.args.direction c.args.node c.requires.node_lt_bound)
+    (rw (c.axis-axis.ensures, c.layout.ensures, c.is_node_live.ensures) at c.edges.ensures) ∙ sym (list_is_walk _ c.args.direction c.args.node c.requires.node_lt_bound)

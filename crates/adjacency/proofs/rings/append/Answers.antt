@@ -7,7 +7,7 @@ use Rattle.adjacency.proofs.rings.append.Goals.{Else-last}
 use Rattle.adjacency.proofs.rings.append.Goals as goal
 
 -- the last entry of the ring is an edge
-last_in : (c : Else-last) → let a = c.args in last_at a.axis.now a.edge_capacity a.node < a.appended
+last_in : (c : Else-last) → let a = c.args in last_at a.axis.now a.layout.edge_capacity a.node < a.appended
 last_in c = last_below c.requires c.if-last.false
 
 pub returns-then-last : goal.returns-then-last

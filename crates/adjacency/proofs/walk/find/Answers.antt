@@ -6,5 +6,8 @@ pub find_end-requires-clause-within : goal.find_end-requires-clause-within
 find_end-requires-clause-within c =
     rw c.entries.ensures (entries_within c.requires.walkable.readable c.args.live _ c.requires.edge_capacity_in_bounds)
 
-pub returns : goal.returns
-returns c = rw (c.tombstoned.ensures, c.entries.ensures, listed_walk c.requires.walkable c.args.live) at c.find_end.ensures
+pub returns-clause-first : goal.returns-clause-first
+returns-clause-first c = rw (c.tombstoned.ensures, c.entries.ensures, listed_walk c.requires.walkable c.args.live) at c.find_end.ensures.first
+
+pub returns-clause-among : goal.returns-clause-among
+returns-clause-among c = rw (c.tombstoned.ensures, c.entries.ensures, listed_walk c.requires.walkable c.args.live) at c.find_end.ensures.among
