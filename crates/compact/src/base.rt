@@ -4,33 +4,37 @@ ghost use Rattle.compact.specs.Bases.{Rebuildable, Rebuilt, Compactable, AxisCom
 
 use adjacency::index;
 use plain::NONE;
+use shape::Layout;
 use survivors::slots;
 
 // Puts a new base in place of base, runs and rings: the offsets counted from the ends of `count_edges` edges, the joined lists copied from lent words, every
 // ring of `count_nodes` nodes empty, and no run. For compaction; image reading leaves the same base, its lists read from bits.
 pub fn rebuild(
     axis: &mut [u32],
-    edge_capacity: usize,
-    node_capacity: usize,
+    layout: Layout,
     count_nodes: usize,
     count_edges: usize,
     entries: &[u32],
 )
-    requires { Rebuildable axis.old edge_capacity node_capacity count_nodes count_edges entries.now }
-    ensures { Rebuilt axis.old edge_capacity node_capacity count_nodes count_edges entries.now axis.new }
+    requires { Rebuildable axis.old layout.edge_capacity layout.node_capacity count_nodes count_edges entries.now }
+    ensures { Rebuilt axis.old layout.edge_capacity layout.node_capacity count_nodes count_edges entries.now axis.new }
 {
-    index::count_offsets(axis, edge_capacity, node_capacity, count_nodes, count_edges);
-    index::place_joined(axis, edge_capacity, node_capacity, entries, count_edges);
-    index::fill_words(axis, 4 * edge_capacity, count_nodes, NONE);
-    index::fill_words(axis, 4 * edge_capacity + 4 * node_capacity, count_nodes, 0);
+    index::count_offsets(axis, layout, count_nodes, count_edges);
+    index::place_joined(axis, layout, entries, count_edges);
+    index::fill_words(axis, 4 * layout.edge_capacity, count_nodes, NONE);
+    index::fill_words(
+        axis,
+        4 * layout.edge_capacity + 4 * layout.node_capacity,
+        count_nodes,
+        0,
+    );
 }
 
 // Compacts one direction: the ends of the live edges move down and are renumbered, and the new base takes its lists from lent words. `bound` is the number of
 // edge slots before, `count_nodes` and `count_edges` the live ones.
 pub fn compact_axis(
     axis: &mut [u32],
-    edge_capacity: usize,
-    node_capacity: usize,
+    layout: Layout,
     live_edges: &[u64],
     bound: usize,
     node_map: &[u32],
@@ -38,18 +42,11 @@ pub fn compact_axis(
     count_edges: usize,
     entries: &[u32],
 )
-    requires { Compactable axis.old edge_capacity node_capacity live_edges.now bound node_map.now count_nodes count_edges entries.now }
-    ensures { AxisCompacted axis.old edge_capacity node_capacity live_edges.now bound node_map.now count_nodes count_edges
+    requires { Compactable axis.old layout.edge_capacity layout.node_capacity live_edges.now bound node_map.now count_nodes count_edges entries.now }
+    ensures { AxisCompacted axis.old layout.edge_capacity layout.node_capacity live_edges.now bound node_map.now count_nodes count_edges
         entries.now axis.new }
 {
     slots::keep_live(axis, live_edges, bound, count_edges);
     slots::translate(axis, count_edges, node_map);
-    rebuild(
-        axis,
-        edge_capacity,
-        node_capacity,
-        count_nodes,
-        count_edges,
-        entries,
-    );
+    rebuild(axis, layout, count_nodes, count_edges, entries);
 }

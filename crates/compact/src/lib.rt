@@ -29,8 +29,7 @@ fn drop_dead(store: &mut StoreMut, node_map: &[u32], work: &[u32])
     ensures dropped { Dropped (words_mut store.old) node_map.now work.now (words_mut store.new) }
     ensures same { SameSlices store.old store.new }
 {
-    let edge_capacity = store.lows.len();
-    let node_capacity = store.nodes.len();
+    let layout = store.layout();
     let node_slots = store.counts.nodes;
     let edge_slots = store.counts.edges;
     let n = node_slots.live as usize;
@@ -40,8 +39,7 @@ fn drop_dead(store: &mut StoreMut, node_map: &[u32], work: &[u32])
     let live_edges = &mut *store.live_edges;
     base::compact_axis(
         store.outgoing,
-        edge_capacity,
-        node_capacity,
+        layout,
         live_edges,
         bound,
         node_map,
@@ -51,8 +49,7 @@ fn drop_dead(store: &mut StoreMut, node_map: &[u32], work: &[u32])
     );
     base::compact_axis(
         store.incoming,
-        edge_capacity,
-        node_capacity,
+        layout,
         live_edges,
         bound,
         node_map,

@@ -28,7 +28,7 @@ use liveness::reset_all_live;
 use memory::{Device, Lengths, check_reading};
 use plain::refusals::Refusal;
 use plain::{Counts, NONE, Slots};
-use shape::StoreMut;
+use shape::{Layout, StoreMut};
 
 // Reads fields of `width` bits into words, the first at bit `position` and each `stride` bits further.
 fn read_fields(bytes: &[u8], position: usize, stride: usize, width: u32, words: &mut [u32])
@@ -45,35 +45,32 @@ fn read_fields(bytes: &[u8], position: usize, stride: usize, width: u32, words: 
 // Builds the base of one direction once the ends are in place: the offsets counted from them, the joined lists read, every ring empty, and no run.
 fn read_base(
     axis: &mut [u32],
-    edge_capacity: usize,
-    node_capacity: usize,
+    layout: Layout,
     count_nodes: usize,
     count_edges: usize,
     bytes: &[u8],
     position: usize,
     width: u32,
 )
-    requires { BaseReadable axis.old edge_capacity node_capacity count_nodes count_edges bytes.now position width }
-    ensures { Rebuilt axis.old edge_capacity node_capacity count_nodes count_edges (fields_at bytes.now position width count_edges) axis.new }
+    requires { BaseReadable axis.old layout.edge_capacity layout.node_capacity count_nodes count_edges bytes.now position width }
+    ensures { Rebuilt axis.old layout.edge_capacity layout.node_capacity count_nodes count_edges (fields_at bytes.now position width count_edges) axis.new }
 {
-    index::count_offsets(axis, edge_capacity, node_capacity, count_nodes, count_edges);
-    let lists = &mut axis[edge_capacity..edge_capacity + count_edges];
+    index::count_offsets(axis, layout, count_nodes, count_edges);
+    let lists = &mut axis[layout.edge_capacity..layout.edge_capacity + count_edges];
     read_fields(bytes, position, width as usize, width, lists);
-    index::fill_words(axis, 4 * edge_capacity, count_nodes, NONE);
-    index::fill_words(axis, 4 * edge_capacity + 4 * node_capacity, count_nodes, 0);
+    index::fill_words(axis, 4 * layout.edge_capacity, count_nodes, NONE);
+    index::fill_words(
+        axis,
+        4 * layout.edge_capacity + 4 * layout.node_capacity,
+        count_nodes,
+        0,
+    );
 }
 
 // Reads one direction: the ends of the edges from bit `ends` on, a record apart, and the joined lists from bit `lists` on.
-fn read_axis(
-    axis: &mut [u32],
-    edge_capacity: usize,
-    node_capacity: usize,
-    image: &Image,
-    ends: usize,
-    lists: usize,
-)
-    requires { AxisReadable axis.old edge_capacity node_capacity image.now.nodes image.now.edges image.now.bytes.now ends lists }
-    ensures { AxisRead axis.old edge_capacity node_capacity image.now.nodes image.now.edges image.now.bytes.now ends lists axis.new }
+fn read_axis(axis: &mut [u32], layout: Layout, image: &Image, ends: usize, lists: usize)
+    requires { AxisReadable axis.old layout.edge_capacity layout.node_capacity image.now.nodes image.now.edges image.now.bytes.now ends lists }
+    ensures { AxisRead axis.old layout.edge_capacity layout.node_capacity image.now.nodes image.now.edges image.now.bytes.now ends lists axis.new }
 {
     let n = image.nodes as usize;
     let m = image.edges as usize;
@@ -81,16 +78,7 @@ fn read_axis(
     let edge_width = least_width(image.edges);
     let stride = places::record_width(image.nodes);
     read_fields(image.bytes, ends, stride, node_width, &mut axis[..m]);
-    read_base(
-        axis,
-        edge_capacity,
-        node_capacity,
-        n,
-        m,
-        image.bytes,
-        lists,
-        edge_width,
-    );
+    read_base(axis, layout, n, m, image.bytes, lists, edge_width);
 }
 
 // Reads the weights of the edges out of their records: the lows, and the highs, each behind its low. Two slices, and so two calls.
@@ -121,23 +109,17 @@ fn read_payloads(nodes: &mut [u32], lows: &mut [u32], highs: &mut [u32], image: 
 }
 
 // Reads both directions.
-fn read_axes(
-    outgoing: &mut [u32],
-    incoming: &mut [u32],
-    edge_capacity: usize,
-    node_capacity: usize,
-    image: &Image,
-)
-    requires { AxesReadable outgoing.old incoming.old edge_capacity node_capacity image.now.bytes.now image.now.nodes image.now.edges }
-    ensures { AxesRead outgoing.old incoming.old edge_capacity node_capacity image.now.bytes.now image.now.nodes image.now.edges
+fn read_axes(outgoing: &mut [u32], incoming: &mut [u32], layout: Layout, image: &Image)
+    requires { AxesReadable outgoing.old incoming.old layout.edge_capacity layout.node_capacity image.now.bytes.now image.now.nodes image.now.edges }
+    ensures { AxesRead outgoing.old incoming.old layout.edge_capacity layout.node_capacity image.now.bytes.now image.now.nodes image.now.edges
         outgoing.new incoming.new }
 {
     let sources = places::edges_start(image.nodes);
     let targets = sources + least_width(image.nodes) as usize;
     let outs = places::outs_start(image.nodes, image.edges);
     let ins = places::ins_start(image.nodes, image.edges);
-    read_axis(outgoing, edge_capacity, node_capacity, image, sources, outs);
-    read_axis(incoming, edge_capacity, node_capacity, image, targets, ins);
+    read_axis(outgoing, layout, image, sources, outs);
+    read_axis(incoming, layout, image, targets, ins);
 }
 
 // Puts what an image holds in place of all: payloads, both directions, every slot live and in the base.
@@ -146,14 +128,13 @@ fn place(store: &mut StoreMut, image: &Image)
     ensures placed { ImagePlaced (words_mut store.old) image.now.bytes.now (words_mut store.new) }
     ensures same { SameSlices store.old store.new }
 {
-    let edge_capacity = store.lows.len();
-    let node_capacity = store.nodes.len();
+    let layout = store.layout();
     let outgoing = &mut *store.outgoing;
     let incoming = &mut *store.incoming;
     let nodes = &mut *store.nodes;
     let lows = &mut *store.lows;
     let highs = &mut *store.highs;
-    read_axes(outgoing, incoming, edge_capacity, node_capacity, image);
+    read_axes(outgoing, incoming, layout, image);
     read_payloads(nodes, lows, highs, image);
     reset_all_live(store.live_nodes, image.nodes as usize);
     reset_all_live(store.live_edges, image.edges as usize);
@@ -168,12 +149,13 @@ fn place(store: &mut StoreMut, image: &Image)
 fn check_image(device: Device, lengths: Lengths, bytes: &[u8]) -> Result<(), Refusal>
     ensures { done_of result ≡ read_image (device_of device) (measured lengths) bytes.now }
 {
+    let limits = device.limits();
     match first_broken(bytes) {
         Ok(()) => {
             let image = Image::new(bytes);
-            check_reading(device, lengths, Ok(()), image.nodes, image.edges)
+            check_reading(limits, lengths, Ok(()), image.nodes, image.edges)
         }
-        Err(rule) => check_reading(device, lengths, Err(rule), 0, 0),
+        Err(rule) => check_reading(limits, lengths, Err(rule), 0, 0),
     }
 }
 

@@ -7,7 +7,7 @@ ghost use Rattle.memory.specs.Lengths.{measured};
 ghost use Rattle.join_columns.specs.Answers.{sizes_of, rooms_of};
 
 use crate::slots::MapsMut;
-use memory::{Device, Lengths, check_fresh, need};
+use memory::{Lengths, Limits, check_fresh, need};
 use plain::Counts;
 use plain::refusals::Refusal;
 
@@ -23,7 +23,7 @@ pub fn check_join(
 ) -> Result<(), Refusal>
     ensures { done_of result ≡ join_answer (measured lengths) (sizes_of first) (sizes_of second) (rooms_of first_maps.now second_maps.now) }
 {
-    check_fresh(Device::Box, lengths)?;
+    check_fresh(Limits::BOX, lengths)?;
     if lengths.nodes < first.nodes.live as usize + second.nodes.live as usize
         || lengths.lows < first.edges.live as usize + second.edges.live as usize
     {

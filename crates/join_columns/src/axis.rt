@@ -11,7 +11,7 @@ ghost use Rattle.join_columns.specs.Books.{side_in};
 use crate::slots::{Column, MapsMut, copy_live};
 use adjacency::index;
 use plain::{NONE, TraversalDirection};
-use shape::Store;
+use shape::{Layout, Store};
 use survivors::lists::write_lists;
 use survivors::slots::translate;
 
@@ -83,20 +83,24 @@ fn join_entries(out: &mut [u32], direction: TraversalDirection, first: &Book, se
 // One direction of both books in a new base: the ends, the offsets counted from them, the lists straight into the adjacency column, every ring empty, and no run.
 pub fn join_axis(
     axis: &mut [u32],
-    edge_capacity: usize,
-    node_capacity: usize,
+    layout: Layout,
     direction: TraversalDirection,
     first: &Book,
     second: &Book,
 )
-    requires { AxisJoinable axis.old edge_capacity node_capacity (side_in direction first.now) (side_in direction second.now) }
-    ensures { AxisJoined axis.old edge_capacity node_capacity (side_in direction first.now) (side_in direction second.now) axis.new }
+    requires { AxisJoinable axis.old layout.edge_capacity layout.node_capacity (side_in direction first.now) (side_in direction second.now) }
+    ensures { AxisJoined axis.old layout.edge_capacity layout.node_capacity (side_in direction first.now) (side_in direction second.now) axis.new }
 {
     let n = first.store.counts.nodes.live as usize + second.store.counts.nodes.live as usize;
     let m = first.store.counts.edges.live as usize + second.store.counts.edges.live as usize;
     join_ends(axis, direction, first, second);
-    index::count_offsets(axis, edge_capacity, node_capacity, n, m);
-    join_entries(&mut axis[edge_capacity..], direction, first, second);
-    index::fill_words(axis, 4 * edge_capacity, n, NONE);
-    index::fill_words(axis, 4 * edge_capacity + 4 * node_capacity, n, 0);
+    index::count_offsets(axis, layout, n, m);
+    join_entries(&mut axis[layout.edge_capacity..], direction, first, second);
+    index::fill_words(axis, 4 * layout.edge_capacity, n, NONE);
+    index::fill_words(
+        axis,
+        4 * layout.edge_capacity + 4 * layout.node_capacity,
+        n,
+        0,
+    );
 }

@@ -27,8 +27,7 @@ pub fn settle(
     ensures first_same { SameMaps first_maps.old first_maps.new }
     ensures second_same { SameMaps second_maps.old second_maps.new }
 {
-    let edge_capacity = memory.lows.len();
-    let node_capacity = memory.nodes.len();
+    let layout = memory.layout();
     let n = first.counts.nodes.live;
     let m = first.counts.edges.live;
     let all_nodes = n + second.counts.nodes.live;
@@ -39,16 +38,14 @@ pub fn settle(
     let second_book = Book::of(second, second_maps);
     join_axis(
         memory.outgoing,
-        edge_capacity,
-        node_capacity,
+        layout,
         TraversalDirection::Outgoing,
         &first_book,
         &second_book,
     );
     join_axis(
         memory.incoming,
-        edge_capacity,
-        node_capacity,
+        layout,
         TraversalDirection::Incoming,
         &first_book,
         &second_book,

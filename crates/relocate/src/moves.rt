@@ -4,48 +4,34 @@
 ghost use Rattle.runs.specs.Runs.{Cuttable};
 ghost use Rattle.relocate.specs.Moves.{RunRelabelled, HandableOver, HandedOver, Movable, Met, Moved};
 
-use plain::Counts;
 use runs::overlay::prepare;
+use shape::Layout;
 
 // Makes `new` the end of the edges in the run of a node, and answers how many they are. The link is read before the end is stored: the two words' addresses often
 // agree in their low bits, and a load behind such a store waits for it.
-fn relabel(
-    axis: &mut [u32],
-    edge_capacity: usize,
-    node_capacity: usize,
-    counts: Counts,
-    node: usize,
-    new: u32,
-) -> u32
-    requires { Cuttable axis.old edge_capacity node_capacity counts node }
-    ensures { RunRelabelled axis.old axis.new edge_capacity node_capacity node new result }
+fn relabel(axis: &mut [u32], layout: Layout, node: usize, new: u32) -> u32
+    requires { Cuttable axis.old layout.edge_capacity layout.node_capacity layout.counts node }
+    ensures { RunRelabelled axis.old axis.new layout.edge_capacity layout.node_capacity node new result }
 {
-    let length = axis[4 * edge_capacity + 3 * node_capacity + node];
-    let mut next = axis[4 * edge_capacity + node_capacity + node];
+    let length = axis[4 * layout.edge_capacity + 3 * layout.node_capacity + node];
+    let mut next = axis[4 * layout.edge_capacity + layout.node_capacity + node];
     for _ in 0..length {
         let slot = next as usize;
-        next = axis[3 * edge_capacity + slot];
+        next = axis[3 * layout.edge_capacity + slot];
         axis[slot] = new;
     }
     length
 }
 
 // Appends the whole run of a node to that of another, and leaves the first empty, in constant time.
-fn hand_over(
-    axis: &mut [u32],
-    edge_capacity: usize,
-    node_capacity: usize,
-    counts: Counts,
-    old: usize,
-    new: usize,
-)
-    requires { HandableOver axis.old edge_capacity node_capacity counts old new }
-    ensures { HandedOver axis.old axis.new edge_capacity node_capacity counts old new }
+fn hand_over(axis: &mut [u32], layout: Layout, old: usize, new: usize)
+    requires { HandableOver axis.old layout.edge_capacity layout.node_capacity layout.counts old new }
+    ensures { HandedOver axis.old axis.new layout.edge_capacity layout.node_capacity layout.counts old new }
 {
-    let lasts = 4 * edge_capacity;
-    let firsts = lasts + node_capacity;
-    let tails = lasts + 2 * node_capacity;
-    let lengths = lasts + 3 * node_capacity;
+    let lasts = 4 * layout.edge_capacity;
+    let firsts = lasts + layout.node_capacity;
+    let tails = lasts + 2 * layout.node_capacity;
+    let lengths = lasts + 3 * layout.node_capacity;
     let gone = lengths + old;
     let count = lengths + new;
     let tail = tails + new;
@@ -64,70 +50,34 @@ fn hand_over(
         axis[firsts + new] = first;
         return;
     }
-    axis[3 * edge_capacity + before as usize] = first;
+    axis[3 * layout.edge_capacity + before as usize] = first;
 }
 
 // Prepares the runs of two nodes: that of `old` then holds the edges that move.
-fn meet(
-    axis: &mut [u32],
-    edge_capacity: usize,
-    node_capacity: usize,
-    counts: Counts,
-    live: &[u64],
-    tombstoned: bool,
-    old: usize,
-    new: usize,
-)
-    requires { Movable axis.old edge_capacity node_capacity counts live.now tombstoned old new }
-    ensures { Met axis.old axis.new edge_capacity node_capacity counts live.now old new }
+fn meet(axis: &mut [u32], layout: Layout, live: &[u64], tombstoned: bool, old: usize, new: usize)
+    requires { Movable axis.old layout.edge_capacity layout.node_capacity layout.counts live.now tombstoned old new }
+    ensures { Met axis.old axis.new layout.edge_capacity layout.node_capacity layout.counts live.now old new }
 {
-    prepare(
-        axis,
-        edge_capacity,
-        node_capacity,
-        counts,
-        old,
-        live,
-        tombstoned,
-    );
-    prepare(
-        axis,
-        edge_capacity,
-        node_capacity,
-        counts,
-        new,
-        live,
-        tombstoned,
-    );
+    prepare(axis, layout, old, live, tombstoned);
+    prepare(axis, layout, new, live, tombstoned);
 }
 
 // Moves the live edges of `old` behind those of `new`, in their order, and answers how many they are. `old` keeps an empty run.
 pub fn move_adjacency(
     axis: &mut [u32],
-    edge_capacity: usize,
-    node_capacity: usize,
-    counts: Counts,
+    layout: Layout,
     live: &[u64],
     tombstoned: bool,
     old: u32,
     new: u32,
 ) -> u32
-    requires { Movable axis.old edge_capacity node_capacity counts live.now tombstoned old new }
-    ensures { Moved axis.old axis.new edge_capacity node_capacity counts live.now old new result }
+    requires { Movable axis.old layout.edge_capacity layout.node_capacity layout.counts live.now tombstoned old new }
+    ensures { Moved axis.old axis.new layout.edge_capacity layout.node_capacity layout.counts live.now old new result }
 {
     let from = old as usize;
     let to = new as usize;
-    meet(
-        axis,
-        edge_capacity,
-        node_capacity,
-        counts,
-        live,
-        tombstoned,
-        from,
-        to,
-    );
-    let moved = relabel(axis, edge_capacity, node_capacity, counts, from, new);
-    hand_over(axis, edge_capacity, node_capacity, counts, from, to);
+    meet(axis, layout, live, tombstoned, from, to);
+    let moved = relabel(axis, layout, from, new);
+    hand_over(axis, layout, from, to);
     moved
 }

@@ -4,101 +4,47 @@
 ghost use Rattle.runs.specs.Overlay.{Preparable};
 ghost use Rattle.relocate.specs.Redirects.{Left, Arrivable, Arrived, Redirectable, Redirected};
 
-use plain::Counts;
 use runs::overlay::prepare;
 use runs::{push, take_out};
+use shape::Layout;
 
 // Takes an edge out of the prepared run of a node.
-fn leave(
-    axis: &mut [u32],
-    edge_capacity: usize,
-    node_capacity: usize,
-    counts: Counts,
-    node: usize,
-    live: &[u64],
-    tombstoned: bool,
-    edge: u32,
-)
-    requires { Preparable axis.old edge_capacity node_capacity counts live.now tombstoned node }
-    ensures { Left axis.old axis.new edge_capacity node_capacity counts live.now node edge }
+fn leave(axis: &mut [u32], layout: Layout, node: usize, live: &[u64], tombstoned: bool, edge: u32)
+    requires { Preparable axis.old layout.edge_capacity layout.node_capacity layout.counts live.now tombstoned node }
+    ensures { Left axis.old axis.new layout.edge_capacity layout.node_capacity layout.counts live.now node edge }
 {
-    prepare(
-        axis,
-        edge_capacity,
-        node_capacity,
-        counts,
-        node,
-        live,
-        tombstoned,
-    );
-    take_out(axis, edge_capacity, node_capacity, counts, node, edge);
+    prepare(axis, layout, node, live, tombstoned);
+    take_out(axis, layout, node, edge);
 }
 
 // Appends an edge to the prepared run of a node.
-fn arrive(
-    axis: &mut [u32],
-    edge_capacity: usize,
-    node_capacity: usize,
-    counts: Counts,
-    node: usize,
-    live: &[u64],
-    tombstoned: bool,
-    edge: u32,
-)
-    requires { Arrivable axis.old edge_capacity node_capacity counts live.now tombstoned node edge }
-    ensures { Arrived axis.old axis.new edge_capacity node_capacity counts live.now node edge }
+fn arrive(axis: &mut [u32], layout: Layout, node: usize, live: &[u64], tombstoned: bool, edge: u32)
+    requires { Arrivable axis.old layout.edge_capacity layout.node_capacity layout.counts live.now tombstoned node edge }
+    ensures { Arrived axis.old axis.new layout.edge_capacity layout.node_capacity layout.counts live.now node edge }
 {
-    prepare(
-        axis,
-        edge_capacity,
-        node_capacity,
-        counts,
-        node,
-        live,
-        tombstoned,
-    );
-    push(axis, edge_capacity, node_capacity, counts, node, edge);
+    prepare(axis, layout, node, live, tombstoned);
+    push(axis, layout, node, edge);
 }
 
 // Makes `new` the end of a live edge, which comes to stand behind the edges of `new`, and answers its end before. The present end again changes nothing.
 pub fn redirect(
     axis: &mut [u32],
-    edge_capacity: usize,
-    node_capacity: usize,
-    counts: Counts,
+    layout: Layout,
     live: &[u64],
     tombstoned: bool,
     edge: u32,
     new: u32,
 ) -> u32
-    requires { Redirectable axis.old edge_capacity node_capacity counts live.now tombstoned edge new }
-    ensures { Redirected axis.old axis.new edge_capacity node_capacity counts live.now edge new result }
+    requires { Redirectable axis.old layout.edge_capacity layout.node_capacity layout.counts live.now tombstoned edge new }
+    ensures { Redirected axis.old axis.new layout.edge_capacity layout.node_capacity layout.counts live.now edge new result }
 {
     let slot = edge as usize;
     let old = axis[slot];
     if old == new {
         return old;
     }
-    leave(
-        axis,
-        edge_capacity,
-        node_capacity,
-        counts,
-        old as usize,
-        live,
-        tombstoned,
-        edge,
-    );
-    arrive(
-        axis,
-        edge_capacity,
-        node_capacity,
-        counts,
-        new as usize,
-        live,
-        tombstoned,
-        edge,
-    );
+    leave(axis, layout, old as usize, live, tombstoned, edge);
+    arrive(axis, layout, new as usize, live, tombstoned, edge);
     axis[slot] = new;
     old
 }

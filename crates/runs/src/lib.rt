@@ -13,24 +13,17 @@ ghost use Rattle.shape.specs.Steps.{live_entries};
 ghost use Rattle.runs.specs.Runs.{Grown, Pushable, Keepable, Scannable, Divided, Shortenable, Shortened, Appendable, Appended, Sweepable, Swept, before_in, Found, Searchable, Unlinkable, Cuttable, TakenOut};
 
 use liveness::is_live;
-use plain::Counts;
+use shape::Layout;
 
 // Appends an edge that is in no run to the run of a node.
-pub fn push(
-    axis: &mut [u32],
-    edge_capacity: usize,
-    node_capacity: usize,
-    counts: Counts,
-    node: usize,
-    entry: u32,
-)
-    requires { Pushable axis.old edge_capacity node_capacity counts node entry }
-    ensures { Grown axis.old axis.new edge_capacity node_capacity counts node (entry ∷ []) }
+pub fn push(axis: &mut [u32], layout: Layout, node: usize, entry: u32)
+    requires { Pushable axis.old layout.edge_capacity layout.node_capacity layout.counts node entry }
+    ensures { Grown axis.old axis.new layout.edge_capacity layout.node_capacity layout.counts node (entry ∷ []) }
 {
-    let lasts = 4 * edge_capacity;
-    let first = lasts + node_capacity + node;
-    let tail = lasts + 2 * node_capacity + node;
-    let count = lasts + 3 * node_capacity + node;
+    let lasts = 4 * layout.edge_capacity;
+    let first = lasts + layout.node_capacity + node;
+    let tail = lasts + 2 * layout.node_capacity + node;
+    let count = lasts + 3 * layout.node_capacity + node;
     let length = axis[count];
     let last = axis[tail];
     axis[count] = length + 1;
@@ -39,26 +32,18 @@ pub fn push(
         axis[first] = entry;
         return;
     }
-    axis[3 * edge_capacity + last as usize] = entry;
+    axis[3 * layout.edge_capacity + last as usize] = entry;
 }
 
 // Appends an edge to the run of a node where it is live.
-pub fn keep_one(
-    axis: &mut [u32],
-    edge_capacity: usize,
-    node_capacity: usize,
-    counts: Counts,
-    node: usize,
-    live: &[u64],
-    entry: u32,
-)
-    requires { Keepable axis.old edge_capacity node_capacity counts node live.now entry }
-    ensures { Grown axis.old axis.new edge_capacity node_capacity counts node (live_entries (live_flags live.now counts.edges.bound) (entry ∷ [])) }
+pub fn keep_one(axis: &mut [u32], layout: Layout, node: usize, live: &[u64], entry: u32)
+    requires { Keepable axis.old layout.edge_capacity layout.node_capacity layout.counts node live.now entry }
+    ensures { Grown axis.old axis.new layout.edge_capacity layout.node_capacity layout.counts node (live_entries (live_flags live.now layout.counts.edges.bound) (entry ∷ [])) }
 {
-    let bound = counts.edges.bound as usize;
+    let bound = layout.counts.edges.bound as usize;
     let slot = entry as usize;
     if is_live(live, bound, slot) {
-        push(axis, edge_capacity, node_capacity, counts, node, entry);
+        push(axis, layout, node, entry);
     }
 }
 
@@ -73,20 +58,13 @@ pub struct Front {
 }
 
 // Reads the run of a node up to its first dead entry. Where none is dead there is nothing to divide.
-fn live_front(
-    axis: &[u32],
-    edge_capacity: usize,
-    node_capacity: usize,
-    counts: Counts,
-    node: usize,
-    live: &[u64],
-) -> Option<Front>
-    requires { Scannable axis.now edge_capacity node_capacity counts node live.now }
-    ensures { Divided axis.now edge_capacity node_capacity counts node live.now result }
+fn live_front(axis: &[u32], layout: Layout, node: usize, live: &[u64]) -> Option<Front>
+    requires { Scannable axis.now layout.edge_capacity layout.node_capacity layout.counts node live.now }
+    ensures { Divided axis.now layout.edge_capacity layout.node_capacity layout.counts node live.now result }
 {
-    let bound = counts.edges.bound as usize;
-    let length = axis[4 * edge_capacity + 3 * node_capacity + node];
-    let first = axis[4 * edge_capacity + node_capacity + node];
+    let bound = layout.counts.edges.bound as usize;
+    let length = axis[4 * layout.edge_capacity + 3 * layout.node_capacity + node];
+    let first = axis[4 * layout.edge_capacity + layout.node_capacity + node];
     let mut last = first;
     let mut next = first;
     for read in 0..length {
@@ -100,113 +78,57 @@ fn live_front(
             });
         }
         last = next;
-        next = axis[3 * edge_capacity + slot];
+        next = axis[3 * layout.edge_capacity + slot];
     }
     None
 }
 
 // Makes the run of a node end after its first `length` entries, of which `last` is the last.
-fn shorten(
-    axis: &mut [u32],
-    edge_capacity: usize,
-    node_capacity: usize,
-    counts: Counts,
-    node: usize,
-    last: u32,
-    length: u32,
-)
-    requires { Shortenable axis.old edge_capacity node_capacity counts node last length }
-    ensures { Shortened axis.old axis.new edge_capacity node_capacity counts node length }
+fn shorten(axis: &mut [u32], layout: Layout, node: usize, last: u32, length: u32)
+    requires { Shortenable axis.old layout.edge_capacity layout.node_capacity layout.counts node last length }
+    ensures { Shortened axis.old axis.new layout.edge_capacity layout.node_capacity layout.counts node length }
 {
-    let lasts = 4 * edge_capacity;
-    axis[lasts + 2 * node_capacity + node] = last;
-    axis[lasts + 3 * node_capacity + node] = length;
+    let lasts = 4 * layout.edge_capacity;
+    axis[lasts + 2 * layout.node_capacity + node] = last;
+    axis[lasts + 3 * layout.node_capacity + node] = length;
 }
 
 // Appends to the run of a node the live ones of `length` edges that are chained from `first` on and are in no run.
-fn append_live(
-    axis: &mut [u32],
-    edge_capacity: usize,
-    node_capacity: usize,
-    counts: Counts,
-    node: usize,
-    live: &[u64],
-    first: u32,
-    length: u32,
-)
-    requires { Appendable axis.old edge_capacity node_capacity counts node live.now first length }
-    ensures { Appended axis.old axis.new edge_capacity node_capacity counts node live.now first length }
+fn append_live(axis: &mut [u32], layout: Layout, node: usize, live: &[u64], first: u32, length: u32)
+    requires { Appendable axis.old layout.edge_capacity layout.node_capacity layout.counts node live.now first length }
+    ensures { Appended axis.old axis.new layout.edge_capacity layout.node_capacity layout.counts node live.now first length }
 {
     let mut next = first;
     for _ in 0..length {
         let entry = next;
-        next = axis[3 * edge_capacity + entry as usize];
-        keep_one(
-            axis,
-            edge_capacity,
-            node_capacity,
-            counts,
-            node,
-            live,
-            entry,
-        );
+        next = axis[3 * layout.edge_capacity + entry as usize];
+        keep_one(axis, layout, node, live, entry);
     }
 }
 
 // Takes the dead edges out of the run of a node. Where no edge is removed the run is not read; else it is read once, and written from its first dead entry on.
-pub fn sweep(
-    axis: &mut [u32],
-    edge_capacity: usize,
-    node_capacity: usize,
-    counts: Counts,
-    node: usize,
-    live: &[u64],
-    tombstoned: bool,
-)
-    requires { Sweepable axis.old edge_capacity node_capacity counts node live.now tombstoned }
-    ensures { Swept axis.old axis.new edge_capacity node_capacity counts node live.now }
+pub fn sweep(axis: &mut [u32], layout: Layout, node: usize, live: &[u64], tombstoned: bool)
+    requires { Sweepable axis.old layout.edge_capacity layout.node_capacity layout.counts node live.now tombstoned }
+    ensures { Swept axis.old axis.new layout.edge_capacity layout.node_capacity layout.counts node live.now }
 {
     if !tombstoned {
         return;
     }
-    let Some(front) = live_front(axis, edge_capacity, node_capacity, counts, node, live) else {
+    let Some(front) = live_front(axis, layout, node, live) else {
         return;
     };
-    shorten(
-        axis,
-        edge_capacity,
-        node_capacity,
-        counts,
-        node,
-        front.last,
-        front.length,
-    );
-    append_live(
-        axis,
-        edge_capacity,
-        node_capacity,
-        counts,
-        node,
-        live,
-        front.next,
-        front.left,
-    );
+    shorten(axis, layout, node, front.last, front.length);
+    append_live(axis, layout, node, live, front.next, front.left);
 }
 
 // The entry that stands before `entry` in the chain of `length` entries from `first` on, None where there is none.
-fn find_before(
-    axis: &[u32],
-    edge_capacity: usize,
-    first: u32,
-    length: u32,
-    entry: u32,
-) -> Option<u32>
-    requires { Searchable axis.now edge_capacity first length }
-    ensures { Found (before_in entry (chain (cell axis.now (3 * edge_capacity)) length first)) result }
+fn find_before(axis: &[u32], layout: Layout, first: u32, length: u32, entry: u32) -> Option<u32>
+    requires { Searchable axis.now layout.edge_capacity first length }
+    ensures { Found (before_in entry (chain (cell axis.now (3 * layout.edge_capacity)) length first)) result }
 {
     let mut before = first;
     for _ in 1..length {
-        let next = axis[3 * edge_capacity + before as usize];
+        let next = axis[3 * layout.edge_capacity + before as usize];
         if next == entry {
             return Some(before);
         }
@@ -216,22 +138,14 @@ fn find_before(
 }
 
 // Takes the edge that stands after `before` in the run of a node out of it.
-fn unlink(
-    axis: &mut [u32],
-    edge_capacity: usize,
-    node_capacity: usize,
-    counts: Counts,
-    node: usize,
-    before: u32,
-    entry: u32,
-)
-    requires { Unlinkable axis.old edge_capacity node_capacity counts node before entry }
-    ensures { TakenOut axis.old axis.new edge_capacity node_capacity counts node entry }
+fn unlink(axis: &mut [u32], layout: Layout, node: usize, before: u32, entry: u32)
+    requires { Unlinkable axis.old layout.edge_capacity layout.node_capacity layout.counts node before entry }
+    ensures { TakenOut axis.old axis.new layout.edge_capacity layout.node_capacity layout.counts node entry }
 {
-    let links = 3 * edge_capacity;
-    let lasts = 4 * edge_capacity;
-    let tail = lasts + 2 * node_capacity + node;
-    let count = lasts + 3 * node_capacity + node;
+    let links = 3 * layout.edge_capacity;
+    let lasts = 4 * layout.edge_capacity;
+    let tail = lasts + 2 * layout.node_capacity + node;
+    let count = lasts + 3 * layout.node_capacity + node;
     let at = links + before as usize;
     let after = links + entry as usize;
     axis[count] = axis[count] - 1;
@@ -242,40 +156,25 @@ fn unlink(
 }
 
 // Takes an edge out of the run of a node, where it is there.
-pub fn take_out(
-    axis: &mut [u32],
-    edge_capacity: usize,
-    node_capacity: usize,
-    counts: Counts,
-    node: usize,
-    entry: u32,
-)
-    requires { Cuttable axis.old edge_capacity node_capacity counts node }
-    ensures { TakenOut axis.old axis.new edge_capacity node_capacity counts node entry }
+pub fn take_out(axis: &mut [u32], layout: Layout, node: usize, entry: u32)
+    requires { Cuttable axis.old layout.edge_capacity layout.node_capacity layout.counts node }
+    ensures { TakenOut axis.old axis.new layout.edge_capacity layout.node_capacity layout.counts node entry }
 {
-    let lasts = 4 * edge_capacity;
-    let head = lasts + node_capacity + node;
-    let count = lasts + 3 * node_capacity + node;
+    let lasts = 4 * layout.edge_capacity;
+    let head = lasts + layout.node_capacity + node;
+    let count = lasts + 3 * layout.node_capacity + node;
     let length = axis[count];
     let first = axis[head];
     if length == 0 {
         return;
     }
     if first == entry {
-        let after = 3 * edge_capacity + first as usize;
+        let after = 3 * layout.edge_capacity + first as usize;
         axis[count] = length - 1;
         axis[head] = axis[after];
         return;
     }
-    if let Some(before) = find_before(axis, edge_capacity, first, length, entry) {
-        unlink(
-            axis,
-            edge_capacity,
-            node_capacity,
-            counts,
-            node,
-            before,
-            entry,
-        );
+    if let Some(before) = find_before(axis, layout, first, length, entry) {
+        unlink(axis, layout, node, before, entry);
     }
 }

@@ -6,133 +6,67 @@ ghost use Rattle.runs.specs.Overlay.{Ready, Copyable, Copied, Started, Drainable
 use crate::{keep_one, sweep};
 use adjacency::index::base_bounds;
 use adjacency::rings::{detach, ring_ends};
-use plain::Counts;
+use shape::Layout;
 
 // Appends the live edges of a node's base part to its run, which is empty.
-fn copy_base(
-    axis: &mut [u32],
-    edge_capacity: usize,
-    node_capacity: usize,
-    counts: Counts,
-    node: usize,
-    live: &[u64],
-)
-    requires { Copyable axis.old edge_capacity node_capacity counts live.now node }
-    ensures { Copied axis.old axis.new edge_capacity node_capacity counts live.now node }
+fn copy_base(axis: &mut [u32], layout: Layout, node: usize, live: &[u64])
+    requires { Copyable axis.old layout.edge_capacity layout.node_capacity layout.counts live.now node }
+    ensures { Copied axis.old axis.new layout.edge_capacity layout.node_capacity layout.counts live.now node }
 {
-    let base = base_bounds(
-        axis,
-        edge_capacity,
-        node_capacity,
-        counts.nodes.base as usize,
-        node,
-    );
+    let base = base_bounds(axis, layout, layout.counts.nodes.base as usize, node);
     for at in base.start..base.end {
-        let entry = axis[edge_capacity + at as usize];
-        keep_one(
-            axis,
-            edge_capacity,
-            node_capacity,
-            counts,
-            node,
-            live,
-            entry,
-        );
+        let entry = axis[layout.edge_capacity + at as usize];
+        keep_one(axis, layout, node, live, entry);
     }
 }
 
 // Gives a node that has no run one, from the live edges of its base part.
-pub fn start_run(
-    axis: &mut [u32],
-    edge_capacity: usize,
-    node_capacity: usize,
-    counts: Counts,
-    node: usize,
-    live: &[u64],
-)
-    requires { Ready axis.old edge_capacity node_capacity counts live.now node }
-    ensures { Started axis.old axis.new edge_capacity node_capacity counts live.now node }
+pub fn start_run(axis: &mut [u32], layout: Layout, node: usize, live: &[u64])
+    requires { Ready axis.old layout.edge_capacity layout.node_capacity layout.counts live.now node }
+    ensures { Started axis.old axis.new layout.edge_capacity layout.node_capacity layout.counts live.now node }
 {
-    let mark = 4 * edge_capacity + 4 * node_capacity + node;
-    let count = 4 * edge_capacity + 3 * node_capacity + node;
+    let mark = 4 * layout.edge_capacity + 4 * layout.node_capacity + node;
+    let count = 4 * layout.edge_capacity + 3 * layout.node_capacity + node;
     if axis[mark] != 0 {
         return;
     }
     axis[mark] = 1;
     axis[count] = 0;
-    copy_base(axis, edge_capacity, node_capacity, counts, node, live);
+    copy_base(axis, layout, node, live);
 }
 
 // Moves the live edges of a node's ring to the end of its run, and forgets the ring.
-pub fn drain(
-    axis: &mut [u32],
-    edge_capacity: usize,
-    node_capacity: usize,
-    counts: Counts,
-    node: usize,
-    live: &[u64],
-)
-    requires { Drainable axis.old edge_capacity node_capacity counts live.now node }
-    ensures { Drained axis.old axis.new edge_capacity node_capacity counts live.now node }
+pub fn drain(axis: &mut [u32], layout: Layout, node: usize, live: &[u64])
+    requires { Drainable axis.old layout.edge_capacity layout.node_capacity layout.counts live.now node }
+    ensures { Drained axis.old axis.new layout.edge_capacity layout.node_capacity layout.counts live.now node }
 {
-    let Some(ends) = ring_ends(axis, edge_capacity, node) else {
+    let Some(ends) = ring_ends(axis, layout, node) else {
         return;
     };
     let mut next = ends.first;
     while next != ends.last {
         let entry = next;
-        next = axis[2 * edge_capacity + entry as usize];
-        keep_one(
-            axis,
-            edge_capacity,
-            node_capacity,
-            counts,
-            node,
-            live,
-            entry,
-        );
+        next = axis[2 * layout.edge_capacity + entry as usize];
+        keep_one(axis, layout, node, live, entry);
     }
-    keep_one(axis, edge_capacity, node_capacity, counts, node, live, next);
-    detach(axis, edge_capacity, node);
+    keep_one(axis, layout, node, live, next);
+    detach(axis, layout, node);
 }
 
 // Makes a node's run take over its base part, where it had no run, and its ring.
-pub fn take_over(
-    axis: &mut [u32],
-    edge_capacity: usize,
-    node_capacity: usize,
-    counts: Counts,
-    node: usize,
-    live: &[u64],
-)
-    requires { Ready axis.old edge_capacity node_capacity counts live.now node }
-    ensures { TakenOver axis.old axis.new edge_capacity node_capacity counts live.now node }
+pub fn take_over(axis: &mut [u32], layout: Layout, node: usize, live: &[u64])
+    requires { Ready axis.old layout.edge_capacity layout.node_capacity layout.counts live.now node }
+    ensures { TakenOver axis.old axis.new layout.edge_capacity layout.node_capacity layout.counts live.now node }
 {
-    start_run(axis, edge_capacity, node_capacity, counts, node, live);
-    drain(axis, edge_capacity, node_capacity, counts, node, live);
+    start_run(axis, layout, node, live);
+    drain(axis, layout, node, live);
 }
 
 // Makes a node's run take over its base part and ring, and sweeps it: what comes before an edit of the run.
-pub fn prepare(
-    axis: &mut [u32],
-    edge_capacity: usize,
-    node_capacity: usize,
-    counts: Counts,
-    node: usize,
-    live: &[u64],
-    tombstoned: bool,
-)
-    requires { Preparable axis.old edge_capacity node_capacity counts live.now tombstoned node }
-    ensures { Prepared axis.old axis.new edge_capacity node_capacity counts live.now node }
+pub fn prepare(axis: &mut [u32], layout: Layout, node: usize, live: &[u64], tombstoned: bool)
+    requires { Preparable axis.old layout.edge_capacity layout.node_capacity layout.counts live.now tombstoned node }
+    ensures { Prepared axis.old axis.new layout.edge_capacity layout.node_capacity layout.counts live.now node }
 {
-    take_over(axis, edge_capacity, node_capacity, counts, node, live);
-    sweep(
-        axis,
-        edge_capacity,
-        node_capacity,
-        counts,
-        node,
-        live,
-        tombstoned,
-    );
+    take_over(axis, layout, node, live);
+    sweep(axis, layout, node, live, tombstoned);
 }

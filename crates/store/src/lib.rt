@@ -53,13 +53,12 @@ pub fn add_node(store: &mut StoreMut, payload: u32)
     let slots = store.counts.nodes;
     let others = store.counts.edges;
     let slot = slots.bound as usize;
-    let edge_capacity = store.lows.len();
-    let node_capacity = store.nodes.len();
+    let layout = store.layout();
     let more = one_more(slots);
     store.nodes[slot] = payload;
     liveness::push_live(store.live_nodes, slot);
-    rings::open_node(store.outgoing, edge_capacity, node_capacity, slot);
-    rings::open_node(store.incoming, edge_capacity, node_capacity, slot);
+    rings::open_node(store.outgoing, layout, slot);
+    rings::open_node(store.incoming, layout, slot);
     store.counts = Counts {
         nodes: more,
         edges: others,
@@ -76,33 +75,14 @@ pub fn add_edge(store: &mut StoreMut, source: u32, target: u32, payload: EdgePay
     let slots = store.counts.edges;
     let slot = slots.bound;
     let at = slot as usize;
-    let bound = others.bound as usize;
-    let base = slots.base as usize;
-    let edge_capacity = store.lows.len();
-    let node_capacity = store.nodes.len();
+    let layout = store.layout();
     let more = one_more(slots);
     word_fits(payload.high);
     store.lows[at] = payload.low;
     store.highs[at] = payload.high;
     liveness::push_live(store.live_edges, at);
-    rings::append(
-        store.outgoing,
-        edge_capacity,
-        node_capacity,
-        bound,
-        base,
-        source as usize,
-        slot,
-    );
-    rings::append(
-        store.incoming,
-        edge_capacity,
-        node_capacity,
-        bound,
-        base,
-        target as usize,
-        slot,
-    );
+    rings::append(store.outgoing, layout, source as usize, slot);
+    rings::append(store.incoming, layout, target as usize, slot);
     store.counts = Counts {
         nodes: others,
         edges: more,
@@ -142,27 +122,12 @@ pub fn remove_node(store: &mut StoreMut, node: u32) -> bool
     if !liveness::clear(store.live_nodes, slots.bound as usize, at) {
         return false;
     }
-    let edge_capacity = store.lows.len();
-    let node_capacity = store.nodes.len();
+    let layout = store.layout();
     let live_edges = &mut *store.live_edges;
     let outgoing = &mut *store.outgoing;
     let incoming = &mut *store.incoming;
-    let out = clear::clear_adjacency(
-        outgoing,
-        edge_capacity,
-        node_capacity,
-        counts,
-        live_edges,
-        at,
-    );
-    let back = clear::clear_adjacency(
-        incoming,
-        edge_capacity,
-        node_capacity,
-        counts,
-        live_edges,
-        at,
-    );
+    let out = clear::clear_adjacency(outgoing, layout, live_edges, at);
+    let back = clear::clear_adjacency(incoming, layout, live_edges, at);
     let less = fewer(slots, 1);
     let rest = fewer(others, out + back);
     store.counts = Counts {
@@ -179,38 +144,18 @@ pub fn redirect(store: &mut StoreMut, direction: TraversalDirection, edge: u32, 
     ensures same { SameSlices store.old store.new }
     ensures redirected { RedirectedEdge direction edge node (words_mut store.old) result (words_mut store.new) }
 {
-    let counts = store.counts;
-    let edge_capacity = store.lows.len();
-    let node_capacity = store.nodes.len();
-    let some_removed = walk::tombstoned(counts);
+    let layout = store.layout();
+    let some_removed = walk::tombstoned(layout.counts);
     match direction {
         TraversalDirection::Outgoing => {
             let axis = &mut *store.outgoing;
             let live_edges = &mut *store.live_edges;
-            redirects::redirect(
-                axis,
-                edge_capacity,
-                node_capacity,
-                counts,
-                live_edges,
-                some_removed,
-                edge,
-                node,
-            )
+            redirects::redirect(axis, layout, live_edges, some_removed, edge, node)
         }
         TraversalDirection::Incoming => {
             let axis = &mut *store.incoming;
             let live_edges = &mut *store.live_edges;
-            redirects::redirect(
-                axis,
-                edge_capacity,
-                node_capacity,
-                counts,
-                live_edges,
-                some_removed,
-                edge,
-                node,
-            )
+            redirects::redirect(axis, layout, live_edges, some_removed, edge, node)
         }
     }
 }
@@ -226,38 +171,18 @@ pub fn move_adjacency(
     ensures same { SameSlices store.old store.new }
     ensures moved { MovedEdges direction old new (words_mut store.old) result (words_mut store.new) }
 {
-    let counts = store.counts;
-    let edge_capacity = store.lows.len();
-    let node_capacity = store.nodes.len();
-    let some_removed = walk::tombstoned(counts);
+    let layout = store.layout();
+    let some_removed = walk::tombstoned(layout.counts);
     match direction {
         TraversalDirection::Outgoing => {
             let axis = &mut *store.outgoing;
             let live_edges = &mut *store.live_edges;
-            moves::move_adjacency(
-                axis,
-                edge_capacity,
-                node_capacity,
-                counts,
-                live_edges,
-                some_removed,
-                old,
-                new,
-            )
+            moves::move_adjacency(axis, layout, live_edges, some_removed, old, new)
         }
         TraversalDirection::Incoming => {
             let axis = &mut *store.incoming;
             let live_edges = &mut *store.live_edges;
-            moves::move_adjacency(
-                axis,
-                edge_capacity,
-                node_capacity,
-                counts,
-                live_edges,
-                some_removed,
-                old,
-                new,
-            )
+            moves::move_adjacency(axis, layout, live_edges, some_removed, old, new)
         }
     }
 }

@@ -24,7 +24,7 @@ use validate::judging::check_store;
 pub fn fresh(device: Device, lengths: Lengths) -> Result<Counts, Refusal>
     ensures { Made (device_of device) (measured lengths) result }
 {
-    memory::check_fresh(device, lengths)?;
+    memory::check_fresh(device.limits(), lengths)?;
     Ok(Counts::default())
 }
 

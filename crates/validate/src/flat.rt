@@ -12,7 +12,7 @@ ghost use Rattle.validate_lists.specs.Walks.{walks_test};
 ghost use Rattle.validate.specs.Flat.{at_base, base_entries, delta_links, places, PlaceReadable, EntryPlaced, CountReadable, BaseFlat, DeltaFlat, ListsOnce, FlatReadable, ListsReadable};
 
 use marks::mark;
-use plain::Counts;
+use shape::Layout;
 use validate_lists::runs::runs_once;
 use validate_lists::walks::live_marked;
 use validate_words::axes::words_below;
@@ -20,46 +20,33 @@ use validate_words::rings::{edge_linked, pick};
 
 // Whether a node has a run; where none has, `runless` says so, and its mark is not read. That is what the axis has been seen to hold, and picks no step: an Option of the
 // marks in its place would be no plainer, since each contract here would still speak of the axis beside it.
-fn has_run(
-    axis: &[u32],
-    edge_capacity: usize,
-    node_capacity: usize,
-    runless: bool,
-    node: usize,
-) -> bool
-    requires { Sized axis.now edge_capacity node_capacity × (node < node_capacity) × (runless ≡ true → mark_at axis.now edge_capacity node_capacity node ≡ 0) }
-    ensures { result ≡ not (eqb (mark_at axis.now edge_capacity node_capacity node) 0) }
+fn has_run(axis: &[u32], layout: Layout, runless: bool, node: usize) -> bool
+    requires { Sized axis.now layout.edge_capacity layout.node_capacity × (node < layout.node_capacity) × (runless ≡ true → mark_at axis.now layout.edge_capacity layout.node_capacity node ≡ 0) }
+    ensures { result ≡ not (eqb (mark_at axis.now layout.edge_capacity layout.node_capacity node) 0) }
 {
-    !runless && axis[4 * edge_capacity + 4 * node_capacity + node] != 0
+    !runless && axis[4 * layout.edge_capacity + 4 * layout.node_capacity + node] != 0
 }
 
 // Whether entry i of the compressed index, edge `edge`, stands in the part of its end; only the yes is promised.
-fn entry_placed(
-    axis: &[u32],
-    edge_capacity: usize,
-    node_capacity: usize,
-    base: u32,
-    i: u32,
-    edge: u32,
-) -> bool
-    requires { PlaceReadable axis.now edge_capacity node_capacity base edge }
-    ensures { result ≡ true → EntryPlaced axis.now edge_capacity node_capacity base i edge }
+fn entry_placed(axis: &[u32], layout: Layout, base: u32, i: u32, edge: u32) -> bool
+    requires { PlaceReadable axis.now layout.edge_capacity layout.node_capacity base edge }
+    ensures { result ≡ true → EntryPlaced axis.now layout.edge_capacity layout.node_capacity base i edge }
 {
     let node = axis[edge as usize];
     if node >= base {
         return false;
     }
-    let at = 4 * edge_capacity + 5 * node_capacity + node as usize;
+    let at = 4 * layout.edge_capacity + 5 * layout.node_capacity + node as usize;
     axis[at] <= i && i < axis[at + 1]
 }
 
 // How many entries the compressed index has in the parts of nodes that have no run.
-fn count_places(axis: &[u32], edge_capacity: usize, node_capacity: usize, base: usize) -> u32
-    requires { CountReadable axis.now edge_capacity node_capacity base }
-    ensures { result ≡ length (places axis.now edge_capacity node_capacity base) }
+fn count_places(axis: &[u32], layout: Layout, base: usize) -> u32
+    requires { CountReadable axis.now layout.edge_capacity layout.node_capacity base }
+    ensures { result ≡ length (places axis.now layout.edge_capacity layout.node_capacity base) }
 {
-    let marks = 4 * edge_capacity + 4 * node_capacity;
-    let offsets = 4 * edge_capacity + 5 * node_capacity;
+    let marks = 4 * layout.edge_capacity + 4 * layout.node_capacity;
+    let offsets = 4 * layout.edge_capacity + 5 * layout.node_capacity;
     let mut total = 0;
     for x in 0..base {
         let size = axis[offsets + (x + 1)] - axis[offsets + x];
@@ -70,27 +57,20 @@ fn count_places(axis: &[u32], edge_capacity: usize, node_capacity: usize, base: 
 
 // Whether every entry of the compressed index whose end has no run stands in the part of that end, no such entry is marked, and no other stands in such a part, which
 // is told by their number. Marks them; only the yes is promised.
-fn base_flat(
-    axis: &[u32],
-    edge_capacity: usize,
-    node_capacity: usize,
-    counts: Counts,
-    runless: bool,
-    seen: &mut [u64],
-) -> bool
-    requires { FlatReadable axis.now edge_capacity node_capacity counts runless seen.old }
-    ensures { result ≡ true → BaseFlat axis.now edge_capacity node_capacity counts × Adds (base_entries axis.now edge_capacity node_capacity counts.edges.base) seen.old seen.new }
+fn base_flat(axis: &[u32], layout: Layout, runless: bool, seen: &mut [u64]) -> bool
+    requires { FlatReadable axis.now layout.edge_capacity layout.node_capacity layout.counts runless seen.old }
+    ensures { result ≡ true → BaseFlat axis.now layout.edge_capacity layout.node_capacity layout.counts × Adds (base_entries axis.now layout.edge_capacity layout.node_capacity layout.counts.edges.base) seen.old seen.new }
 {
-    let base = counts.edges.base;
-    let base_nodes = counts.nodes.base;
+    let base = layout.counts.edges.base;
+    let base_nodes = layout.counts.nodes.base;
     let mut placed = 0;
     for i in 0..base {
-        let e = axis[edge_capacity + i as usize];
+        let e = axis[layout.edge_capacity + i as usize];
         let node = axis[e as usize] as usize;
-        if has_run(axis, edge_capacity, node_capacity, runless, node) {
+        if has_run(axis, layout, runless, node) {
             continue;
         }
-        if !entry_placed(axis, edge_capacity, node_capacity, base_nodes, i, e) {
+        if !entry_placed(axis, layout, base_nodes, i, e) {
             return false;
         }
         if !mark(seen, e as usize) {
@@ -98,32 +78,25 @@ fn base_flat(
         }
         placed += 1;
     }
-    runless || count_places(axis, edge_capacity, node_capacity, base_nodes as usize) == placed
+    runless || count_places(axis, layout, base_nodes as usize) == placed
 }
 
 // Whether every edge of the delta whose end has no run is linked, and no link of such an edge is marked. Marks them; only the yes is promised.
-fn delta_flat(
-    axis: &[u32],
-    edge_capacity: usize,
-    node_capacity: usize,
-    counts: Counts,
-    runless: bool,
-    seen: &mut [u64],
-) -> bool
-    requires { FlatReadable axis.now edge_capacity node_capacity counts runless seen.old }
-    ensures { result ≡ true → DeltaFlat axis.now edge_capacity node_capacity counts × Adds (delta_links axis.now edge_capacity node_capacity counts) seen.old seen.new }
+fn delta_flat(axis: &[u32], layout: Layout, runless: bool, seen: &mut [u64]) -> bool
+    requires { FlatReadable axis.now layout.edge_capacity layout.node_capacity layout.counts runless seen.old }
+    ensures { result ≡ true → DeltaFlat axis.now layout.edge_capacity layout.node_capacity layout.counts × Adds (delta_links axis.now layout.edge_capacity layout.node_capacity layout.counts) seen.old seen.new }
 {
-    let base = counts.edges.base;
-    let bound = counts.edges.bound;
+    let base = layout.counts.edges.base;
+    let bound = layout.counts.edges.bound;
     for e in base..bound {
         let node = axis[e as usize] as usize;
-        if has_run(axis, edge_capacity, node_capacity, runless, node) {
+        if has_run(axis, layout, runless, node) {
             continue;
         }
-        if !edge_linked(axis, edge_capacity, node_capacity, base, bound, e) {
+        if !edge_linked(axis, layout, base, bound, e) {
             return false;
         }
-        if !mark(seen, axis[2 * edge_capacity + e as usize] as usize) {
+        if !mark(seen, axis[2 * layout.edge_capacity + e as usize] as usize) {
             return false;
         }
     }
@@ -142,19 +115,12 @@ fn end_live(axis: &[u32], live_nodes: &[u64], live_edges: &[u64], edge: usize) -
 }
 
 // Whether the end of every live edge is live, with no early exit; only the yes is promised.
-fn ends_live(
-    axis: &[u32],
-    edge_capacity: usize,
-    node_capacity: usize,
-    counts: Counts,
-    live_nodes: &[u64],
-    live_edges: &[u64],
-) -> bool
-    requires { ListsReadable axis.now edge_capacity node_capacity counts live_nodes.now live_edges.now }
-    ensures { result ≡ true → (e : ℕ) → e < counts.edges.bound → get_or (live_flags live_edges.now counts.edges.bound) e false ≡ true → get_or (live_flags live_nodes.now counts.nodes.bound) (end_at axis.now e) false ≡ true }
+fn ends_live(axis: &[u32], layout: Layout, live_nodes: &[u64], live_edges: &[u64]) -> bool
+    requires { ListsReadable axis.now layout.edge_capacity layout.node_capacity layout.counts live_nodes.now live_edges.now }
+    ensures { result ≡ true → (e : ℕ) → e < layout.counts.edges.bound → get_or (live_flags live_edges.now layout.counts.edges.bound) e false ≡ true → get_or (live_flags live_nodes.now layout.counts.nodes.bound) (end_at axis.now e) false ≡ true }
 {
-    let bound = counts.edges.bound as usize;
-    if counts.nodes.live == counts.nodes.bound {
+    let bound = layout.counts.edges.bound as usize;
+    if layout.counts.nodes.live == layout.counts.nodes.bound {
         return true;
     }
     let mut right = true;
@@ -167,72 +133,36 @@ fn ends_live(
 // The three passes, on a clear map; only the yes is promised.
 fn lists_once(
     axis: &[u32],
-    edge_capacity: usize,
-    node_capacity: usize,
-    counts: Counts,
+    layout: Layout,
     live_nodes: &[u64],
     live_edges: &[u64],
     runless: bool,
     seen: &mut [u64],
 ) -> bool
-    requires { ListsReadable axis.now edge_capacity node_capacity counts live_nodes.now live_edges.now × FlatReadable axis.now edge_capacity node_capacity counts runless seen.old × ((e : ℕ) → marked seen.old e ≡ false) }
-    ensures { result ≡ true → ListsOnce axis.now edge_capacity node_capacity counts seen.new }
+    requires { ListsReadable axis.now layout.edge_capacity layout.node_capacity layout.counts live_nodes.now live_edges.now × FlatReadable axis.now layout.edge_capacity layout.node_capacity layout.counts runless seen.old × ((e : ℕ) → marked seen.old e ≡ false) }
+    ensures { result ≡ true → ListsOnce axis.now layout.edge_capacity layout.node_capacity layout.counts seen.new }
 {
-    if !runless
-        && !runs_once(
-            axis,
-            edge_capacity,
-            node_capacity,
-            counts,
-            live_nodes,
-            live_edges,
-            seen,
-        )
-    {
+    if !runless && !runs_once(axis, layout, live_nodes, live_edges, seen) {
         return false;
     }
-    base_flat(axis, edge_capacity, node_capacity, counts, runless, seen)
-        && delta_flat(axis, edge_capacity, node_capacity, counts, runless, seen)
+    base_flat(axis, layout, runless, seen) && delta_flat(axis, layout, runless, seen)
 }
 
 // Whether the lists of one direction are quickly seen to be right, by rule 6 and by rule 7; only the yes is promised.
-pub fn lists_flat(
-    axis: &[u32],
-    edge_capacity: usize,
-    node_capacity: usize,
-    counts: Counts,
-    live_nodes: &[u64],
-    live_edges: &[u64],
-) -> bool
-    requires { ListsReadable axis.now edge_capacity node_capacity counts live_nodes.now live_edges.now }
-    ensures { result ≡ true → (runs_test edge_capacity node_capacity counts (live_flags live_nodes.now counts.nodes.bound) (live_flags live_edges.now counts.edges.bound) axis.now ≡ true) × (walks_test axis.now edge_capacity node_capacity counts live_nodes.now live_edges.now ≡ true) }
+pub fn lists_flat(axis: &[u32], layout: Layout, live_nodes: &[u64], live_edges: &[u64]) -> bool
+    requires { ListsReadable axis.now layout.edge_capacity layout.node_capacity layout.counts live_nodes.now live_edges.now }
+    ensures { result ≡ true → (runs_test layout.edge_capacity layout.node_capacity counts (live_flags live_nodes.now layout.counts.nodes.bound) (live_flags live_edges.now layout.counts.edges.bound) axis.now ≡ true) × (walks_test axis.now layout.edge_capacity layout.node_capacity layout.counts live_nodes.now live_edges.now ≡ true) }
 {
-    let slots = counts.edges.bound as usize;
+    let slots = layout.counts.edges.bound as usize;
     let runless = words_below(
         axis,
-        4 * edge_capacity + 4 * node_capacity,
-        counts.nodes.bound as usize,
+        4 * layout.edge_capacity + 4 * layout.node_capacity,
+        layout.counts.nodes.bound as usize,
         1,
     );
     let mut seen = [0u64; 512];
-    if !lists_once(
-        axis,
-        edge_capacity,
-        node_capacity,
-        counts,
-        live_nodes,
-        live_edges,
-        runless,
-        &mut seen,
-    ) {
+    if !lists_once(axis, layout, live_nodes, live_edges, runless, &mut seen) {
         return false;
     }
-    ends_live(
-        axis,
-        edge_capacity,
-        node_capacity,
-        counts,
-        live_nodes,
-        live_edges,
-    ) && live_marked(live_edges, &seen, slots)
+    ends_live(axis, layout, live_nodes, live_edges) && live_marked(live_edges, &seen, slots)
 }

@@ -67,9 +67,7 @@ pub fn lists_seen(store: &Store, direction: TraversalDirection) -> bool
 {
     lists_flat(
         store.axis(direction),
-        store.lows.len(),
-        store.nodes.len(),
-        store.counts,
+        store.layout(),
         store.live_nodes,
         store.live_edges,
     )

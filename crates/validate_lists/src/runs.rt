@@ -13,7 +13,8 @@ ghost use Rattle.validate_lists.specs.Runs.{entry_test, run_test, ends_in, PassR
 
 use liveness::is_live;
 use marks::mark;
-use plain::{Counts, NONE};
+use plain::NONE;
+use shape::Layout;
 
 // Whether an entry of a node's list is right: it is below the bound, not live where the node is removed, ends at the node where `OWN` asks for that, as rule 7 does and
 // rule 6 does not, and is not marked yet. Marks it.
@@ -40,7 +41,7 @@ fn pass<const OWN: bool>(
 // The chain of `count` entries from `first` on, of a node whose live flag is `live`: right entries, the last being `tail`. Marks them.
 fn chain_right<const OWN: bool>(
     axis: &[u32],
-    edge_capacity: usize,
+    layout: Layout,
     words: &[u64],
     bound: u32,
     live: bool,
@@ -50,8 +51,8 @@ fn chain_right<const OWN: bool>(
     tail: u32,
     seen: &mut [u64],
 ) -> bool
-    requires { ChainReadable axis.now edge_capacity words.now bound seen.old }
-    ensures { Followed (run_test axis.now OWN node bound live (live_flags words.now bound)) (ends_in (chain (cell axis.now (3 * edge_capacity)) count first) tail) (chain (cell axis.now (3 * edge_capacity)) count first) seen.old result seen.new }
+    requires { ChainReadable axis.now layout.edge_capacity words.now bound seen.old }
+    ensures { Followed (run_test axis.now OWN node bound live (live_flags words.now bound)) (ends_in (chain (cell axis.now (3 * layout.edge_capacity)) count first) tail) (chain (cell axis.now (3 * layout.edge_capacity)) count first) seen.old result seen.new }
 {
     let mut last = tail;
     let mut e = first;
@@ -60,7 +61,7 @@ fn chain_right<const OWN: bool>(
             return false;
         }
         last = e;
-        e = axis[3 * edge_capacity + e as usize];
+        e = axis[3 * layout.edge_capacity + e as usize];
     }
     last == tail
 }
@@ -68,23 +69,22 @@ fn chain_right<const OWN: bool>(
 // The run of a node that has one, and whose live flag is `live`.
 fn run_right<const OWN: bool>(
     axis: &[u32],
-    edge_capacity: usize,
-    node_capacity: usize,
+    layout: Layout,
     words: &[u64],
     bound: u32,
     node: usize,
     live: bool,
     seen: &mut [u64],
 ) -> bool
-    requires { RunReadable axis.now edge_capacity node_capacity words.now bound node seen.old × (mark_at axis.now edge_capacity node_capacity node ≡ 0 → ⊥) }
-    ensures { Followed (run_test axis.now OWN node bound live (live_flags words.now bound)) (ends_in (run_list axis.now edge_capacity node_capacity node) (tail_at axis.now edge_capacity node_capacity node)) (run_list axis.now edge_capacity node_capacity node) seen.old result seen.new }
+    requires { RunReadable axis.now layout.edge_capacity layout.node_capacity words.now bound node seen.old × (mark_at axis.now layout.edge_capacity layout.node_capacity node ≡ 0 → ⊥) }
+    ensures { Followed (run_test axis.now OWN node bound live (live_flags words.now bound)) (ends_in (run_list axis.now layout.edge_capacity layout.node_capacity node) (tail_at axis.now layout.edge_capacity layout.node_capacity node)) (run_list axis.now layout.edge_capacity layout.node_capacity node) seen.old result seen.new }
 {
-    let first = axis[4 * edge_capacity + node_capacity + node];
-    let tail = axis[4 * edge_capacity + 2 * node_capacity + node];
-    let count = axis[4 * edge_capacity + 3 * node_capacity + node];
+    let first = axis[4 * layout.edge_capacity + layout.node_capacity + node];
+    let tail = axis[4 * layout.edge_capacity + 2 * layout.node_capacity + node];
+    let count = axis[4 * layout.edge_capacity + 3 * layout.node_capacity + node];
     chain_right::<OWN>(
         axis,
-        edge_capacity,
+        layout.edge_capacity,
         words,
         bound,
         live,
@@ -99,34 +99,24 @@ fn run_right<const OWN: bool>(
 // The run of a node by rule 6, right where it has none. Marks the entries.
 fn node_right(
     axis: &[u32],
-    edge_capacity: usize,
-    node_capacity: usize,
+    layout: Layout,
     words: &[u64],
     bound: u32,
     node: usize,
     live: bool,
     seen: &mut [u64],
 ) -> bool
-    requires { RunReadable axis.now edge_capacity node_capacity words.now bound node seen.old }
-    ensures { Followed (entry_test bound live (live_flags words.now bound)) (ends_in (run_list axis.now edge_capacity node_capacity node) (tail_at axis.now edge_capacity node_capacity node)) (run_list axis.now edge_capacity node_capacity node) seen.old result seen.new }
+    requires { RunReadable axis.now layout.edge_capacity layout.node_capacity words.now bound node seen.old }
+    ensures { Followed (entry_test bound live (live_flags words.now bound)) (ends_in (run_list axis.now layout.edge_capacity layout.node_capacity node) (tail_at axis.now layout.edge_capacity layout.node_capacity node)) (run_list axis.now layout.edge_capacity layout.node_capacity node) seen.old result seen.new }
 {
-    axis[4 * edge_capacity + 4 * node_capacity + node] == 0
-        || run_right::<false>(
-            axis,
-            edge_capacity,
-            node_capacity,
-            words,
-            bound,
-            node,
-            live,
-            seen,
-        )
+    axis[4 * layout.edge_capacity + 4 * layout.node_capacity + node] == 0
+        || run_right::<false>(axis, layout, words, bound, node, live, seen)
 }
 
 // The ring of a node from its first entry on up to its last, `count` entries at most: each ends at the node and none is marked. Marks them.
 fn ring_once(
     axis: &[u32],
-    edge_capacity: usize,
+    layout: Layout,
     words: &[u64],
     bound: u32,
     live: bool,
@@ -136,8 +126,8 @@ fn ring_once(
     last: u32,
     seen: &mut [u64],
 ) -> bool
-    requires { ChainReadable axis.now edge_capacity words.now bound seen.old }
-    ensures { Followed (run_test axis.now true node bound live (live_flags words.now bound)) true (until (cell axis.now (2 * edge_capacity)) last count first) seen.old result seen.new }
+    requires { ChainReadable axis.now layout.edge_capacity words.now bound seen.old }
+    ensures { Followed (run_test axis.now true node bound live (live_flags words.now bound)) true (until (cell axis.now (2 * layout.edge_capacity)) last count first) seen.old result seen.new }
 {
     let mut e = first;
     for _ in 0..count {
@@ -147,7 +137,7 @@ fn ring_once(
         if e == last {
             return true;
         }
-        e = axis[2 * edge_capacity + e as usize];
+        e = axis[2 * layout.edge_capacity + e as usize];
     }
     true
 }
@@ -156,8 +146,7 @@ fn ring_once(
 // entries.
 fn node_once(
     axis: &[u32],
-    edge_capacity: usize,
-    node_capacity: usize,
+    layout: Layout,
     words: &[u64],
     base: u32,
     bound: u32,
@@ -165,35 +154,26 @@ fn node_once(
     live: bool,
     seen: &mut [u64],
 ) -> bool
-    requires { RunReadable axis.now edge_capacity node_capacity words.now bound node seen.old × (base ≤ bound) }
-    ensures { result ≡ true → NodeOnce axis.now edge_capacity node_capacity base bound node × Adds (taken axis.now edge_capacity node_capacity base bound node) seen.old seen.new }
+    requires { RunReadable axis.now layout.edge_capacity layout.node_capacity words.now bound node seen.old × (base ≤ bound) }
+    ensures { result ≡ true → NodeOnce axis.now layout.edge_capacity layout.node_capacity base bound node × Adds (taken axis.now layout.edge_capacity layout.node_capacity base bound node) seen.old seen.new }
 {
-    if axis[4 * edge_capacity + 4 * node_capacity + node] == 0 {
+    if axis[4 * layout.edge_capacity + 4 * layout.node_capacity + node] == 0 {
         return true;
     }
-    if !run_right::<true>(
-        axis,
-        edge_capacity,
-        node_capacity,
-        words,
-        bound,
-        node,
-        live,
-        seen,
-    ) {
+    if !run_right::<true>(axis, layout, words, bound, node, live, seen) {
         return false;
     }
-    let last = axis[4 * edge_capacity + node];
+    let last = axis[4 * layout.edge_capacity + node];
     if last == NONE {
         return true;
     }
     if last >= bound {
         return false;
     }
-    let first = axis[2 * edge_capacity + last as usize];
+    let first = axis[2 * layout.edge_capacity + last as usize];
     ring_once(
         axis,
-        edge_capacity,
+        layout.edge_capacity,
         words,
         bound,
         live,
@@ -209,32 +189,20 @@ fn node_once(
 #[inline(never)]
 pub fn runs_once(
     axis: &[u32],
-    edge_capacity: usize,
-    node_capacity: usize,
-    counts: Counts,
+    layout: Layout,
     live_nodes: &[u64],
     live_edges: &[u64],
     seen: &mut [u64],
 ) -> bool
-    requires { RunsReadable axis.now edge_capacity node_capacity counts live_nodes.now live_edges.now × MapClear seen.old }
-    ensures { result ≡ true → RunsOnce axis.now edge_capacity node_capacity counts seen.new }
+    requires { RunsReadable axis.now layout.edge_capacity layout.node_capacity layout.counts live_nodes.now live_edges.now × MapClear seen.old }
+    ensures { result ≡ true → RunsOnce axis.now layout.edge_capacity layout.node_capacity layout.counts seen.new }
 {
-    let base = counts.edges.base;
-    let bound = counts.edges.bound;
-    let node_bound = counts.nodes.bound as usize;
+    let base = layout.counts.edges.base;
+    let bound = layout.counts.edges.bound;
+    let node_bound = layout.counts.nodes.bound as usize;
     for x in 0..node_bound {
         let live = is_live(live_nodes, node_bound, x);
-        if !node_once(
-            axis,
-            edge_capacity,
-            node_capacity,
-            live_edges,
-            base,
-            bound,
-            x,
-            live,
-            seen,
-        ) {
+        if !node_once(axis, layout, live_edges, base, bound, x, live, seen) {
             return false;
         }
     }
@@ -242,32 +210,16 @@ pub fn runs_once(
 }
 
 // Rule 6: the runs of all nodes, removed or not.
-pub fn runs_right(
-    axis: &[u32],
-    edge_capacity: usize,
-    node_capacity: usize,
-    counts: Counts,
-    live_nodes: &[u64],
-    live_edges: &[u64],
-) -> bool
-    requires { RunsReadable axis.now edge_capacity node_capacity counts live_nodes.now live_edges.now }
-    ensures { result ≡ runs_test edge_capacity node_capacity counts (live_flags live_nodes.now counts.nodes.bound) (live_flags live_edges.now counts.edges.bound) axis.now }
+pub fn runs_right(axis: &[u32], layout: Layout, live_nodes: &[u64], live_edges: &[u64]) -> bool
+    requires { RunsReadable axis.now layout.edge_capacity layout.node_capacity layout.counts live_nodes.now live_edges.now }
+    ensures { result ≡ runs_test layout.edge_capacity layout.node_capacity counts (live_flags live_nodes.now layout.counts.nodes.bound) (live_flags live_edges.now layout.counts.edges.bound) axis.now }
 {
-    let bound = counts.edges.bound;
-    let node_bound = counts.nodes.bound as usize;
+    let bound = layout.counts.edges.bound;
+    let node_bound = layout.counts.nodes.bound as usize;
     let mut seen = [0u64; 512];
     for x in 0..node_bound {
         let live = is_live(live_nodes, node_bound, x);
-        if !node_right(
-            axis,
-            edge_capacity,
-            node_capacity,
-            live_edges,
-            bound,
-            x,
-            live,
-            &mut seen,
-        ) {
+        if !node_right(axis, layout, live_edges, bound, x, live, &mut seen) {
             return false;
         }
     }

@@ -14,7 +14,7 @@ use adjacency::walk;
 use cursor::edges::AdjacentEdges;
 use liveness::is_live;
 use marks::mark;
-use plain::Counts;
+use shape::Layout;
 
 // An edge of a walk ends at the node, by the column `ends`, and is not marked yet. Marks it.
 fn pass(ends: &[u32], node: u32, edge: u32, seen: &mut [u64]) -> bool
@@ -40,26 +40,16 @@ fn list_right(edges: AdjacentEdges, ends: &[u32], node: u32, seen: &mut [u64]) -
 // The walk of one node, whose live flag is `live`.
 fn walk_right(
     axis: &[u32],
-    edge_capacity: usize,
-    node_capacity: usize,
-    counts: Counts,
+    layout: Layout,
     words: &[u64],
     node: u32,
     live: bool,
     seen: &mut [u64],
 ) -> bool
-    requires { WalkReadable axis.now edge_capacity node_capacity counts words.now node seen.old }
-    ensures { Followed (λ e. eqb (end_at axis.now e) node) true (walk_in axis.now edge_capacity node_capacity counts words.now node live) seen.old result seen.new }
+    requires { WalkReadable axis.now layout.edge_capacity layout.node_capacity layout.counts words.now node seen.old }
+    ensures { Followed (λ e. eqb (end_at axis.now e) node) true (walk_in axis.now layout.edge_capacity layout.node_capacity layout.counts words.now node live) seen.old result seen.new }
 {
-    let edges = walk::edges(
-        axis,
-        edge_capacity,
-        node_capacity,
-        counts,
-        words,
-        node as usize,
-        live,
-    );
+    let edges = walk::edges(axis, layout, words, node as usize, live);
     list_right(edges, axis, node, seen)
 }
 
@@ -102,33 +92,17 @@ pub fn live_marked(words: &[u64], seen: &[u64], slots: usize) -> bool
 }
 
 // Rule 7: the walks of all nodes list each live edge once, at its end, and nothing else.
-pub fn walks_right(
-    axis: &[u32],
-    edge_capacity: usize,
-    node_capacity: usize,
-    counts: Counts,
-    live_nodes: &[u64],
-    live_edges: &[u64],
-) -> bool
-    requires { WalksReadable axis.now edge_capacity node_capacity counts live_nodes.now live_edges.now }
-    ensures { result ≡ walks_test axis.now edge_capacity node_capacity counts live_nodes.now live_edges.now }
+pub fn walks_right(axis: &[u32], layout: Layout, live_nodes: &[u64], live_edges: &[u64]) -> bool
+    requires { WalksReadable axis.now layout.edge_capacity layout.node_capacity layout.counts live_nodes.now live_edges.now }
+    ensures { result ≡ walks_test axis.now layout.edge_capacity layout.node_capacity layout.counts live_nodes.now live_edges.now }
 {
-    let node_bound = counts.nodes.bound;
+    let node_bound = layout.counts.nodes.bound;
     let mut seen = [0u64; 512];
     for x in 0..node_bound {
         let live = is_live(live_nodes, node_bound as usize, x as usize);
-        if !walk_right(
-            axis,
-            edge_capacity,
-            node_capacity,
-            counts,
-            live_edges,
-            x,
-            live,
-            &mut seen,
-        ) {
+        if !walk_right(axis, layout, live_edges, x, live, &mut seen) {
             return false;
         }
     }
-    live_marked(live_edges, &seen, counts.edges.bound as usize)
+    live_marked(live_edges, &seen, layout.counts.edges.bound as usize)
 }

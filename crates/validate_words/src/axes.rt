@@ -1,12 +1,11 @@
 // Rules 3 and 4 for one direction: the ends of the edges and the compressed index.
-
 ghost use Rattle.std.specs.Prelude.{suc, ◌+◌, ◌≤◌, ◌<◌, ◌≡◌, length, get_or, leb, ltb};
 ghost use Rattle.plain.specs.Lists.{all, from};
 ghost use Rattle.shape.specs.Columns.{cell};
 ghost use Rattle.shape.specs.Rules.{ends_right as ends_test, index_right as index_test};
 ghost use Rattle.validate_words.specs.Sizes.{AxisSized};
 
-use plain::Counts;
+use shape::Layout;
 
 // The words of a column, `count` of them from `at` on, are below a bound. No early exit, so that it is a pass over vectors. Internal.
 pub fn words_below(axis: &[u32], at: usize, count: usize, bound: u32) -> bool
@@ -33,11 +32,16 @@ pub fn none_above(lows: &[u32], highs: &[u32], count: usize) -> bool
 }
 
 // Rule 3: the end of every edge, removed or not, is below the node bound.
-pub fn ends_right(axis: &[u32], edge_capacity: usize, node_capacity: usize, counts: Counts) -> bool
-    requires { AxisSized axis.now edge_capacity node_capacity counts }
-    ensures { result ≡ ends_test counts axis.now }
+pub fn ends_right(axis: &[u32], layout: Layout) -> bool
+    requires { AxisSized axis.now layout.edge_capacity layout.node_capacity layout.counts }
+    ensures { result ≡ ends_test layout.counts axis.now }
 {
-    words_below(axis, 0, counts.edges.bound as usize, counts.nodes.bound)
+    words_below(
+        axis,
+        0,
+        layout.counts.edges.bound as usize,
+        layout.counts.nodes.bound,
+    )
 }
 
 // The offsets up to the base count do not descend.
@@ -50,16 +54,16 @@ fn offsets_ascend(axis: &[u32], at: usize, base: usize) -> bool
 
 // Rule 4: the compressed index. No index word is read where both base counts are 0.
 #[tactic(auto, unfolding(shape::specs::Rules::index_right))]
-pub fn index_right(axis: &[u32], edge_capacity: usize, node_capacity: usize, counts: Counts) -> bool
-    requires { AxisSized axis.now edge_capacity node_capacity counts }
-    ensures { result ≡ index_test edge_capacity node_capacity counts.nodes.base counts.edges.base axis.now }
+pub fn index_right(axis: &[u32], layout: Layout) -> bool
+    requires { AxisSized axis.now layout.edge_capacity layout.node_capacity layout.counts }
+    ensures { result ≡ index_test layout.edge_capacity layout.node_capacity layout.counts.nodes.base layout.counts.edges.base axis.now }
 {
-    let base_nodes = counts.nodes.base as usize;
-    let base_edges = counts.edges.base;
-    let at = 4 * edge_capacity + 5 * node_capacity;
+    let base_nodes = layout.counts.nodes.base as usize;
+    let base_edges = layout.counts.edges.base;
+    let at = 4 * layout.edge_capacity + 5 * layout.node_capacity;
     (base_nodes == 0 && base_edges == 0)
         || (axis[at] == 0
             && offsets_ascend(axis, at, base_nodes)
             && axis[at + base_nodes] == base_edges
-            && words_below(axis, edge_capacity, base_edges as usize, base_edges))
+            && words_below(axis, layout.edge_capacity, base_edges as usize, base_edges))
 }

@@ -9,7 +9,8 @@ ghost use Rattle.validate_words.specs.Sizes.{AxisSized};
 ghost use Rattle.validate_words.specs.Rings.{own_test, RingReadable};
 ghost use Rattle.validate_words.specs.Climbs.{Picked, is_last, some_at, Linked, Climbs, EndReadable, LinkReadable, StepReadable};
 
-use plain::{Counts, NONE};
+use plain::NONE;
+use shape::Layout;
 
 // Whether an edge may be in the ring of a node: it is of the delta, and the node is its end.
 #[tactic(auto, unfolding(crate::specs::Rings::own_test))]
@@ -21,18 +22,18 @@ fn own_edge(axis: &[u32], base: u32, bound: u32, node: u32, edge: u32) -> bool
 }
 
 // The ring of one node: none, or the links from its last edge come back to it.
-fn ring_right(axis: &[u32], edge_capacity: usize, base: u32, bound: u32, node: u32) -> bool
-    requires { RingReadable axis.now edge_capacity base bound node }
-    ensures { result ≡ ring_test edge_capacity base bound axis.now node }
+fn ring_right(axis: &[u32], layout: Layout, base: u32, bound: u32, node: u32) -> bool
+    requires { RingReadable axis.now layout.edge_capacity base bound node }
+    ensures { result ≡ ring_test layout.edge_capacity base bound axis.now node }
 {
-    let last = axis[4 * edge_capacity + node as usize];
+    let last = axis[4 * layout.edge_capacity + node as usize];
     if last == NONE {
         return true;
     }
     if last >= bound {
         return false;
     }
-    let mut e = axis[2 * edge_capacity + last as usize];
+    let mut e = axis[2 * layout.edge_capacity + last as usize];
     for _ in base..bound {
         if !own_edge(axis, base, bound, node, e) {
             return false;
@@ -40,7 +41,7 @@ fn ring_right(axis: &[u32], edge_capacity: usize, base: u32, bound: u32, node: u
         if e == last {
             return true;
         }
-        e = axis[2 * edge_capacity + e as usize];
+        e = axis[2 * layout.edge_capacity + e as usize];
     }
     false
 }
@@ -53,20 +54,13 @@ pub fn pick(a: u32, b: u32, same: u32, other: u32) -> u32
 }
 
 // Whether an edge's link is an edge of the delta of the same end, and further up unless the edge is the last of its end's ring; only the yes is promised.
-pub fn edge_linked(
-    axis: &[u32],
-    edge_capacity: usize,
-    node_capacity: usize,
-    base: u32,
-    bound: u32,
-    edge: u32,
-) -> bool
-    requires { LinkReadable axis.now edge_capacity node_capacity bound edge }
-    ensures { result ≡ true → Linked axis.now edge_capacity base bound edge }
+pub fn edge_linked(axis: &[u32], layout: Layout, base: u32, bound: u32, edge: u32) -> bool
+    requires { LinkReadable axis.now layout.edge_capacity layout.node_capacity bound edge }
+    ensures { result ≡ true → Linked axis.now layout.edge_capacity base bound edge }
 {
     let node = axis[edge as usize];
-    let last = axis[4 * edge_capacity + node as usize];
-    let next = axis[2 * edge_capacity + edge as usize];
+    let last = axis[4 * layout.edge_capacity + node as usize];
+    let next = axis[2 * layout.edge_capacity + edge as usize];
     base <= next
         && next < bound
         && axis[next as usize] == node
@@ -74,33 +68,25 @@ pub fn edge_linked(
 }
 
 // Whether the end of an edge of the delta is a node, and where that has a ring the edge is linked; only the yes is promised.
-fn edge_climbs(
-    axis: &[u32],
-    edge_capacity: usize,
-    node_capacity: usize,
-    base: u32,
-    bound: u32,
-    ends: u32,
-    edge: u32,
-) -> bool
-    requires { StepReadable axis.now edge_capacity node_capacity bound ends edge }
-    ensures { result ≡ true → Climbs axis.now edge_capacity base bound ends edge }
+fn edge_climbs(axis: &[u32], layout: Layout, base: u32, bound: u32, ends: u32, edge: u32) -> bool
+    requires { StepReadable axis.now layout.edge_capacity layout.node_capacity bound ends edge }
+    ensures { result ≡ true → Climbs axis.now layout.edge_capacity base bound ends edge }
 {
     let node = axis[edge as usize];
     if node >= ends {
         return false;
     }
-    axis[4 * edge_capacity + node as usize] == NONE
-        || edge_linked(axis, edge_capacity, node_capacity, base, bound, edge)
+    axis[4 * layout.edge_capacity + node as usize] == NONE
+        || edge_linked(axis, layout, base, bound, edge)
 }
 
 // How many rings an edge is the last of, 1 or 0: added up with no branch on what the words hold.
-fn rings_ended(axis: &[u32], edge_capacity: usize, node_capacity: usize, edge: u32) -> u32
-    requires { EndReadable axis.now edge_capacity node_capacity edge }
-    ensures { result ≡ cond (is_last axis.now edge_capacity edge) 1 0 }
+fn rings_ended(axis: &[u32], layout: Layout, edge: u32) -> u32
+    requires { EndReadable axis.now layout.edge_capacity layout.node_capacity edge }
+    ensures { result ≡ cond (is_last axis.now layout.edge_capacity edge) 1 0 }
 {
     let node = axis[edge as usize];
-    pick(axis[4 * edge_capacity + node as usize], edge, 1, 0)
+    pick(axis[4 * layout.edge_capacity + node as usize], edge, 1, 0)
 }
 
 // How many nodes have a ring: the words of a column, `count` of them from `at` on, that are not NONE.
@@ -116,36 +102,36 @@ fn ring_count(axis: &[u32], at: usize, count: u32) -> u32
 }
 
 // Whether the rings climb, which is quick to see and enough: no edge of the delta fails its step, and as many are a ring's last as there are rings.
-fn rings_climb(axis: &[u32], edge_capacity: usize, node_capacity: usize, counts: Counts) -> bool
-    requires { AxisSized axis.now edge_capacity node_capacity counts }
-    ensures { result ≡ true → all (ring_test edge_capacity counts.edges.base counts.edges.bound axis.now) (from 0 counts.nodes.bound) ≡ true }
+fn rings_climb(axis: &[u32], layout: Layout) -> bool
+    requires { AxisSized axis.now layout.edge_capacity layout.node_capacity layout.counts }
+    ensures { result ≡ true → all (ring_test layout.edge_capacity layout.counts.edges.base layout.counts.edges.bound axis.now) (from 0 layout.counts.nodes.bound) ≡ true }
 {
-    let base = counts.edges.base;
-    let bound = counts.edges.bound;
-    let ends = counts.nodes.bound;
+    let base = layout.counts.edges.base;
+    let bound = layout.counts.edges.bound;
+    let ends = layout.counts.nodes.bound;
     let mut lasts = 0;
     for e in base..bound {
-        if !edge_climbs(axis, edge_capacity, node_capacity, base, bound, ends, e) {
+        if !edge_climbs(axis, layout, base, bound, ends, e) {
             return false;
         }
-        lasts += rings_ended(axis, edge_capacity, node_capacity, e);
+        lasts += rings_ended(axis, layout, e);
     }
-    ring_count(axis, 4 * edge_capacity, ends) == lasts
+    ring_count(axis, 4 * layout.edge_capacity, ends) == lasts
 }
 
 // Rule 5: the rings of all nodes, removed or not.
-pub fn rings_right(axis: &[u32], edge_capacity: usize, node_capacity: usize, counts: Counts) -> bool
-    requires { AxisSized axis.now edge_capacity node_capacity counts }
-    ensures { result ≡ all (ring_test edge_capacity counts.edges.base counts.edges.bound axis.now) (from 0 counts.nodes.bound) }
+pub fn rings_right(axis: &[u32], layout: Layout) -> bool
+    requires { AxisSized axis.now layout.edge_capacity layout.node_capacity layout.counts }
+    ensures { result ≡ all (ring_test layout.edge_capacity layout.counts.edges.base layout.counts.edges.bound axis.now) (from 0 layout.counts.nodes.bound) }
 {
-    let base = counts.edges.base;
-    let bound = counts.edges.bound;
-    let node_bound = counts.nodes.bound;
-    if rings_climb(axis, edge_capacity, node_capacity, counts) {
+    let base = layout.counts.edges.base;
+    let bound = layout.counts.edges.bound;
+    let node_bound = layout.counts.nodes.bound;
+    if rings_climb(axis, layout) {
         return true;
     }
     for x in 0..node_bound {
-        if !ring_right(axis, edge_capacity, base, bound, x) {
+        if !ring_right(axis, layout, base, bound, x) {
             return false;
         }
     }

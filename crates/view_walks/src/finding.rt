@@ -22,9 +22,7 @@ pub fn find(store: &Store, first: u32, second: u32) -> Result<Option<u32>, Refus
     let edge = walk::find(
         store.outgoing,
         store.incoming,
-        store.lows.len(),
-        store.nodes.len(),
-        store.counts,
+        store.layout(),
         store.live_edges,
         first as usize,
         store.is_node_live(first),

@@ -8,9 +8,9 @@ use Rattle.image_read.proofs.read_base.Goals as goal
 pub returns : goal.returns
 returns c =
     let a = c.args in
-    let all = a.edge_capacity + a.count_edges in
-    let many : all - a.edge_capacity ≡ a.count_edges = omega arith in
-    let room : a.edge_capacity + (all - a.edge_capacity) ≤ length c.count_offsets.new.axis = omega (arith, c.count_offsets.ensures.long, c.requires.entries.room) in
+    let all = a.layout.edge_capacity + a.count_edges in
+    let many : all - a.layout.edge_capacity ≡ a.count_edges = omega arith in
+    let room : a.layout.edge_capacity + (all - a.layout.edge_capacity) ≤ length c.count_offsets.new.axis = omega (arith, c.count_offsets.ensures.long, c.requires.entries.room) in
     base_read c.requires c.count_offsets.ensures
-    (part_rewritten_as c.count_offsets.new.axis a.edge_capacity (all - a.edge_capacity) room c.read_fields.ensures many)
+    (part_rewritten_as c.count_offsets.new.axis a.layout.edge_capacity (all - a.layout.edge_capacity) room c.read_fields.ensures many)
     c.fill_words.ensures c.fill_words-2.ensures

@@ -10,7 +10,7 @@ some_left : (c : In-loop) → 0 < c.args.length - c.loop.counter
 some_left c = omega (arith, c.loop-test.true)
 
 -- the present entry is an edge
-next_in : (c : In-loop) → c.loop.next < c.args.edge_capacity
+next_in : (c : In-loop) → c.loop.next < c.args.layout.edge_capacity
 next_in c = omega (arith, append_below c.requires (some_left c) c.loop.invariant, c.requires.editable.edges_within)
 
 pub loop-init : goal.loop-init

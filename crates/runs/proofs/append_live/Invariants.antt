@@ -5,4 +5,4 @@ use Rattle.runs.proofs.append_live.Given as goal
 
 abbrev pub invariant-loop : goal.invariant-loop
 invariant-loop l =
-    Appending l.initial.axis l.axis l.edge_capacity l.node_capacity l.counts l.node l.live l.first l.length l.next (l.length - l.counter)
+    Appending l.initial.axis l.axis l.layout.edge_capacity l.layout.node_capacity l.layout.counts l.node l.live l.first l.length l.next (l.length - l.counter)

@@ -6,7 +6,7 @@ use Rattle.runs.proofs.find_before.Goals.{At-loop}
 use Rattle.runs.proofs.find_before.Goals as goal
 
 -- the present entry is an edge
-before_in : (c : At-loop) → c.loop.before < c.args.edge_capacity
+before_in : (c : At-loop) → c.loop.before < c.args.layout.edge_capacity
 before_in c = search_below c.args.entry c.requires c.loop.invariant
 
 pub loop-init : goal.loop-init

@@ -4,4 +4,4 @@ use Rattle.runs.proofs.Searching.{Searching}
 use Rattle.runs.proofs.find_before.Given as goal
 
 abbrev pub invariant-loop : goal.invariant-loop
-invariant-loop l = Searching l.axis l.edge_capacity l.first l.length l.entry l.before (l.length - l.counter)
+invariant-loop l = Searching l.axis l.layout.edge_capacity l.first l.length l.entry l.before (l.length - l.counter)

@@ -4,4 +4,4 @@ use Rattle.runs.proofs.Scanning.{Scanning}
 use Rattle.runs.proofs.live_front.Given as goal
 
 abbrev pub invariant-loop-read : goal.invariant-loop-read
-invariant-loop-read l = Scanning l.axis l.edge_capacity l.node_capacity l.node l.live l.bound l.last l.next (l.length - l.read)
+invariant-loop-read l = Scanning l.axis l.layout.edge_capacity l.layout.node_capacity l.node l.live l.bound l.last l.next (l.length - l.read)

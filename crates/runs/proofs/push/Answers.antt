@@ -7,7 +7,7 @@ use Rattle.runs.proofs.push.Goals.{Else-length-eq0}
 use Rattle.runs.proofs.push.Goals as goal
 
 -- the last entry of a run that is not empty is an edge
-last_in : (c : Else-length-eq0) → let a = c.args in tail_at a.axis.now a.edge_capacity a.node_capacity a.node < a.edge_capacity
+last_in : (c : Else-length-eq0) → let a = c.args in tail_at a.axis.now a.layout.edge_capacity a.layout.node_capacity a.node < a.layout.edge_capacity
 last_in c = push_last c.requires c.if-length-eq0.false
 
 pub overflow_add-axis : goal.overflow_add-axis

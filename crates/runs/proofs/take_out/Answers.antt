@@ -7,7 +7,7 @@ use Rattle.runs.proofs.take_out.Goals.{Else-length-eq0}
 use Rattle.runs.proofs.take_out.Goals as goal
 
 -- the first entry of a run that is not empty is an edge
-first_in : (c : Else-length-eq0) → let a = c.args in first_at a.axis.now a.edge_capacity a.node_capacity a.node < a.edge_capacity
+first_in : (c : Else-length-eq0) → let a = c.args in first_at a.axis.now a.layout.edge_capacity a.layout.node_capacity a.node < a.layout.edge_capacity
 first_in c = out_first c.requires c.args.entry c.if-length-eq0.false
 
 pub returns-then-length-eq0 : goal.returns-then-length-eq0

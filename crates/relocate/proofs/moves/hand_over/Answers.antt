@@ -7,11 +7,11 @@ use Rattle.relocate.proofs.moves.hand_over.Goals.{Else-moved-eq0, Else-present-e
 use Rattle.relocate.proofs.moves.hand_over.Goals as goal
 
 -- there are entries to hand over
-some_moved : (c : Else-moved-eq0) → let a = c.args in count_at a.axis.now a.edge_capacity a.node_capacity a.old ≢ 0
+some_moved : (c : Else-moved-eq0) → let a = c.args in count_at a.axis.now a.layout.edge_capacity a.layout.node_capacity a.old ≢ 0
 some_moved c = c.if-moved-eq0.false
 
 -- the last entry of the second run is an edge
-last_in : (c : Else-present-eq0) → let a = c.args in tail_at a.axis.now a.edge_capacity a.node_capacity a.new < a.edge_capacity
+last_in : (c : Else-present-eq0) → let a = c.args in tail_at a.axis.now a.layout.edge_capacity a.layout.node_capacity a.new < a.layout.edge_capacity
 last_in c = hand_last c.requires c.if-present-eq0.false
 
 pub returns-then-moved-eq0 : goal.returns-then-moved-eq0

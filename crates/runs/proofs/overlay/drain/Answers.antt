@@ -6,7 +6,7 @@ use Rattle.runs.proofs.overlay.drain.Goals.{At-loop-next}
 use Rattle.runs.proofs.overlay.drain.Goals as goal
 
 -- the present entry is an edge
-next_in : (c : At-loop-next) → c.loop-next.next < c.args.edge_capacity
+next_in : (c : At-loop-next) → c.loop-next.next < c.args.layout.edge_capacity
 next_in c = omega (arith, drain_below c.requires c.loop-next.invariant, c.requires.ready.editable.edges_within)
 
 pub ring_ends-requires : goal.ring_ends-requires

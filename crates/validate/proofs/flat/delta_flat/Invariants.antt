@@ -8,4 +8,4 @@ use Rattle.validate.proofs.flat.delta_flat.Given as goal
 
 abbrev pub invariant-loop-e : goal.invariant-loop-e
 invariant-loop-e l =
-    Marking (next_at l.axis l.edge_capacity) (at_base l.axis l.edge_capacity l.node_capacity) (Linked l.axis l.edge_capacity l.base l.bound) l.base l.bound l.e l.initial.seen l.seen
+    Marking (next_at l.axis l.layout.edge_capacity) (at_base l.axis l.layout.edge_capacity l.layout.node_capacity) (Linked l.axis l.layout.edge_capacity l.base l.bound) l.base l.bound l.e l.initial.seen l.seen

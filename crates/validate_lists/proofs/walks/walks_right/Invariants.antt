@@ -4,4 +4,4 @@ use Rattle.validate_lists.proofs.Walking.{Walking}
 use Rattle.validate_lists.proofs.walks.walks_right.Given as goal
 
 abbrev pub invariant-loop-x : goal.invariant-loop-x
-invariant-loop-x l = Walking l.axis l.edge_capacity l.node_capacity l.counts l.live_nodes l.live_edges l.x l.seen
+invariant-loop-x l = Walking l.axis l.layout.edge_capacity l.layout.node_capacity l.layout.counts l.live_nodes l.live_edges l.x l.seen

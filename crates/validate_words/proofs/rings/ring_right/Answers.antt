@@ -11,8 +11,8 @@ use Rattle.validate_words.proofs.rings.ring_right.Goals as goal
 -- a ring is what its links decide
 some : (c : At-loop)
     → let a = c.args in
-    closes (cell a.axis.now (2 * a.edge_capacity)) (last_at a.axis.now a.edge_capacity a.node) (own_test a.base a.bound a.axis.now a.node) (c.args.bound - c.loop.counter) c.loop.e
-    ≡ ring_right a.edge_capacity a.base a.bound a.axis.now a.node
+    closes (cell a.axis.now (2 * a.layout.edge_capacity)) (last_at a.axis.now a.layout.edge_capacity a.node) (own_test a.base a.bound a.axis.now a.node) (c.args.bound - c.loop.counter) c.loop.e
+    ≡ ring_right a.layout.edge_capacity a.base a.bound a.axis.now a.node
 some c = sym c.loop.invariant ∙ ring_some _ _ _ _ _ c.if-last.false
 
 -- the entry is one of the node's own edges

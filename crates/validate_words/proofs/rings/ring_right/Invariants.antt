@@ -7,5 +7,5 @@ use Rattle.validate_words.proofs.rings.ring_right.Given as goal
 
 abbrev pub invariant-loop : goal.invariant-loop
 invariant-loop l =
-    closes (cell l.axis (2 * l.edge_capacity)) l.last (own_test l.base l.bound l.axis l.node) (l.bound - l.base) (cell l.axis (2 * l.edge_capacity) l.last)
-    ≡ closes (cell l.axis (2 * l.edge_capacity)) l.last (own_test l.base l.bound l.axis l.node) (l.bound - l.counter) l.e
+    closes (cell l.axis (2 * l.layout.edge_capacity)) l.last (own_test l.base l.bound l.axis l.node) (l.bound - l.base) (cell l.axis (2 * l.layout.edge_capacity) l.last)
+    ≡ closes (cell l.axis (2 * l.layout.edge_capacity)) l.last (own_test l.base l.bound l.axis l.node) (l.bound - l.counter) l.e

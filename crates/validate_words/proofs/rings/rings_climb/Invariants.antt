@@ -3,4 +3,4 @@ use Rattle.validate_words.proofs.Climbing.{Climbing}
 use Rattle.validate_words.proofs.rings.rings_climb.Given as goal
 
 abbrev pub invariant-loop-e : goal.invariant-loop-e
-invariant-loop-e l = Climbing l.axis l.edge_capacity l.base l.bound l.ends l.e l.lasts
+invariant-loop-e l = Climbing l.axis l.layout.edge_capacity l.base l.bound l.ends l.e l.lasts

@@ -7,4 +7,4 @@ use Rattle.validate_words.proofs.rings.rings_right.Given as goal
 
 abbrev pub invariant-loop-x : goal.invariant-loop-x
 invariant-loop-x l =
-    all (ring_right l.edge_capacity l.base l.bound l.axis) (from 0 l.node_bound) ≡ rest (ring_right l.edge_capacity l.base l.bound l.axis) l.x l.node_bound
+    all (ring_right l.layout.edge_capacity l.base l.bound l.axis) (from 0 l.node_bound) ≡ rest (ring_right l.layout.edge_capacity l.base l.bound l.axis) l.x l.node_bound
