@@ -13,7 +13,7 @@ fn copy_base(axis: &mut [u32], layout: Layout, node: usize, live: &[u64])
     requires { Copyable axis.old layout.edge_capacity layout.node_capacity layout.counts live.now node }
     ensures { Copied axis.old axis.new layout.edge_capacity layout.node_capacity layout.counts live.now node }
 {
-    let base = base_bounds(axis, layout, layout.counts.nodes.base as usize, node);
+    let base = base_bounds(axis, layout, node);
     for at in base.start..base.end {
         let entry = axis[layout.edge_capacity + at as usize];
         keep_one(axis, layout, node, live, entry);

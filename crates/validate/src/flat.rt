@@ -93,7 +93,7 @@ fn delta_flat(axis: &[u32], layout: Layout, runless: bool, seen: &mut [u64]) -> 
         if has_run(axis, layout, runless, node) {
             continue;
         }
-        if !edge_linked(axis, layout, base, bound, e) {
+        if !edge_linked(axis, layout, e) {
             return false;
         }
         if !mark(seen, axis[2 * layout.edge_capacity + e as usize] as usize) {

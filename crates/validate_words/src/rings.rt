@@ -22,10 +22,12 @@ fn own_edge(axis: &[u32], base: u32, bound: u32, node: u32, edge: u32) -> bool
 }
 
 // The ring of one node: none, or the links from its last edge come back to it.
-fn ring_right(axis: &[u32], layout: Layout, base: u32, bound: u32, node: u32) -> bool
-    requires { RingReadable axis.now layout.edge_capacity base bound node }
-    ensures { result ≡ ring_test layout.edge_capacity base bound axis.now node }
+fn ring_right(axis: &[u32], layout: Layout, node: u32) -> bool
+    requires { RingReadable axis.now layout.edge_capacity layout.counts.edges.base layout.counts.edges.bound node }
+    ensures { result ≡ ring_test layout.edge_capacity layout.counts.edges.base layout.counts.edges.bound axis.now node }
 {
+    let base = layout.counts.edges.base;
+    let bound = layout.counts.edges.bound;
     let last = axis[4 * layout.edge_capacity + node as usize];
     if last == NONE {
         return true;
@@ -54,30 +56,30 @@ pub fn pick(a: u32, b: u32, same: u32, other: u32) -> u32
 }
 
 // Whether an edge's link is an edge of the delta of the same end, and further up unless the edge is the last of its end's ring; only the yes is promised.
-pub fn edge_linked(axis: &[u32], layout: Layout, base: u32, bound: u32, edge: u32) -> bool
-    requires { LinkReadable axis.now layout.edge_capacity layout.node_capacity bound edge }
-    ensures { result ≡ true → Linked axis.now layout.edge_capacity base bound edge }
+pub fn edge_linked(axis: &[u32], layout: Layout, edge: u32) -> bool
+    requires { LinkReadable axis.now layout.edge_capacity layout.node_capacity layout.counts.edges.bound edge }
+    ensures { result ≡ true → Linked axis.now layout.edge_capacity layout.counts.edges.base layout.counts.edges.bound edge }
 {
+    let bound = layout.counts.edges.bound;
     let node = axis[edge as usize];
     let last = axis[4 * layout.edge_capacity + node as usize];
     let next = axis[2 * layout.edge_capacity + edge as usize];
-    base <= next
+    layout.counts.edges.base <= next
         && next < bound
         && axis[next as usize] == node
         && pick(last, edge, bound, next) > edge
 }
 
 // Whether the end of an edge of the delta is a node, and where that has a ring the edge is linked; only the yes is promised.
-fn edge_climbs(axis: &[u32], layout: Layout, base: u32, bound: u32, ends: u32, edge: u32) -> bool
-    requires { StepReadable axis.now layout.edge_capacity layout.node_capacity bound ends edge }
-    ensures { result ≡ true → Climbs axis.now layout.edge_capacity base bound ends edge }
+fn edge_climbs(axis: &[u32], layout: Layout, edge: u32) -> bool
+    requires { StepReadable axis.now layout.edge_capacity layout.node_capacity layout.counts.edges.bound layout.counts.nodes.bound edge }
+    ensures { result ≡ true → Climbs axis.now layout.edge_capacity layout.counts.edges.base layout.counts.edges.bound layout.counts.nodes.bound edge }
 {
     let node = axis[edge as usize];
-    if node >= ends {
+    if node >= layout.counts.nodes.bound {
         return false;
     }
-    axis[4 * layout.edge_capacity + node as usize] == NONE
-        || edge_linked(axis, layout, base, bound, edge)
+    axis[4 * layout.edge_capacity + node as usize] == NONE || edge_linked(axis, layout, edge)
 }
 
 // How many rings an edge is the last of, 1 or 0: added up with no branch on what the words hold.
@@ -111,7 +113,7 @@ fn rings_climb(axis: &[u32], layout: Layout) -> bool
     let ends = layout.counts.nodes.bound;
     let mut lasts = 0;
     for e in base..bound {
-        if !edge_climbs(axis, layout, base, bound, ends, e) {
+        if !edge_climbs(axis, layout, e) {
             return false;
         }
         lasts += rings_ended(axis, layout, e);
@@ -131,7 +133,7 @@ pub fn rings_right(axis: &[u32], layout: Layout) -> bool
         return true;
     }
     for x in 0..node_bound {
-        if !ring_right(axis, layout, base, bound, x) {
+        if !ring_right(axis, layout, x) {
             return false;
         }
     }

@@ -22,11 +22,11 @@ overflow_cast-next c = omega (arith, next_in (goal.at.overflow_cast-next c).In-l
 pub overflow_add-next : goal.overflow_add-next
 overflow_add-next c = omega (arith, next_in (goal.at.overflow_add-next c).In-loop)
 
-pub offset_bounds-axis-edge_capacity : goal.offset_bounds-axis-edge_capacity
-offset_bounds-axis-edge_capacity c = omega (arith, next_in (goal.at.offset_bounds-axis-edge_capacity c).In-loop)
+pub offset_bounds-axis-layout : goal.offset_bounds-axis-layout
+offset_bounds-axis-layout c = omega (arith, next_in (goal.at.offset_bounds-axis-layout c).In-loop)
 
-pub bounds-axis-edge_capacity : goal.bounds-axis-edge_capacity
-bounds-axis-edge_capacity c = omega (arith, next_in (goal.at.bounds-axis-edge_capacity c).In-loop, c.loop.invariant.long)
+pub bounds-axis-layout : goal.bounds-axis-layout
+bounds-axis-layout c = omega (arith, next_in (goal.at.bounds-axis-layout c).In-loop, c.loop.invariant.long)
 
 pub keep_one-requires : goal.keep_one-requires
 keep_one-requires c = append_keep c.requires (some_left (goal.at.keep_one-requires c).In-loop) c.loop.invariant

@@ -12,8 +12,8 @@ before_in c = search_below c.args.entry c.requires c.loop.invariant
 pub loop-init : goal.loop-init
 loop-init c = search_start _ c.requires
 
-pub bounds-axis-edge_capacity : goal.bounds-axis-edge_capacity
-bounds-axis-edge_capacity c = omega (arith, before_in (goal.at.bounds-axis-edge_capacity c).At-loop, c.requires.room)
+pub bounds-axis-layout : goal.bounds-axis-layout
+bounds-axis-layout c = omega (arith, before_in (goal.at.bounds-axis-layout c).At-loop, c.requires.room)
 
 pub returns-then-next-entry : goal.returns-then-next-entry
 returns-then-next-entry c = (

@@ -24,9 +24,9 @@ loop-read-init c =
 pub returns-then-not-is_live : goal.returns-then-not-is_live
 returns-then-not-is_live c = divided c.requires c.loop-read.invariant _ (omega (arith, scan_sum c.requires c.loop-read.invariant, c.loop-read-test.true))
 
-pub bounds-axis-edge_capacity-in-loop-read : goal.bounds-axis-edge_capacity-in-loop-read
-bounds-axis-edge_capacity-in-loop-read c =
-    omega (arith, next_in (goal.at.bounds-axis-edge_capacity-in-loop-read c).In-loop-read, c.requires.editable.sized.room)
+pub bounds-axis-layout-in-loop-read : goal.bounds-axis-layout-in-loop-read
+bounds-axis-layout-in-loop-read c =
+    omega (arith, next_in (goal.at.bounds-axis-layout-in-loop-read c).In-loop-read, c.requires.editable.sized.room)
 
 pub loop-read-preserved : goal.loop-read-preserved
 loop-read-preserved c =

@@ -16,8 +16,8 @@ overflow_add-axis c = omega (arith, push_short c.requires)
 pub returns-then-length-eq0 : goal.returns-then-length-eq0
 returns-then-length-eq0 c = push_first c.requires c.if-length-eq0.true
 
-pub bounds-axis-edge_capacity : goal.bounds-axis-edge_capacity
-bounds-axis-edge_capacity c = simp length-set (omega (arith, last_in c))
+pub bounds-axis-layout : goal.bounds-axis-layout
+bounds-axis-layout c = simp length-set (omega (arith, last_in (goal.at.bounds-axis-layout c).Else-length-eq0))
 
 pub returns : goal.returns
 returns c = push_more c.requires c.if-length-eq0.false

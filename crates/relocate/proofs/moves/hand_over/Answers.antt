@@ -23,8 +23,8 @@ overflow_add-axis c = omega (arith, hand_short c.requires, c.requires.editable.s
 pub returns-then-present-eq0 : goal.returns-then-present-eq0
 returns-then-present-eq0 c = hand_first c.requires (some_moved (goal.at.returns-then-present-eq0 c).Else-moved-eq0) c.if-present-eq0.true
 
-pub bounds-axis-edge_capacity : goal.bounds-axis-edge_capacity
-bounds-axis-edge_capacity c = simp length-set (omega (arith, last_in c))
+pub bounds-axis-layout : goal.bounds-axis-layout
+bounds-axis-layout c = simp length-set (omega (arith, last_in c))
 
 pub returns : goal.returns
 returns c = hand_more c.requires (some_moved (goal.at.returns c).Else-moved-eq0) c.if-present-eq0.false

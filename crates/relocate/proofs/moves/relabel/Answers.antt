@@ -25,9 +25,9 @@ loop-init c =
     let all : n - 0 ≡ n = omega arith in
     rw all (relabel_start c.requires _)
 
-pub bounds-axis-edge_capacity-in-loop : goal.bounds-axis-edge_capacity-in-loop
-bounds-axis-edge_capacity-in-loop c =
-    omega (arith, next_in (goal.at.bounds-axis-edge_capacity-in-loop c).In-loop, long (goal.at.bounds-axis-edge_capacity-in-loop c).In-loop)
+pub bounds-axis-layout-in-loop : goal.bounds-axis-layout-in-loop
+bounds-axis-layout-in-loop c =
+    omega (arith, next_in (goal.at.bounds-axis-layout-in-loop c).In-loop, long (goal.at.bounds-axis-layout-in-loop c).In-loop)
 
 pub bounds-axis-slot : goal.bounds-axis-slot
 bounds-axis-slot c = omega (arith, next_in (goal.at.bounds-axis-slot c).In-loop, long (goal.at.bounds-axis-slot c).In-loop)

@@ -11,18 +11,18 @@ use Rattle.validate_words.proofs.rings.ring_right.Goals as goal
 -- a ring is what its links decide
 some : (c : At-loop)
     → let a = c.args in
-    closes (cell a.axis.now (2 * a.layout.edge_capacity)) (last_at a.axis.now a.layout.edge_capacity a.node) (own_test a.base a.bound a.axis.now a.node) (c.args.bound - c.loop.counter) c.loop.e
-    ≡ ring_right a.layout.edge_capacity a.base a.bound a.axis.now a.node
+    closes (cell a.axis.now (2 * a.layout.edge_capacity)) (last_at a.axis.now a.layout.edge_capacity a.node) (own_test a.layout.counts.edges.base a.layout.counts.edges.bound a.axis.now a.node) (c.args.layout.counts.edges.bound - c.loop.counter) c.loop.e
+    ≡ ring_right a.layout.edge_capacity a.layout.counts.edges.base a.layout.counts.edges.bound a.axis.now a.node
 some c = sym c.loop.invariant ∙ ring_some _ _ _ _ _ c.if-last.false
 
 -- the entry is one of the node's own edges
 own : (c : Else-not-own_edge)
     → let a = c.args in
-    own_test a.base a.bound a.axis.now a.node c.loop.e ≡ true
+    own_test a.layout.counts.edges.base a.layout.counts.edges.bound a.axis.now a.node c.loop.e ≡ true
 own c = sym c.own_edge.ensures ∙ c.if-not-own_edge.false
 
 below : (c : Else-not-own_edge)
-    → c.loop.e < c.args.bound
+    → c.loop.e < c.args.layout.counts.edges.bound
 below c = own_below _ 0 _ _ _ _ (own c)
 
 pub returns-then-last : goal.returns-then-last
@@ -42,12 +42,12 @@ pub returns-then-e-last : goal.returns-then-e-last
 returns-then-e-last c =
     sym (closes_last _ _ _ _ _ (omega (arith, c.loop-test.true)) (own (goal.at.returns-then-e-last c).Else-not-own_edge) c.if-e-last.true) ∙ some (goal.at.returns-then-e-last c).At-loop
 
-pub bounds-axis-edge_capacity-in-loop : goal.bounds-axis-edge_capacity-in-loop
-bounds-axis-edge_capacity-in-loop c = omega (arith, below (goal.at.bounds-axis-edge_capacity-in-loop c).Else-not-own_edge)
+pub bounds-axis-layout-in-loop : goal.bounds-axis-layout-in-loop
+bounds-axis-layout-in-loop c = omega (arith, below (goal.at.bounds-axis-layout-in-loop c).Else-not-own_edge)
 
 pub loop-preserved : goal.loop-preserved
 loop-preserved c =
-    let one : c.args.bound - c.loop.counter - 1 ≡ c.args.bound - (c.loop.counter + 1) = omega arith in
+    let one : c.args.layout.counts.edges.bound - c.loop.counter - 1 ≡ c.args.layout.counts.edges.bound - (c.loop.counter + 1) = omega arith in
     c.loop.invariant ∙ closes_more _ _ _ _ _ (omega (arith, c.loop-test.true)) (own (goal.at.loop-preserved c).Else-not-own_edge) c.if-e-last.false ∙ rw one
 
 pub returns : goal.returns
