@@ -28,12 +28,12 @@ fn has_run(axis: &[u32], layout: Layout, runless: bool, node: usize) -> bool
 }
 
 // Whether entry i of the compressed index, edge `edge`, stands in the part of its end; only the yes is promised.
-fn entry_placed(axis: &[u32], layout: Layout, base: u32, i: u32, edge: u32) -> bool
-    requires { PlaceReadable axis.now layout.edge_capacity layout.node_capacity base edge }
-    ensures { result ≡ true → EntryPlaced axis.now layout.edge_capacity layout.node_capacity base i edge }
+fn entry_placed(axis: &[u32], layout: Layout, i: u32, edge: u32) -> bool
+    requires { PlaceReadable axis.now layout.edge_capacity layout.node_capacity layout.counts.nodes.base edge }
+    ensures { result ≡ true → EntryPlaced axis.now layout.edge_capacity layout.node_capacity layout.counts.nodes.base i edge }
 {
     let node = axis[edge as usize];
-    if node >= base {
+    if node >= layout.counts.nodes.base {
         return false;
     }
     let at = 4 * layout.edge_capacity + 5 * layout.node_capacity + node as usize;
@@ -41,10 +41,11 @@ fn entry_placed(axis: &[u32], layout: Layout, base: u32, i: u32, edge: u32) -> b
 }
 
 // How many entries the compressed index has in the parts of nodes that have no run.
-fn count_places(axis: &[u32], layout: Layout, base: usize) -> u32
-    requires { CountReadable axis.now layout.edge_capacity layout.node_capacity base }
-    ensures { result ≡ length (places axis.now layout.edge_capacity layout.node_capacity base) }
+fn count_places(axis: &[u32], layout: Layout) -> u32
+    requires { CountReadable axis.now layout.edge_capacity layout.node_capacity layout.counts.nodes.base }
+    ensures { result ≡ length (places axis.now layout.edge_capacity layout.node_capacity layout.counts.nodes.base) }
 {
+    let base = layout.counts.nodes.base as usize;
     let marks = 4 * layout.edge_capacity + 4 * layout.node_capacity;
     let offsets = 4 * layout.edge_capacity + 5 * layout.node_capacity;
     let mut total = 0;
@@ -62,7 +63,6 @@ fn base_flat(axis: &[u32], layout: Layout, runless: bool, seen: &mut [u64]) -> b
     ensures { result ≡ true → BaseFlat axis.now layout.edge_capacity layout.node_capacity layout.counts × Adds (base_entries axis.now layout.edge_capacity layout.node_capacity layout.counts.edges.base) seen.old seen.new }
 {
     let base = layout.counts.edges.base;
-    let base_nodes = layout.counts.nodes.base;
     let mut placed = 0;
     for i in 0..base {
         let e = axis[layout.edge_capacity + i as usize];
@@ -70,7 +70,7 @@ fn base_flat(axis: &[u32], layout: Layout, runless: bool, seen: &mut [u64]) -> b
         if has_run(axis, layout, runless, node) {
             continue;
         }
-        if !entry_placed(axis, layout, base_nodes, i, e) {
+        if !entry_placed(axis, layout, i, e) {
             return false;
         }
         if !mark(seen, e as usize) {
@@ -78,7 +78,7 @@ fn base_flat(axis: &[u32], layout: Layout, runless: bool, seen: &mut [u64]) -> b
         }
         placed += 1;
     }
-    runless || count_places(axis, layout, base_nodes as usize) == placed
+    runless || count_places(axis, layout) == placed
 }
 
 // Whether every edge of the delta whose end has no run is linked, and no link of such an edge is marked. Marks them; only the yes is promised.
@@ -151,7 +151,7 @@ fn lists_once(
 // Whether the lists of one direction are quickly seen to be right, by rule 6 and by rule 7; only the yes is promised.
 pub fn lists_flat(axis: &[u32], layout: Layout, live_nodes: &[u64], live_edges: &[u64]) -> bool
     requires { ListsReadable axis.now layout.edge_capacity layout.node_capacity layout.counts live_nodes.now live_edges.now }
-    ensures { result ≡ true → (runs_test layout.edge_capacity layout.node_capacity counts (live_flags live_nodes.now layout.counts.nodes.bound) (live_flags live_edges.now layout.counts.edges.bound) axis.now ≡ true) × (walks_test axis.now layout.edge_capacity layout.node_capacity layout.counts live_nodes.now live_edges.now ≡ true) }
+    ensures { result ≡ true → (runs_test layout.edge_capacity layout.node_capacity layout.counts (live_flags live_nodes.now layout.counts.nodes.bound) (live_flags live_edges.now layout.counts.edges.bound) axis.now ≡ true) × (walks_test axis.now layout.edge_capacity layout.node_capacity layout.counts live_nodes.now live_edges.now ≡ true) }
 {
     let slots = layout.counts.edges.bound as usize;
     let runless = words_below(

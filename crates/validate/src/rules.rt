@@ -29,10 +29,9 @@ pub fn ends_right(store: &Store) -> bool
     requires { rule_1 (words store.now) ≡ true }
     ensures { result ≡ rule_3 (words store.now) }
 {
-    let n = store.nodes.len();
-    let e = store.lows.len();
-    axes::ends_right(store.outgoing, e, n, store.counts)
-        && axes::ends_right(store.incoming, e, n, store.counts)
+    let layout = store.layout();
+    axes::ends_right(store.outgoing, layout)
+        && axes::ends_right(store.incoming, layout)
         && weights::weights_right(store.lows, store.highs, store.counts.edges.bound as usize)
 }
 
@@ -42,10 +41,8 @@ pub fn index_right(store: &Store) -> bool
     requires { rule_1 (words store.now) ≡ true }
     ensures { result ≡ rule_4 (words store.now) }
 {
-    let n = store.nodes.len();
-    let e = store.lows.len();
-    axes::index_right(store.outgoing, e, n, store.counts)
-        && axes::index_right(store.incoming, e, n, store.counts)
+    let layout = store.layout();
+    axes::index_right(store.outgoing, layout) && axes::index_right(store.incoming, layout)
 }
 
 // Rule 5: the rings of both directions.
@@ -54,10 +51,8 @@ pub fn rings_right(store: &Store) -> bool
     requires { rule_1 (words store.now) ≡ true }
     ensures { result ≡ rule_5 (words store.now) }
 {
-    let n = store.nodes.len();
-    let e = store.lows.len();
-    rings::rings_right(store.outgoing, e, n, store.counts)
-        && rings::rings_right(store.incoming, e, n, store.counts)
+    let layout = store.layout();
+    rings::rings_right(store.outgoing, layout) && rings::rings_right(store.incoming, layout)
 }
 
 // Whether the lists of one direction are quickly seen to be right, by rule 6 and by rule 7; only the yes is promised.
@@ -73,7 +68,8 @@ pub fn lists_seen(store: &Store, direction: TraversalDirection) -> bool
     )
 }
 
-// Rule 6: the runs of both directions. Those of a direction whose lists have been seen to be right are not followed.
+// Rule 6: the runs of both directions. Those of a direction whose lists have been seen to be right are not followed: `out` and `back` are what `lists_seen` has told of each,
+// and a type of both would be no plainer.
 #[tactic(auto, unfolding(shape::specs::Rules::rule_6))]
 pub fn runs_right(store: &Store, out: bool, back: bool) -> bool
     requires r1 { rule_1 (words store.now) ≡ true }
@@ -81,12 +77,11 @@ pub fn runs_right(store: &Store, out: bool, back: bool) -> bool
     requires back_seen { back ≡ true → runs_of (words store.now) Incoming ≡ true }
     ensures { result ≡ rule_6 (words store.now) }
 {
-    let n = store.nodes.len();
-    let e = store.lows.len();
+    let layout = store.layout();
     let live_nodes = store.live_nodes;
     let live_edges = store.live_edges;
-    (out || runs::runs_right(store.outgoing, e, n, store.counts, live_nodes, live_edges))
-        && (back || runs::runs_right(store.incoming, e, n, store.counts, live_nodes, live_edges))
+    (out || runs::runs_right(store.outgoing, layout, live_nodes, live_edges))
+        && (back || runs::runs_right(store.incoming, layout, live_nodes, live_edges))
 }
 
 // Rule 7: the walks of both directions, likewise.
@@ -97,10 +92,9 @@ pub fn walks_right(store: &Store, out: bool, back: bool) -> bool
     requires back_seen { back ≡ true → walks_of (words store.now) Incoming ≡ true }
     ensures { result ≡ rule_7 (words store.now) }
 {
-    let n = store.nodes.len();
-    let e = store.lows.len();
+    let layout = store.layout();
     let live_nodes = store.live_nodes;
     let live_edges = store.live_edges;
-    (out || walks::walks_right(store.outgoing, e, n, store.counts, live_nodes, live_edges))
-        && (back || walks::walks_right(store.incoming, e, n, store.counts, live_nodes, live_edges))
+    (out || walks::walks_right(store.outgoing, layout, live_nodes, live_edges))
+        && (back || walks::walks_right(store.incoming, layout, live_nodes, live_edges))
 }

@@ -43,7 +43,6 @@ fn chain_right<const OWN: bool>(
     axis: &[u32],
     layout: Layout,
     words: &[u64],
-    bound: u32,
     live: bool,
     node: usize,
     first: u32,
@@ -51,13 +50,13 @@ fn chain_right<const OWN: bool>(
     tail: u32,
     seen: &mut [u64],
 ) -> bool
-    requires { ChainReadable axis.now layout.edge_capacity words.now bound seen.old }
-    ensures { Followed (run_test axis.now OWN node bound live (live_flags words.now bound)) (ends_in (chain (cell axis.now (3 * layout.edge_capacity)) count first) tail) (chain (cell axis.now (3 * layout.edge_capacity)) count first) seen.old result seen.new }
+    requires { ChainReadable axis.now layout.edge_capacity words.now layout.counts.edges.bound seen.old }
+    ensures { Followed (run_test axis.now OWN node layout.counts.edges.bound live (live_flags words.now layout.counts.edges.bound)) (ends_in (chain (cell axis.now (3 * layout.edge_capacity)) count first) tail) (chain (cell axis.now (3 * layout.edge_capacity)) count first) seen.old result seen.new }
 {
     let mut last = tail;
     let mut e = first;
     for _ in 0..count {
-        if !pass::<OWN>(axis, words, bound, live, node, e, seen) {
+        if !pass::<OWN>(axis, words, layout.counts.edges.bound, live, node, e, seen) {
             return false;
         }
         last = e;
@@ -71,29 +70,17 @@ fn run_right<const OWN: bool>(
     axis: &[u32],
     layout: Layout,
     words: &[u64],
-    bound: u32,
     node: usize,
     live: bool,
     seen: &mut [u64],
 ) -> bool
-    requires { RunReadable axis.now layout.edge_capacity layout.node_capacity words.now bound node seen.old × (mark_at axis.now layout.edge_capacity layout.node_capacity node ≡ 0 → ⊥) }
-    ensures { Followed (run_test axis.now OWN node bound live (live_flags words.now bound)) (ends_in (run_list axis.now layout.edge_capacity layout.node_capacity node) (tail_at axis.now layout.edge_capacity layout.node_capacity node)) (run_list axis.now layout.edge_capacity layout.node_capacity node) seen.old result seen.new }
+    requires { RunReadable axis.now layout.edge_capacity layout.node_capacity words.now layout.counts.edges.bound node seen.old × (mark_at axis.now layout.edge_capacity layout.node_capacity node ≡ 0 → ⊥) }
+    ensures { Followed (run_test axis.now OWN node layout.counts.edges.bound live (live_flags words.now layout.counts.edges.bound)) (ends_in (run_list axis.now layout.edge_capacity layout.node_capacity node) (tail_at axis.now layout.edge_capacity layout.node_capacity node)) (run_list axis.now layout.edge_capacity layout.node_capacity node) seen.old result seen.new }
 {
     let first = axis[4 * layout.edge_capacity + layout.node_capacity + node];
     let tail = axis[4 * layout.edge_capacity + 2 * layout.node_capacity + node];
     let count = axis[4 * layout.edge_capacity + 3 * layout.node_capacity + node];
-    chain_right::<OWN>(
-        axis,
-        layout.edge_capacity,
-        words,
-        bound,
-        live,
-        node,
-        first,
-        count,
-        tail,
-        seen,
-    )
+    chain_right::<OWN>(axis, layout, words, live, node, first, count, tail, seen)
 }
 
 // The run of a node by rule 6, right where it has none. Marks the entries.
@@ -101,16 +88,15 @@ fn node_right(
     axis: &[u32],
     layout: Layout,
     words: &[u64],
-    bound: u32,
     node: usize,
     live: bool,
     seen: &mut [u64],
 ) -> bool
-    requires { RunReadable axis.now layout.edge_capacity layout.node_capacity words.now bound node seen.old }
-    ensures { Followed (entry_test bound live (live_flags words.now bound)) (ends_in (run_list axis.now layout.edge_capacity layout.node_capacity node) (tail_at axis.now layout.edge_capacity layout.node_capacity node)) (run_list axis.now layout.edge_capacity layout.node_capacity node) seen.old result seen.new }
+    requires { RunReadable axis.now layout.edge_capacity layout.node_capacity words.now layout.counts.edges.bound node seen.old }
+    ensures { Followed (entry_test layout.counts.edges.bound live (live_flags words.now layout.counts.edges.bound)) (ends_in (run_list axis.now layout.edge_capacity layout.node_capacity node) (tail_at axis.now layout.edge_capacity layout.node_capacity node)) (run_list axis.now layout.edge_capacity layout.node_capacity node) seen.old result seen.new }
 {
     axis[4 * layout.edge_capacity + 4 * layout.node_capacity + node] == 0
-        || run_right::<false>(axis, layout, words, bound, node, live, seen)
+        || run_right::<false>(axis, layout, words, node, live, seen)
 }
 
 // The ring of a node from its first entry on up to its last, `count` entries at most: each ends at the node and none is marked. Marks them.
@@ -118,7 +104,6 @@ fn ring_once(
     axis: &[u32],
     layout: Layout,
     words: &[u64],
-    bound: u32,
     live: bool,
     node: usize,
     first: u32,
@@ -126,12 +111,12 @@ fn ring_once(
     last: u32,
     seen: &mut [u64],
 ) -> bool
-    requires { ChainReadable axis.now layout.edge_capacity words.now bound seen.old }
-    ensures { Followed (run_test axis.now true node bound live (live_flags words.now bound)) true (until (cell axis.now (2 * layout.edge_capacity)) last count first) seen.old result seen.new }
+    requires { ChainReadable axis.now layout.edge_capacity words.now layout.counts.edges.bound seen.old }
+    ensures { Followed (run_test axis.now true node layout.counts.edges.bound live (live_flags words.now layout.counts.edges.bound)) true (until (cell axis.now (2 * layout.edge_capacity)) last count first) seen.old result seen.new }
 {
     let mut e = first;
     for _ in 0..count {
-        if !pass::<true>(axis, words, bound, live, node, e, seen) {
+        if !pass::<true>(axis, words, layout.counts.edges.bound, live, node, e, seen) {
             return false;
         }
         if e == last {
@@ -148,38 +133,35 @@ fn node_once(
     axis: &[u32],
     layout: Layout,
     words: &[u64],
-    base: u32,
-    bound: u32,
     node: usize,
     live: bool,
     seen: &mut [u64],
 ) -> bool
-    requires { RunReadable axis.now layout.edge_capacity layout.node_capacity words.now bound node seen.old × (base ≤ bound) }
-    ensures { result ≡ true → NodeOnce axis.now layout.edge_capacity layout.node_capacity base bound node × Adds (taken axis.now layout.edge_capacity layout.node_capacity base bound node) seen.old seen.new }
+    requires { RunReadable axis.now layout.edge_capacity layout.node_capacity words.now layout.counts.edges.bound node seen.old × (layout.counts.edges.base ≤ layout.counts.edges.bound) }
+    ensures { result ≡ true → NodeOnce axis.now layout.edge_capacity layout.node_capacity layout.counts.edges.base layout.counts.edges.bound node × Adds (taken axis.now layout.edge_capacity layout.node_capacity layout.counts.edges.base layout.counts.edges.bound node) seen.old seen.new }
 {
     if axis[4 * layout.edge_capacity + 4 * layout.node_capacity + node] == 0 {
         return true;
     }
-    if !run_right::<true>(axis, layout, words, bound, node, live, seen) {
+    if !run_right::<true>(axis, layout, words, node, live, seen) {
         return false;
     }
     let last = axis[4 * layout.edge_capacity + node];
     if last == NONE {
         return true;
     }
-    if last >= bound {
+    if last >= layout.counts.edges.bound {
         return false;
     }
     let first = axis[2 * layout.edge_capacity + last as usize];
     ring_once(
         axis,
-        layout.edge_capacity,
+        layout,
         words,
-        bound,
         live,
         node,
         first,
-        bound - base,
+        layout.counts.edges.bound - layout.counts.edges.base,
         last,
         seen,
     )
@@ -202,7 +184,7 @@ pub fn runs_once(
     let node_bound = layout.counts.nodes.bound as usize;
     for x in 0..node_bound {
         let live = is_live(live_nodes, node_bound, x);
-        if !node_once(axis, layout, live_edges, base, bound, x, live, seen) {
+        if !node_once(axis, layout, live_edges, x, live, seen) {
             return false;
         }
     }
@@ -212,14 +194,14 @@ pub fn runs_once(
 // Rule 6: the runs of all nodes, removed or not.
 pub fn runs_right(axis: &[u32], layout: Layout, live_nodes: &[u64], live_edges: &[u64]) -> bool
     requires { RunsReadable axis.now layout.edge_capacity layout.node_capacity layout.counts live_nodes.now live_edges.now }
-    ensures { result ≡ runs_test layout.edge_capacity layout.node_capacity counts (live_flags live_nodes.now layout.counts.nodes.bound) (live_flags live_edges.now layout.counts.edges.bound) axis.now }
+    ensures { result ≡ runs_test layout.edge_capacity layout.node_capacity layout.counts (live_flags live_nodes.now layout.counts.nodes.bound) (live_flags live_edges.now layout.counts.edges.bound) axis.now }
 {
     let bound = layout.counts.edges.bound;
     let node_bound = layout.counts.nodes.bound as usize;
     let mut seen = [0u64; 512];
     for x in 0..node_bound {
         let live = is_live(live_nodes, node_bound, x);
-        if !node_right(axis, layout, live_edges, bound, x, live, &mut seen) {
+        if !node_right(axis, layout, live_edges, x, live, &mut seen) {
             return false;
         }
     }

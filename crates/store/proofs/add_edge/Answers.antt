@@ -8,14 +8,14 @@ one_more-more-requires c = edge_raisable c.requires
 
 pub append-requires : goal.append-requires
 append-requires c =
-    edge_appendable c.requires Outgoing c.args.source c.requires.source_live
+    rw c.layout-layout.ensures (edge_appendable c.requires Outgoing c.args.source c.requires.source_live)
 
 pub append-requires-2 : goal.append-requires-2
 append-requires-2 c =
-    edge_appendable c.requires Incoming c.args.target c.requires.target_live
+    rw c.layout-layout.ensures (edge_appendable c.requires Incoming c.args.target c.requires.target_live)
 
 pub returns-clause-acted : goal.returns-clause-acted
 returns-clause-acted c =
     rw c.one_more-more.ensures
-    (edge_acted c.requires c.word_fits.ensures c.push_live.ensures c.append.ensures c.append-2.ensures
+    (edge_acted c.requires c.word_fits.ensures c.push_live.ensures (rw c.layout-layout.ensures at c.append.ensures) (rw c.layout-layout.ensures at c.append-2.ensures)
     c.push_live.auto.words c.append.auto.axis c.append-2.auto.axis)

@@ -7,13 +7,13 @@ pub one_more-more-requires : goal.one_more-more-requires
 one_more-more-requires c = node_raisable c.requires
 
 pub open_node-requires : goal.open_node-requires
-open_node-requires c = node_openable c.requires Outgoing
+open_node-requires c = rw c.layout-layout.ensures (node_openable c.requires Outgoing)
 
 pub open_node-requires-2 : goal.open_node-requires-2
-open_node-requires-2 c = node_openable c.requires Incoming
+open_node-requires-2 c = rw c.layout-layout.ensures (node_openable c.requires Incoming)
 
 pub returns-clause-acted : goal.returns-clause-acted
 returns-clause-acted c =
     rw c.one_more-more.ensures
-    (node_acted c.requires c.args.payload c.ranges.payload.fits c.push_live.ensures c.open_node.ensures c.open_node-2.ensures
+    (node_acted c.requires c.args.payload c.ranges.payload.fits c.push_live.ensures (rw c.layout-layout.ensures at c.open_node.ensures) (rw c.layout-layout.ensures at c.open_node-2.ensures)
     c.push_live.auto.words c.open_node.auto.axis c.open_node-2.auto.axis)

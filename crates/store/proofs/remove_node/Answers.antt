@@ -7,11 +7,11 @@ use Rattle.store.proofs.remove_node.Goals as goal
 
 pub clear_adjacency-out-requires : goal.clear_adjacency-out-requires
 clear_adjacency-out-requires c =
-    node_clearable c.requires c.args.node c.clear.ensures c.if-not-clear.false Outgoing refl
+    rw c.layout-layout.ensures (node_clearable c.requires c.args.node c.clear.ensures c.if-not-clear.false Outgoing refl)
 
 pub clear_adjacency-back-requires : goal.clear_adjacency-back-requires
 clear_adjacency-back-requires c =
-    node_clearable c.requires c.args.node c.clear.ensures c.if-not-clear.false Incoming c.clear_adjacency-out.ensures.long
+    rw c.layout-layout.ensures (node_clearable c.requires c.args.node c.clear.ensures c.if-not-clear.false Incoming (rw c.layout-layout.ensures at c.clear_adjacency-out.ensures).long)
 
 pub fewer-less-requires : goal.fewer-less-requires
 fewer-less-requires c =
@@ -21,11 +21,11 @@ pub overflow_add-out : goal.overflow_add-out
 overflow_add-out c =
     omega (
       arith,
-      edges_few c.requires c.args.node c.clear.ensures c.if-not-clear.false c.clear_adjacency-out.ensures c.clear_adjacency-back.ensures,
+      edges_few c.requires c.args.node c.clear.ensures c.if-not-clear.false (rw c.layout-layout.ensures at c.clear_adjacency-out.ensures) (rw c.layout-layout.ensures at c.clear_adjacency-back.ensures),
     )
 
 pub returns-clause-removed : goal.returns-clause-removed
 returns-clause-removed c =
     rw (c.fewer-less.ensures, c.fewer-rest.ensures)
-    (clearing_live c.requires c.args.node c.clear.ensures c.if-not-clear.false c.clear_adjacency-out.ensures c.clear_adjacency-back.ensures
+    (clearing_live c.requires c.args.node c.clear.ensures c.if-not-clear.false (rw c.layout-layout.ensures at c.clear_adjacency-out.ensures) (rw c.layout-layout.ensures at c.clear_adjacency-back.ensures)
     c.clear.auto.words)

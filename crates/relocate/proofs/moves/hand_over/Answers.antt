@@ -24,7 +24,7 @@ pub returns-then-present-eq0 : goal.returns-then-present-eq0
 returns-then-present-eq0 c = hand_first c.requires (some_moved (goal.at.returns-then-present-eq0 c).Else-moved-eq0) c.if-present-eq0.true
 
 pub bounds-axis-layout : goal.bounds-axis-layout
-bounds-axis-layout c = simp length-set (omega (arith, last_in c))
+bounds-axis-layout c = simp length-set (omega (arith, last_in (goal.at.bounds-axis-layout c).Else-present-eq0))
 
 pub returns : goal.returns
 returns c = hand_more c.requires (some_moved (goal.at.returns c).Else-moved-eq0) c.if-present-eq0.false

@@ -9,5 +9,5 @@ use Rattle.validate.proofs.flat.base_flat.Given as goal
 
 abbrev pub invariant-loop-i : goal.invariant-loop-i
 invariant-loop-i l =
-    Marking (adjacency_at l.axis l.layout.edge_capacity) (place_shown l.axis l.layout.edge_capacity l.layout.node_capacity) (λ k. EntryPlaced l.axis l.layout.edge_capacity l.layout.node_capacity l.base_nodes k (adjacency_at l.axis l.layout.edge_capacity k)) 0 l.base l.i l.initial.seen l.seen
+    Marking (adjacency_at l.axis l.layout.edge_capacity) (place_shown l.axis l.layout.edge_capacity l.layout.node_capacity) (λ k. EntryPlaced l.axis l.layout.edge_capacity l.layout.node_capacity l.layout.counts.nodes.base k (adjacency_at l.axis l.layout.edge_capacity k)) 0 l.base l.i l.initial.seen l.seen
     × Counting (place_shown l.axis l.layout.edge_capacity l.layout.node_capacity) l.base (count (place_shown l.axis l.layout.edge_capacity l.layout.node_capacity) (from 0 l.base)) l.i l.placed

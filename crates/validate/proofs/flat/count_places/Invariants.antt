@@ -3,4 +3,4 @@ use Rattle.validate.proofs.Flattening.{Counted}
 use Rattle.validate.proofs.flat.count_places.Given as goal
 
 abbrev pub invariant-loop-x : goal.invariant-loop-x
-invariant-loop-x l = Counted l.axis l.layout.edge_capacity l.layout.node_capacity l.base l.x l.total
+invariant-loop-x l = Counted l.axis l.fn.layout.edge_capacity l.fn.layout.node_capacity l.base l.x l.total

@@ -5,7 +5,7 @@ use Rattle.validate.proofs.Deciding.{axis_sized}
 use Rattle.validate.proofs.rules.rings_right.Goals as goal
 
 pub rings_right-requires : goal.rings_right-requires
-rings_right-requires c = axis_sized (words c.args.store.now) c.requires Outgoing
+rings_right-requires c = rw c.layout-layout.ensures (axis_sized (words c.args.store.now) c.requires Outgoing)
 
 pub rings_right-requires-then-rings_right : goal.rings_right-requires-then-rings_right
-rings_right-requires-then-rings_right c = axis_sized (words c.args.store.now) c.requires Incoming
+rings_right-requires-then-rings_right c = rw c.layout-layout.ensures (axis_sized (words c.args.store.now) c.requires Incoming)

@@ -5,7 +5,7 @@ use Rattle.validate.proofs.Deciding.{runs_readable}
 use Rattle.validate.proofs.rules.runs_right.Goals as goal
 
 pub runs_right-requires : goal.runs_right-requires
-runs_right-requires c = runs_readable (words c.args.store.now) Outgoing c.requires.r1
+runs_right-requires c = rw c.layout-layout.ensures (runs_readable (words c.args.store.now) Outgoing c.requires.r1)
 
 pub runs_right-requires-else-back : goal.runs_right-requires-else-back
-runs_right-requires-else-back c = runs_readable (words c.args.store.now) Incoming c.requires.r1
+runs_right-requires-else-back c = rw c.layout-layout.ensures (runs_readable (words c.args.store.now) Incoming c.requires.r1)

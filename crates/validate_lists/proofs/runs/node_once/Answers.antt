@@ -6,7 +6,7 @@ use Rattle.validate_lists.proofs.runs.node_once.Goals as goal
 pub returns-then-axis-layout-eq0 : goal.returns-then-axis-layout-eq0
 returns-then-axis-layout-eq0 c =
     let a = c.args in
-    λ _. node_plain a.axis.now a.layout.edge_capacity a.layout.node_capacity a.base a.bound a.node c.if-axis-layout-eq0.true _
+    λ _. node_plain a.axis.now a.layout.edge_capacity a.layout.node_capacity a.layout.counts.edges.base a.layout.counts.edges.bound a.node c.if-axis-layout-eq0.true _
 
 pub returns-then-last : goal.returns-then-last
 returns-then-last c =
