@@ -17,7 +17,8 @@ use Rattle.shape.specs.Shape.{Words, edge_live}
 use Rattle.bits.specs.declared.pen.Writer.{Writer}
 use Rattle.bits.specs.Penned.{Puts, Written, reach}
 use Rattle.bits.specs.Laws.Penned.{written_then, bits_behind}
-use Rattle.image_write.specs.Writing.{PiecesFit, CountsFit, NodesFit, RecordFits, RanksFit, EdgeFits, EdgesFit, EdgeThere, EntriesFit, record_bits, record_at, count_bits}
+use Rattle.shape.specs.Stores.{EdgeThere}
+use Rattle.image_write.specs.Writing.{PiecesFit, CountsFit, NodesFit, RecordFits, RanksFit, EdgeFits, EdgesFit, EntriesFit, record_bits, record_at, count_bits}
 use Rattle.image_write.proofs.Strung.{StrungTo, StrungLive, entry_room, live_next, live_room}
 
 -- a piece of at most 32 bits that has room

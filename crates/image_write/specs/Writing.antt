@@ -76,18 +76,6 @@ pub record EdgeFits (a : Writer) (w : ℕ) (live : List ℕ) (slots source targe
   pub target_live : get_or (live_flags live slots) target false ≡ true
   pub room : PiecesFit a (record_width w) 1
 
--- an edge slot of a store
-pub record EdgeThere (v : Words) (e : ℕ) : Type 0 where
-  pub source_there : e < length v.outgoing
-  pub target_there : e < length v.incoming
-  pub low_there : e < length v.lows
-  pub high_there : e < length v.highs
-
--- its ends and its payload
-abbrev pub edge_of : Words → ℕ → DeclaredRecord
-edge_of v e =
-    record { source = get_or v.outgoing e 0; target = get_or v.incoming e 0; payload = record { low = get_or v.lows e 0; high = get_or v.highs e 0 } }
-
 -- all live edges of a store
 pub record EdgesFit (a : Writer) (w : ℕ) (live : List ℕ) (slots : ℕ) (v : Words) : Type 0 where
   pub ranks_fit : RanksFit live slots w

@@ -24,8 +24,6 @@ ghost use Rattle.image_write.specs.Writing.{
   RecordFits,
   EdgeFits,
   EdgesFit,
-  EdgeThere,
-  edge_of,
   EntriesFit,
   SlotsFit,
   ListsFit,
@@ -45,7 +43,7 @@ use bits::{least_width, raise};
 use image_check::places::{COUNT_WIDTH, NODE_PAYLOAD_WIDTH, WEIGHT_WIDTH, image_bytes};
 use liveness::live_slots::LiveSlots;
 use plain::refusals::Refusal;
-use plain::{EdgePayload, EdgeRecord};
+use plain::EdgeRecord;
 use shape::Store;
 use survivors::lists::write_both;
 use validate::judging::check_store;
@@ -98,21 +96,6 @@ fn write_edge(out: &mut Writer, width: u32, nodes: &Numbering, edge: EdgeRecord)
     write_record(out, width, numbered);
 }
 
-// The record of an edge. Internal: there is one.
-fn edge_at(store: &Store, edge: usize) -> EdgeRecord
-    requires { EdgeThere (words store.now) edge }
-    ensures { result ≡ edge_of (words store.now) edge }
-{
-    EdgeRecord {
-        source: store.outgoing[edge],
-        target: store.incoming[edge],
-        payload: EdgePayload {
-            low: store.lows[edge],
-            high: store.highs[edge],
-        },
-    }
-}
-
 // Writes the records of the live edges in slot order. Internal.
 fn write_edges(out: &mut Writer, width: u32, nodes: &Numbering, store: &Store)
     requires { EdgesFit out.old width nodes.now.live.now nodes.now.slots (words store.now) }
@@ -120,7 +103,7 @@ fn write_edges(out: &mut Writer, width: u32, nodes: &Numbering, store: &Store)
 {
     let bound = store.counts.edges.bound as usize;
     for e in LiveSlots::new(store.live_edges, bound) {
-        write_edge(out, width, nodes, edge_at(store, e));
+        write_edge(out, width, nodes, store.edge_at(e));
     }
 }
 

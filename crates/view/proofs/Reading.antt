@@ -10,20 +10,20 @@ use Rattle.plain.specs.declared.TraversalDirection.TheVariants.{Outgoing, Incomi
 use Rattle.plain.specs.Numbers.{NONE}
 use Rattle.plain.specs.Reads.{answered, yes_or_no, no_record, node_payload, edge_record, live_edge_record, contains_node, contains_edge}
 use Rattle.plain.proofs.Laws.CallCases.{node_payload_absent, node_payload_there, edge_record_absent, edge_record_there, live_edge_record_absent, live_edge_record_removed, live_edge_record_there, contains_node_is, contains_edge_is}
-use Rattle.shape.specs.Stores.{slot_refused}
+use Rattle.shape.specs.Stores.{slot_refused, EdgeThere}
 use Rattle.shape.proofs.Laws.Refused.{by_refused, not_refused}
 use Rattle.shape.specs.Shape.{Words, node_live, edge_live, plain_of, lists}
 use Rattle.shape.proofs.Laws.Reading.{node_at, edge_at, plain_end}
 use Rattle.shape.specs.Checked.{Checked}
 use Rattle.shape.proofs.Laws.Slots.{nodes_told, edges_told, node_bound_of, edge_bound_of, live_slot, removed_slot}
-use Rattle.view.specs.Slots.{refused, record_words, RecordThere}
+use Rattle.view.specs.Slots.{refused, record_words}
 
-pub record_there : {w : Words} → Checked w → (e : ℕ) → e < w.counts.edges.bound → RecordThere w.lows w.highs w.outgoing w.incoming e
+pub record_there : {w : Words} → Checked w → (e : ℕ) → e < w.counts.edges.bound → EdgeThere w e
 record_there {w} checked e l = record {
-  low = omega (arith, checked.edges.bounded.bound_within);
-  high = omega (arith, checked.edges.bounded.bound_within, checked.highs_long);
-  source = omega (arith, checked.edges.bounded.bound_within, (checked.axis Outgoing).sized.room);
-  target = omega (arith, checked.edges.bounded.bound_within, (checked.axis Incoming).sized.room);
+  low_there = omega (arith, checked.edges.bounded.bound_within);
+  high_there = omega (arith, checked.edges.bounded.bound_within, checked.highs_long);
+  source_there = omega (arith, checked.edges.bounded.bound_within, (checked.axis Outgoing).sized.room);
+  target_there = omega (arith, checked.edges.bounded.bound_within, (checked.axis Incoming).sized.room);
 }
 
 module _ (w : Words) where
@@ -91,7 +91,7 @@ module _ {w : Words} (k : Checked w) (e : ℕ) {done : Unit} (passed : Ok done �
   edge_below = rw (length_flags w.live_edges w.counts.edges.bound) at (live_below (edge_live w) e edge_passed)
 
   -- so its words are there
-  pub live_record_there : RecordThere w.lows w.highs w.outgoing w.incoming e
+  pub live_record_there : EdgeThere w e
   live_record_there = record_there k e edge_below
 
   -- and are the live record

@@ -1,5 +1,5 @@
 -- What the reads of a slot answer by the words that they read.
-use Rattle.std.specs.Prelude.{ℕ, ◌<◌, List, length, get_or}
+use Rattle.std.specs.Prelude.{ℕ, List, get_or}
 use Rattle.plain.specs.declared.Answer.{Answer}
 use Rattle.plain.specs.declared.Record.{Record}
 use Rattle.plain.specs.Numbers.{NONE, done}
@@ -17,10 +17,3 @@ record_words lows highs outgoing incoming e = record {
   target = get_or incoming e 0;
   payload = record { low = get_or lows e 0; high = get_or highs e 0 };
 }
-
--- The words of an edge's record are there.
-pub record RecordThere (lows highs outgoing incoming : List ℕ) (e : ℕ) : Type 0 where
-  pub low : e < length lows
-  pub high : e < length highs
-  pub source : e < length outgoing
-  pub target : e < length incoming

@@ -6,28 +6,11 @@ ghost use Rattle.plain.specs.Reads.{node_payload, edge_record, live_edge_record,
 ghost use Rattle.shape.specs.Shape.{lists};
 ghost use Rattle.shape.specs.Stores.{words};
 ghost use Rattle.view.specs.Calls.{Answered, Recorded};
-ghost use Rattle.view.specs.Slots.{RecordThere, record_words};
 
 use plain::refusals::Refusal;
-use plain::{EdgePayload, EdgeRecord};
+use plain::EdgeRecord;
 use shape::Store;
 use validate::judging::check_store;
-
-// The record of an edge slot below the bound. Internal.
-fn record_at(store: &Store, edge: u32) -> EdgeRecord
-    requires { RecordThere store.now.lows.now store.now.highs.now store.now.outgoing.now store.now.incoming.now edge }
-    ensures { edge_record_of (Ok result) ≡ record_words store.now.lows.now store.now.highs.now store.now.outgoing.now store.now.incoming.now edge }
-{
-    let at = edge as usize;
-    EdgeRecord {
-        source: store.outgoing[at],
-        target: store.incoming[at],
-        payload: EdgePayload {
-            low: store.lows[at],
-            high: store.highs[at],
-        },
-    }
-}
 
 // The payload of a node slot, also of a removed one. "Degree and node payload: 1, 5."
 pub fn node_payload(store: &Store, node: u32) -> Result<u32, Refusal>
@@ -48,7 +31,7 @@ pub fn edge_record(store: &Store, edge: u32) -> Result<EdgeRecord, Refusal>
     if store.counts.edges.bound <= edge {
         return Err(Refusal::OutOfRangeEdge);
     }
-    Ok(record_at(store, edge))
+    Ok(store.edge_at(edge as usize))
 }
 
 // The record of a live edge. "Live record 1, 7, 8."
@@ -57,7 +40,7 @@ pub fn live_edge_record(store: &Store, edge: u32) -> Result<EdgeRecord, Refusal>
 {
     check_store(store)?;
     store.live_edge(edge)?;
-    Ok(record_at(store, edge))
+    Ok(store.edge_at(edge as usize))
 }
 
 // Whether a node slot is live; one at or above the bound is not. That of an edge reads other words by the store's own method, so that nothing is left to share.

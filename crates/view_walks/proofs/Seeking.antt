@@ -14,7 +14,7 @@ use Rattle.shape.specs.Checked.{Checked}
 use Rattle.shape.proofs.Laws.Reading.{plain_end}
 use Rattle.shape.proofs.Laws.Taking.{keep_agree}
 use Rattle.shape.proofs.Laws.Slots.{nodes_told, node_bound_of, absent_slot}
-use Rattle.cursor.specs.Finding.{first_of, ends_at}
+use Rattle.cursor.specs.Finding.{first_of, ends_at, Among}
 use Rattle.adjacency.specs.Walk.{walk_in}
 use Rattle.adjacency.specs.Laws.Walk.{walk_below}
 use Rattle.adjacency.specs.Laws.StoreWalks.{checked_walkable, list_is_walk}
@@ -51,3 +51,8 @@ module _ {w : Words} (a b : ℕ) where
       answer_done j refl
       (ap answered (is_first ∙ first_is_found (j.checked refl) below is)
       ∙ sym (find_there (lists w) a b (rw (node_bound_of w) below) (rw (node_bound_of w) second)))
+
+  -- what is found in the words' walk is one of the list
+  pub found_among : {done : Unit} → Placed w a (Ok done) → {live : Bool} → live ≡ get_or (node_live w) a false → (edge : Option ℕ)
+      → Among edge (walk_in w.outgoing (edge_capacity w) (node_capacity w) w.counts w.live_edges a live) → Among edge (list_of Outgoing (lists w) a)
+  found_among (there j below) is edge m = rw (list_is_walk w Outgoing a below) (rw is at m)

@@ -5,10 +5,10 @@ use Rattle.compact.proofs.drop_dead.Goals as goal
 
 pub compact_axis-requires : goal.compact_axis-requires
 compact_axis-requires c =
-    axis_compactable c.requires Outgoing c.args.work.now (first_half c.requires)
+    rw c.layout-layout.ensures (axis_compactable c.requires Outgoing c.args.work.now (first_half c.requires))
 
 pub compact_axis-requires-2 : goal.compact_axis-requires-2
-compact_axis-requires-2 c = axis_compactable c.requires Incoming _ (second_half c.requires)
+compact_axis-requires-2 c = rw c.layout-layout.ensures (axis_compactable c.requires Incoming _ (second_half c.requires))
 
 pub reset_all_live-requires : goal.reset_all_live-requires
 reset_all_live-requires c = resettable c.requires.checked.nodes

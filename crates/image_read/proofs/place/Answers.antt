@@ -7,7 +7,7 @@ pub read_axes-requires : goal.read_axes-requires
 read_axes-requires c =
     let pre = c.requires in
     let image = c.args.image.now in
-    rw (image.many_nodes, image.many_edges) (axes_readable pre _ _ pre.roomy.outgoing_room pre.roomy.incoming_room)
+    rw (c.layout-layout.ensures, image.many_nodes, image.many_edges) (axes_readable pre _ _ pre.roomy.outgoing_room pre.roomy.incoming_room)
 
 pub read_payloads-requires : goal.read_payloads-requires
 read_payloads-requires c =

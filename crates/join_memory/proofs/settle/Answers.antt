@@ -16,15 +16,17 @@ write_maps-requires-2 c = second_maps_fit c.requires
 
 pub join_axis-requires : goal.join_axis-requires
 join_axis-requires c =
-    subst₂ (λ (s t : Side). AxisJoinable (axis_words Outgoing (cleared c.args.memory.now)) (length c.args.memory.now.lows.now) (length c.args.memory.now.nodes.now) s t)
+    rw c.layout-layout.ensures
+    (subst₂ (λ (s t : Side). AxisJoinable (axis_words Outgoing (cleared c.args.memory.now)) (length c.args.memory.now.lows.now) (length c.args.memory.now.nodes.now) s t)
     (sym (c.of-first_book.ensures Outgoing)) (sym (c.of-second_book.ensures Outgoing))
-    (axis_joinable c.requires c.write_maps.ensures.written c.write_maps-2.ensures.written Outgoing)
+    (axis_joinable c.requires c.write_maps.ensures.written c.write_maps-2.ensures.written Outgoing))
 
 pub join_axis-requires-2 : goal.join_axis-requires-2
 join_axis-requires-2 c =
-    subst₂ (λ (s t : Side). AxisJoinable (axis_words Incoming (cleared c.args.memory.now)) (length c.args.memory.now.lows.now) (length c.args.memory.now.nodes.now) s t)
+    rw c.layout-layout.ensures
+    (subst₂ (λ (s t : Side). AxisJoinable (axis_words Incoming (cleared c.args.memory.now)) (length c.args.memory.now.lows.now) (length c.args.memory.now.nodes.now) s t)
     (sym (c.of-first_book.ensures Incoming)) (sym (c.of-second_book.ensures Incoming))
-    (axis_joinable c.requires c.write_maps.ensures.written c.write_maps-2.ensures.written Incoming)
+    (axis_joinable c.requires c.write_maps.ensures.written c.write_maps-2.ensures.written Incoming))
 
 pub returns-clause-settled : goal.returns-clause-settled
 returns-clause-settled c =
@@ -35,9 +37,9 @@ returns-clause-settled c =
       first_maps = c.write_maps.ensures.written;
       second_maps = c.write_maps-2.ensures.written;
       outgoing = subst₂ (λ (s t : Side). AxisJoined c.args.memory.now.outgoing.now (length c.args.memory.now.lows.now) (length c.args.memory.now.nodes.now) s t c.join_axis.new.axis)
-          (c.of-first_book.ensures Outgoing) (c.of-second_book.ensures Outgoing) c.join_axis.ensures;
+          (c.of-first_book.ensures Outgoing) (c.of-second_book.ensures Outgoing) (rw c.layout-layout.ensures at c.join_axis.ensures);
       incoming = subst₂ (λ (s t : Side). AxisJoined c.args.memory.now.incoming.now (length c.args.memory.now.lows.now) (length c.args.memory.now.nodes.now) s t c.join_axis-2.new.axis)
-          (c.of-first_book.ensures Incoming) (c.of-second_book.ensures Incoming) c.join_axis-2.ensures;
+          (c.of-first_book.ensures Incoming) (c.of-second_book.ensures Incoming) (rw c.layout-layout.ensures at c.join_axis-2.ensures);
       nodes = c.join_slots.ensures;
       lows = c.join_slots-2.ensures;
       highs = c.join_slots-3.ensures;

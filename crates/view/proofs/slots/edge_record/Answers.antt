@@ -1,6 +1,6 @@
 -- `view::slots::edge_record` meets its contract: the check, and then the laws of the record past the bound and below it.
 use Rattle.std.specs.Prelude.{refl}
-use Rattle.plain.specs.Library.{sym, ◌∙◌}
+use Rattle.plain.specs.Library.{sym}
 use Rattle.view.specs.Laws.Calls.{record_done}
 use Rattle.view.proofs.Reading.{record_there, record_past, record_read}
 use Rattle.view.proofs.slots.edge_record.Goals as goal
@@ -9,10 +9,9 @@ pub returns-then-store-edge : goal.returns-then-store-edge
 returns-then-store-edge c =
     record_done c.in_ok-check_store.ensures refl (sym (record_past _ _ c.if-store-edge.true))
 
-pub record_at-requires : goal.record_at-requires
-record_at-requires c = record_there (c.in_ok-check_store.ensures.checked refl) _ c.if-store-edge.false
+pub edge_at-requires : goal.edge_at-requires
+edge_at-requires c = record_there (c.in_ok-check_store.ensures.checked refl) _ c.if-store-edge.false
 
 pub returns : goal.returns
 returns c =
-    record_done c.in_ok-check_store.ensures refl
-    (c.record_at.ensures ∙ sym (record_read _ _ c.if-store-edge.false))
+    rw c.edge_at.ensures (record_done c.in_ok-check_store.ensures refl (sym (record_read _ _ c.if-store-edge.false)))
