@@ -1,13 +1,12 @@
 // Walks over one node's adjacency in one direction, from the packed axis: where a walk starts, its edges, their number and weights, and the first that ends at a
 // node. Both directions use the same functions with the one axis or the other. `live` says whether the node is live.
 
-ghost use Rattle.std.specs.Prelude.{◌≤◌, ◌≡◌, cond, [], map, length, unwrap_or};
+ghost use Rattle.std.specs.Prelude.{◌*◌, ◌≤◌, ◌≡◌, cond, [], length, unwrap_or};
 ghost use Rattle.plain.specs.Numbers.{NONE as none};
-ghost use Rattle.plain.specs.Lists.{written};
-ghost use Rattle.shape.specs.Columns.{end_at};
+ghost use Rattle.liveness.specs.Flags.{live_flags};
 ghost use Rattle.shape.specs.Shape.{adjacency_in, raw};
-ghost use Rattle.cursor.specs.Cursor.{ListWritten};
-ghost use Rattle.adjacency.specs.Walk.{walk_in, tombstoned_in, entries_column, next_column, ColumnsThere, Readable, Walkable, WalkFits, WalkSummable, Started};
+ghost use Rattle.cursor.specs.Cursor.{listed as is_listed, listed_by};
+ghost use Rattle.adjacency.specs.Walk.{walk_in, tombstoned_in, entries_column, next_column, ColumnsThere, Readable, Walkable, WalkSummable, Started};
 ghost use Rattle.cursor.specs.Finding.{first_of, ends_at, Among};
 ghost use Rattle.cursor.specs.Summing.{sums_of};
 
@@ -15,6 +14,7 @@ use crate::axis::Axis;
 use crate::{index, rings};
 use cursor::edges::AdjacentEdges;
 use cursor::entries::Entries;
+use cursor::listed::Listed;
 use cursor::{AdjacencyCursor, Start};
 use plain::{Counts, NONE, Sums};
 use shape::Layout;
@@ -24,6 +24,18 @@ pub fn tombstoned(counts: Counts) -> bool
     ensures { result ≡ tombstoned_in counts }
 {
     counts.edges.live != counts.edges.bound
+}
+
+// Which edges are listed, by the counts and the live words.
+pub fn listed_edges(counts: Counts, live_edges: &[u64]) -> Listed<'_>
+    requires { counts.edges.bound ≤ 64 * length live_edges.now }
+    ensures { listed_by result ≡ is_listed (tombstoned_in counts) (live_flags live_edges.now counts.edges.bound) }
+{
+    Listed {
+        tombstoned: tombstoned(counts),
+        live: live_edges,
+        slots: counts.edges.bound as usize,
+    }
 }
 
 // Where the walk over a node's adjacency starts.
@@ -110,11 +122,7 @@ pub fn edges<'a>(
     requires { Walkable axis.now layout.edge_capacity layout.node_capacity layout.counts live_edges.now node }
     ensures { result ≡ walk_in axis.now layout.edge_capacity layout.node_capacity layout.counts live_edges.now node live }
 {
-    entries(axis, layout, node, live).listed(
-        tombstoned(layout.counts),
-        live_edges,
-        layout.counts.edges.bound as usize,
-    )
+    entries(axis, layout, node, live).listed(listed_edges(layout.counts, live_edges))
 }
 
 // How many entries a node's walk has.
@@ -158,13 +166,7 @@ pub fn find(
     ensures first { unwrap_or result none ≡ first_of (ends_at far.now end) (walk_in axis.now layout.edge_capacity layout.node_capacity layout.counts live_edges.now node live) }
     ensures among { Among result (walk_in axis.now layout.edge_capacity layout.node_capacity layout.counts live_edges.now node live) }
 {
-    entries(axis, layout, node, live).find_end(
-        far,
-        end,
-        tombstoned(layout.counts),
-        live_edges,
-        layout.counts.edges.bound as usize,
-    )
+    entries(axis, layout, node, live).find_end(far, end, listed_edges(layout.counts, live_edges))
 }
 
 // The sum of the lowest and the sum of the highest weights of a node's walk.

@@ -7,6 +7,7 @@ use Rattle.liveness.specs.Flags.{live_flags}
 use Rattle.shape.specs.Chains.{chain, until, In}
 use Rattle.shape.specs.Shape.{between, live_in}
 use Rattle.cursor.specs.declared.AdjacencyCursor.{AdjacencyCursor}
+use Rattle.cursor.specs.declared.listed.Listed.{Listed}
 
 -- a column that is handed out as a slice of its own
 abbrev pub word : List ℕ → ℕ → ℕ
@@ -80,6 +81,9 @@ pub record Ready (linked : Bool) (entries next : List ℕ) (c : AdjacencyCursor)
 -- whether an edge is listed: a store with no removed edge is not asked for live bits, which spares each entry a look, as in the Rust
 abbrev pub listed : Bool → List Bool → ℕ → Bool
 listed tombstoned flags e = cond tombstoned (live_in flags e) true
+
+abbrev pub listed_by : Listed → ℕ → Bool
+listed_by l = listed l.tombstoned (live_flags l.live.now l.slots)
 
 -- the listed entries that a cursor has still to read
 abbrev pub listed_left : Bool → List ℕ → List ℕ → Bool → List ℕ → ℕ → AdjacencyCursor → List ℕ

@@ -3,3 +3,4 @@ pub mod Cursor
 pub mod Reading
 pub mod Finding
 pub mod Stepping
+pub mod Sought

@@ -1,44 +1,35 @@
 // The listed edges of a walk, as an iterator: its entries without those that are removed (`AdjacentEdges` of the Rust).
 
-ghost use Rattle.std.specs.Prelude.{ℕ, ◌*◌, ◌≤◌, ◌≡◌, List, length};
+ghost use Rattle.std.specs.Prelude.{ℕ, ◌≡◌, List};
 ghost use Rattle.std.specs.Iterator.{YieldsFirst, item_count};
 ghost use Rattle.plain.specs.Lists.{keep};
-ghost use Rattle.liveness.specs.Flags.{live_flags};
-ghost use Rattle.cursor.specs.Cursor.{listed};
+ghost use Rattle.cursor.specs.Cursor.{listed_by};
 
 use crate::entries::Entries;
-use crate::is_listed;
+use crate::listed::Listed;
 use std::marker::Model;
 
 // The listed edges that are left, seen as their list.
 #[derive(Drop)]
 pub struct AdjacentEdges<'a> {
     pub(crate) entries: Entries<'a>,
-    // Whether some edge is removed: if not, no live bit is read.
-    pub(crate) tombstoned: bool,
-    pub(crate) live: &'a [u64],
-    pub(crate) slots: usize,
+    pub(crate) listed: Listed<'a>,
 }
 
 impl<'a> Model for AdjacentEdges<'a> {
     ghost Value = { List ℕ };
 
-    ghost view = { λ s. keep (listed s.tombstoned (live_flags s.live.now s.slots)) s.entries };
-
-    ghost invariant = { λ s. s.slots ≤ 64 * length s.live.now };
+    ghost view = { λ s. keep (listed_by s.listed) s.entries };
 }
 
 impl<'a> Entries<'a> {
-    // Those of them that are listed, by the live words of the edges.
-    pub fn listed(self, tombstoned: bool, live: &'a [u64], slots: usize) -> AdjacentEdges<'a>
-        requires { slots ≤ 64 * length live.now }
-        ensures { result ≡ keep (listed tombstoned (live_flags live.now slots)) self.entry }
+    // Those of them that are listed.
+    pub fn listed(self, listed: Listed<'a>) -> AdjacentEdges<'a>
+        ensures { result ≡ keep (listed_by listed.entry) self.entry }
     {
         AdjacentEdges {
             entries: self,
-            tombstoned,
-            live,
-            slots,
+            listed,
         }
     }
 }
@@ -53,7 +44,7 @@ impl<'a> Iterator for AdjacentEdges<'a> {
     #[inline]
     fn next(&mut self) -> Option<u32> {
         while let Some(edge) = self.entries.next() {
-            if is_listed(self.tombstoned, self.live, self.slots, edge) {
+            if self.listed.has(edge) {
                 return Some(edge);
             }
         }

@@ -3,16 +3,17 @@
 
 #![tactic(auto)]
 
-ghost use Rattle.std.specs.Prelude.{◌*◌, ◌<◌, ◌≤◌, ◌≡◌, false, length};
+ghost use Rattle.std.specs.Prelude.{◌<◌, ◌≤◌, ◌≡◌, false, length};
 ghost use Rattle.plain.specs.Numbers.{NONE as none};
-ghost use Rattle.liveness.specs.Flags.{live_flags};
-ghost use Rattle.cursor.specs.Cursor.{part_count, exhausted as exhausted_cursor, ring_left, base_at, step_of, ring_step, listed, Ready};
+ghost use Rattle.cursor.specs.Cursor.{part_count, exhausted as exhausted_cursor, ring_left, base_at, step_of, ring_step, listed_by, Ready};
 
 pub mod edges;
 pub mod entries;
+pub mod listed;
 mod reading;
 
 use entries::Entries;
+use listed::Listed;
 use plain::NONE;
 
 // Where a walk stands. Of a base part `base` and `base_end` are positions in the adjacency column. Of a run `base` is the entry to read next
@@ -35,12 +36,14 @@ pub struct Start {
     pub cursor: AdjacencyCursor,
 }
 
-// Whether an edge is listed: where no edge is removed, every edge is, and the bit is spared.
-pub fn is_listed(tombstoned: bool, live: &[u64], slots: usize, edge: u32) -> bool
-    requires { slots ≤ 64 * length live.now }
-    ensures { result ≡ listed tombstoned (live_flags live.now slots) edge }
-{
-    !tombstoned || liveness::is_live(live, slots, edge as usize)
+impl Listed<'_> {
+    // Whether an edge is listed.
+    #[inline]
+    pub fn has(&self, edge: u32) -> bool
+        ensures { result ≡ listed_by self.now edge }
+    {
+        !self.tombstoned || liveness::is_live(self.live, self.slots, edge as usize)
+    }
 }
 
 impl AdjacencyCursor {

@@ -1,16 +1,15 @@
 // What is read of the listed edges of a walk: the edges or their ends written to a slice, the sums of their weights, and the first that ends at a node.
 
-ghost use Rattle.std.specs.Prelude.{◌*◌, ◌^◌, ◌≤◌, ◌<◌, ◌≡◌, map, length, unwrap_or};
+ghost use Rattle.std.specs.Prelude.{◌^◌, ◌≤◌, ◌<◌, ◌≡◌, map, length, unwrap_or};
 ghost use Rattle.plain.specs.Numbers.{NONE as none};
 ghost use Rattle.plain.specs.Lists.{keep, written};
-ghost use Rattle.liveness.specs.Flags.{live_flags};
-ghost use Rattle.cursor.specs.Cursor.{word, listed, Within, ListWritten};
+ghost use Rattle.cursor.specs.Cursor.{word, listed_by, Within, ListWritten};
 ghost use Rattle.cursor.specs.Finding.{first_of, ends_at, Among};
 ghost use Rattle.cursor.specs.Summing.{sums_of, Summable};
 
 use crate::edges::AdjacentEdges;
 use crate::entries::Entries;
-use crate::is_listed;
+use crate::listed::Listed;
 use plain::Sums;
 
 impl<'a> AdjacentEdges<'a> {
@@ -20,10 +19,10 @@ impl<'a> AdjacentEdges<'a> {
         requires { length self < 2 ^ 64 }
         ensures { result ≡ length self.entry }
     {
-        let (tombstoned, live, slots) = (self.tombstoned, self.live, self.slots);
+        let listed = self.listed;
         let mut count = 0;
         for edge in self.entries {
-            if is_listed(tombstoned, live, slots, edge) {
+            if listed.has(edge) {
                 count += 1;
             }
         }
@@ -35,10 +34,10 @@ impl<'a> AdjacentEdges<'a> {
         requires { length self ≤ length out.old }
         ensures { ListWritten self.entry out.old result out.new }
     {
-        let (tombstoned, live, slots) = (self.tombstoned, self.live, self.slots);
+        let listed = self.listed;
         let mut n = 0;
         for edge in self.entries {
-            if is_listed(tombstoned, live, slots, edge) {
+            if listed.has(edge) {
                 out[n] = edge;
                 n += 1;
             }
@@ -74,21 +73,13 @@ impl<'a> AdjacentEdges<'a> {
 
 impl<'a> Entries<'a> {
     // The first listed entry whose end, by the column `ends`, is `end`. It looks at the end before the live bit, since most entries end elsewhere.
-    pub fn find_end(
-        self,
-        ends: &[u32],
-        end: u32,
-        tombstoned: bool,
-        live: &[u64],
-        slots: usize,
-    ) -> Option<u32>
-        requires within { Within ends.now self }
-        requires live_long { slots ≤ 64 * length live.now }
-        ensures first { unwrap_or result none ≡ first_of (ends_at ends.now end) (keep (listed tombstoned (live_flags live.now slots)) self.entry) }
-        ensures among { Among result (keep (listed tombstoned (live_flags live.now slots)) self.entry) }
+    pub fn find_end(self, ends: &[u32], end: u32, listed: Listed<'_>) -> Option<u32>
+        requires { Within ends.now self }
+        ensures first { unwrap_or result none ≡ first_of (ends_at ends.now end) (keep (listed_by listed.entry) self.entry) }
+        ensures among { Among result (keep (listed_by listed.entry) self.entry) }
     {
         for edge in self {
-            if ends[edge as usize] == end && is_listed(tombstoned, live, slots, edge) {
+            if ends[edge as usize] == end && listed.has(edge) {
                 return Some(edge);
             }
         }

@@ -1,12 +1,13 @@
 -- Laws of devices and lengths: each test of a slice on the way to the answer, and what the memory has where the answer is 0.
-use Rattle.std.specs.Prelude.{ℕ, zero, suc, ◌≤◌, ◌<◌, ◌≡◌, refl, List}
+use Rattle.std.specs.Prelude.{ℕ, zero, suc, ◌≤◌, ◌<◌, ◌≡◌, refl, cond, List, ◌∷◌, leb}
 use Rattle.plain.specs.Library.{sym, ap, ◌∙◌, ⊎_elim, arith, le-leb}
 use Rattle.plain.specs.declared.Answer.{Answer}
+use Rattle.plain.specs.Numbers.{too_short}
 use Rattle.plain.specs.Image.{broken_image, nodes_in, edges_in}
-use Rattle.plain.specs.Memory.{Lengths, first_short, live_words, axis_length}
+use Rattle.plain.specs.Memory.{Slice, Lengths, first_short, live_words, axis_length}
 use Rattle.plain.specs.Devices.{Device, Takes, Proper}
 use Rattle.plain.specs.Calls.{short_answer, within, fresh, readable, reading_slices, asked, reading, read_image}
-use Rattle.plain.proofs.Laws.Booleans.{below_or_not}
+use Rattle.plain.proofs.Laws.Booleans.{by_test, below_or_not}
 use Rattle.plain.specs.Laws.CallCases.{LongEnough, slice_fits, no_slice}
 use Rattle.plain.proofs.Laws.Devices.{box_proper, skid_proper}
 use Rattle.plain.proofs.Laws.CallCases.{one_short, long_or_short, nodes_above, edges_above, within_limits}
@@ -21,6 +22,16 @@ device_proper Box = box_proper
 device_proper Skid = skid_proper
 
 -- ---- on the way to the answer
+
+-- refused with the number where there is less than is needed, else as it goes on
+unfoldable pub lacking : ℕ → ℕ → ℕ → Answer → Answer
+lacking number needs has rest = cond (leb needs has) rest (record { number = number; value = needs })
+
+-- a slice is judged after those that follow it
+pub then_lacking : (needs has : ℕ) (slices : List Slice) {rest answer : Answer} → rest ≡ short_answer (first_short slices) → answer ≡ lacking too_short needs has rest
+    → answer ≡ short_answer (first_short (record { needs = needs; has = has } ∷ slices))
+unfolding lacking first_short
+then_lacking needs has slices is judged = judged ∙ by_test (leb needs has) (λ q. rw (q, is)) (λ q. rw q)
 
 module _ (device : Device) (l : Lengths) (rule n m : ℕ) where
   pub read_nodes_above : device.limits.nodes < l.capacities.nodes → record { number = device.number; value = l.capacities.nodes } ≡ reading device l rule n m

@@ -19,6 +19,7 @@ use Rattle.shape.specs.Shape.{adjacency_in, part, raw, live_in}
 use Rattle.shape.proofs.Laws.Chains.{in_none}
 use Rattle.cursor.specs.declared.Start.{Start}
 use Rattle.cursor.specs.Cursor.{word, part_left, part_count, ring_left, remaining, listed, listed_left, Within, Seekable}
+use Rattle.cursor.specs.Laws.Sought.{Writable}
 use Rattle.cursor.specs.Laws.Cursor.{part_counted}
 use Rattle.cursor.specs.Laws.Reading.{kept_short}
 use Rattle.adjacency.specs.Walk.{walk_in, tombstoned_in, column, entries_column, next_column, Readable, Walkable, Started}
@@ -152,3 +153,9 @@ module _ {ws : List ℕ} {ce cn : ℕ} {counts : Counts} {live_edges : List ℕ}
       pub given_walk : {tombstoned : Bool} → tombstoned ≡ tombstoned_in counts
           → listed_left s.linked entries next tombstoned live_edges counts.edges.bound s.cursor ≡ walk_in ws ce cn counts live_edges x live
       given_walk q = rw (are-entries, is-next, q) started_walk
+
+      -- and it can be written where there is room
+      pub given_writable : {tombstoned : Bool} {out : List ℕ} → tombstoned ≡ tombstoned_in counts
+          → length (walk_in ws ce cn counts live_edges x live) ≤ length out
+          → Writable s.linked entries next tombstoned live_edges counts.edges.bound s.cursor out
+      given_writable q h = record { seekable = given_seekable; fits = rw (given_walk q) h }

@@ -7,15 +7,15 @@ use Rattle.cursor.proofs.edges.AdjacentEdges.write.Goals as goal
 
 pub bounds-out-n : goal.bounds-out-n
 bounds-out-n c =
-    writing_room c.loop-edge.invariant (keep_first _ c.in-Some.ensures.steps (sym c.is_listed.ensures ∙ c.if-is_listed.true)) c.requires
+    writing_room c.loop-edge.invariant (keep_first _ c.in-Some.ensures.steps (sym c.has.ensures ∙ c.if-has.true)) c.requires
 
-pub loop-edge-preserved-then-is_listed : goal.loop-edge-preserved-then-is_listed
-loop-edge-preserved-then-is_listed c =
-    writing_on c.loop-edge.invariant (keep_first _ c.in-Some.ensures.steps (sym c.is_listed.ensures ∙ c.if-is_listed.true)) c.requires
+pub loop-edge-preserved-then-has : goal.loop-edge-preserved-then-has
+loop-edge-preserved-then-has c =
+    writing_on c.loop-edge.invariant (keep_first _ c.in-Some.ensures.steps (sym c.has.ensures ∙ c.if-has.true)) c.requires
 
 pub loop-edge-preserved : goal.loop-edge-preserved
 loop-edge-preserved c =
-    writing_skip c.loop-edge.invariant (keep_past _ c.in-Some.ensures.steps (sym c.is_listed.ensures ∙ c.if-is_listed.false))
+    writing_skip c.loop-edge.invariant (keep_past _ c.in-Some.ensures.steps (sym c.has.ensures ∙ c.if-has.false))
 
 pub returns : goal.returns
 returns c =

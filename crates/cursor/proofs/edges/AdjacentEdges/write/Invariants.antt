@@ -1,10 +1,9 @@
 -- `write` of the listed edges: the loop's invariant is `Writing`, with each edge itself.
 use Rattle.plain.specs.Lists.{keep}
-use Rattle.liveness.specs.Flags.{live_flags}
-use Rattle.cursor.specs.Cursor.{listed}
+use Rattle.cursor.specs.Cursor.{listed_by}
 use Rattle.cursor.proofs.Writing.{Writing}
 use Rattle.cursor.proofs.edges.AdjacentEdges.write.Given as goal
 
 abbrev pub invariant-loop-edge : goal.invariant-loop-edge
 invariant-loop-edge l =
-    Writing (λ e. e) l.fn.self (keep (listed l.tombstoned (live_flags l.live l.slots)) l.edge-iterator) l.fn.out l.out l.n
+    Writing (λ e. e) l.fn.self (keep (listed_by l.listed) l.edge-iterator) l.fn.out l.out l.n
