@@ -1,5 +1,5 @@
-// The run of one node: a chain of edges with first, last and length, and a mark that the node has it. Port of relocate/runs.rs. All functions are internal. What a call asks and promises of the words is a record of
-// specs/Runs.antt; `edge_capacity` and `node_capacity` are those of the axis.
+// The run of one node: a chain of edges with first, last and length, and a mark that the node has it. Port of relocate/runs.rs. All functions are internal. What a
+// call asks and promises of the words is a record of specs/Runs.antt. Chains are of edge numbers, not of boxes, since the memory is lent and fixed.
 
 #![tactic(auto)]
 
@@ -107,6 +107,8 @@ fn append_live(axis: &mut [u32], layout: Layout, node: usize, live: &[u64], firs
 }
 
 // Takes the dead edges out of the run of a node. Where no edge is removed the run is not read; else it is read once, and written from its first dead entry on.
+// `tombstoned` says whether some edge is removed. It stands beside the live words here and in what is above: a `cursor::listed::Listed` of both would be no plainer,
+// since it has a number of slots of its own, of which each contract would have to say that it is the layout's.
 pub fn sweep(axis: &mut [u32], layout: Layout, node: usize, live: &[u64], tombstoned: bool)
     requires { Sweepable axis.old layout.edge_capacity layout.node_capacity layout.counts node live.now tombstoned }
     ensures { Swept axis.old axis.new layout.edge_capacity layout.node_capacity layout.counts node live.now }
