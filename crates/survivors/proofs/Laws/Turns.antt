@@ -3,7 +3,7 @@
 use Rattle.std.specs.Prelude.{ℕ, ◌+◌, ◌<◌, ◌≤◌, suc, zero, ◌-◌, ◌≡◌, refl, Bool, cond, false, true, ◌⊎◌, List, [], ◌∷◌, ◌++◌, get_or, length, set, replicate}
 use Rattle.plain.specs.Library.{◌∙◌, ap, sym, ap₂, inl, inr, append-nil, append_snoc, length-append, ext_get_or, zero-add, add-one, arith}
 use Rattle.std.proofs.Common.{add-zero, get_or-append-add}
-use Rattle.plain.proofs.Laws.Rank.{live_below, length_live_slots, member_live_slots, live_count_all_live, live_from_all_live}
+use Rattle.plain.proofs.Laws.Rank.{live_below, live_slot_rank, rank_end, length_live_slots, member_live_slots, live_count_all_live, live_from_all_live}
 use Rattle.plain.proofs.Laws.Booleans.{below_or_not, or_true}
 use Rattle.plain.proofs.Laws.ListLaws.{count_length, get_or_from, member_append, member_first}
 use Rattle.plain.proofs.Laws.Renumberings.{length_renumbering, lookup_from}
@@ -81,6 +81,21 @@ module _ {live : List ℕ} {bound first slot number : ℕ} (p : Passed live boun
       let long = length_renumbering first flags ∙ length_flags live bound in
       let low = p.within in
       rewritten_written (renumbering_from first flags) NONE (rewritten_all (length (renumbering_from first flags)) r (omega arith) (omega arith)) (omega arith)
+
+-- ---- slots counted from 0 on
+
+module _ {live : List ℕ} {bound slot number : ℕ} (p : Passed live bound 0 slot number) where
+  -- as many as are live
+  counted : number ≡ rank (live_flags live bound) slot
+  counted = p.ranked ∙ zero-add (rank (live_flags live bound) slot)
+
+  -- the live slot stands at its rank
+  pub slot_counted : get_or (live_flags live bound) slot false ≡ true → get_or (live_slots (live_flags live bound)) number 0 ≡ slot
+  slot_counted alive = ap (λ (i : ℕ). get_or (live_slots (live_flags live bound)) i 0) counted ∙ live_slot_rank (live_flags live bound) slot 0 alive
+
+  -- all are passed
+  pub all_counted : bound ≤ slot → number ≡ live_count (live_flags live bound)
+  all_counted h = let long = length_flags live bound in counted ∙ rank_end (live_flags live bound) slot (omega arith)
 
 -- ---- words rewritten
 
@@ -162,6 +177,18 @@ module _ {words : List ℕ} {flags : List Bool} {past left entry now : List ℕ}
 pub moving_kept : {words : List ℕ} {flags : List Bool} {past left now : List ℕ} {n slot : ℕ} {rest : List ℕ} → Moving words flags past left words n now → left ≡ slot ∷ rest
     → get_or now slot 0 ≡ get_or words slot 0
 moving_kept {slot = slot} m q = m.moved.above slot (omega (arith, moving_low m q))
+
+-- ---- words moved down
+
+module _ {live : List ℕ} {bound slot number : ℕ} (p : Passed live bound 0 slot number) where
+  module _ {entry now : List ℕ} (r : Rewritten entry now 0 number (kept_word entry (live_flags live bound))) where
+    -- the word of a live slot is still where it was, and goes to the slot's rank
+    pub kept_live : get_or (live_flags live bound) slot false ≡ true → get_or now slot 0 ≡ kept_word entry (live_flags live bound) number
+    kept_live alive = let low = p.few in r.above slot (omega arith) ∙ ap (λ (x : ℕ). get_or entry x 0) (sym (slot_counted p alive))
+
+    -- all are moved
+    pub kept_all : bound ≤ slot → Rewritten entry now 0 (live_count (live_flags live bound)) (kept_word entry (live_flags live bound))
+    kept_all h = let count = all_counted p h in rewritten_all (live_count (live_flags live bound)) r (omega arith) (omega arith)
 
 -- ---- where every slot is live
 
