@@ -27,7 +27,7 @@ use Rattle.liveness.specs.Ranks.{RanksFit}
 use Rattle.shape.specs.Shape.{Words, capacities, node_live, edge_live, axis_words, plain_of, lists}
 use Rattle.shape.specs.Checked.{SlotsChecked, Checked}
 use Rattle.shape.proofs.Laws.Reading.{plain_node_flags, plain_edge_flags, plain_end, node_at, edge_at}
-use Rattle.relocate.specs.Laws.Stores.{checked_end}
+use Rattle.shape.proofs.Laws.Ends.{checked_end}
 use Rattle.survivors.specs.Working.{both_walks}
 use Rattle.survivors.proofs.Laws.Working.{both_length, both_live, both_renumbered}
 use Rattle.bits.specs.declared.pen.Pen.{Pen}

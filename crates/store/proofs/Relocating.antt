@@ -29,7 +29,8 @@ use Rattle.adjacency.specs.Laws.StoreWalks.{list_is_walk}
 use Rattle.runs.specs.Laws.Runs.{alive_below}
 use Rattle.relocate.specs.Redirects.{Redirectable, Redirected}
 use Rattle.relocate.specs.Moves.{Movable, Moved}
-use Rattle.relocate.specs.Laws.Stores.{checked_redirectable, checked_movable, checked_end, checked_all_live}
+use Rattle.shape.proofs.Laws.Ends.{checked_end}
+use Rattle.relocate.specs.Laws.Stores.{checked_redirectable, checked_movable, checked_all_live}
 use Rattle.store.specs.Operations.{Acted, RedirectedEdge, MovedEdges, EdgeRedirectable, EdgesMovable}
 use Rattle.store.proofs.Acting.{acted_walks}
 

@@ -2,16 +2,16 @@
 use Rattle.std.specs.Prelude.{ℕ, zero, suc, ◌<◌, ◌≡◌, refl, Bool, true, false, List, [], ◌∷◌, length, eqb, Result, Ok, Err, IfErr}
 use Rattle.plain.specs.Library.{Option, none, some, ◌∙◌, arith}
 use Rattle.plain.specs.declared.refusals.Refusal.{Refusal}
-use Rattle.plain.specs.declared.refusals.Refusal.TheVariants.{NoStore, TooShort, Ragged, UnknownCode, OutOfRangeNode, RemovedNode, OutOfRangeEdge, RemovedEdge, OntoItself, Full, Unreadable, AboveLimit, Unreachable, AboveSkid, Inverted}
 use Rattle.plain.specs.declared.TraversalDirection.{TraversalDirection}
 use Rattle.plain.specs.declared.Operation.{Operation}
 use Rattle.plain.specs.declared.Operation.TheVariants.{AddNode, AddEdge, RemoveEdge, RemoveNode, Redirect, Move, SetPayload, Unknown}
 use Rattle.plain.specs.Numbers.{NONE}
-use Rattle.plain.specs.Refusals.{number_of, value_of}
+use Rattle.plain.specs.Refusals.{value_of}
 use Rattle.plain.specs.Answers.{answer_of}
 use Rattle.plain.specs.Plain.{Plain, node_bound, edge_bound, list_of, end_of}
 use Rattle.plain.specs.Step.{Capacities, Outcome, unless, node_fault, node_missing, edge_fault, edge_missing, room_fault, self_fault, payload_fault, removing, redirecting, moving, step}
 use Rattle.plain.proofs.Laws.Booleans.{by_test}
+use Rattle.plain.proofs.Laws.Lending.{refusal_number}
 use Rattle.shape.specs.Shape.{Words, capacities, lists}
 use Rattle.refusals.specs.Step.{StepOf}
 
@@ -58,27 +58,9 @@ silent caps p (SetPayload e payload) =
     silent_unless (payload_fault payload) p _ (silent_unless (edge_missing p e) p _ (silent_done _ refl))
 silent caps p Unknown = record { silence = λ h. refl }
 
--- a refusal has a number
-pub numbered : (refusal : Refusal) → 0 < number_of refusal
-numbered (NoStore rule) = omega arith
-numbered (TooShort needed) = omega arith
-numbered (Ragged length) = omega arith
-numbered UnknownCode = omega arith
-numbered OutOfRangeNode = omega arith
-numbered RemovedNode = omega arith
-numbered OutOfRangeEdge = omega arith
-numbered RemovedEdge = omega arith
-numbered OntoItself = omega arith
-numbered Full = omega arith
-numbered (Unreadable rule) = omega arith
-numbered (AboveLimit capacity) = omega arith
-numbered Unreachable = omega arith
-numbered (AboveSkid asked) = omega arith
-numbered Inverted = omega arith
-
--- so an operation that is refused has none
+-- an operation that is refused has none
 pub untold : {operation : Operation} {w v : Words} (came : Result ℕ Refusal) → StepOf operation w v (answer_of came).number (answer_of came).value
     → IfErr came (λ refusal. value_of refusal ≡ NONE)
 untold (Ok value) does = tt
 untold {operation} {w} (Err refusal) does =
-    does.valued ∙ (silent (capacities w) (lists w) operation).silence (λ q. let none = does.numbered ∙ q in omega (arith, numbered refusal))
+    does.valued ∙ (silent (capacities w) (lists w) operation).silence (λ q. let none = does.numbered ∙ q in omega (arith, refusal_number refusal))

@@ -18,6 +18,7 @@ use Rattle.shape.specs.Shape.{Words, Adjacency, node_capacity, edge_capacity, ad
 use Rattle.shape.specs.Steps.{live_entries}
 use Rattle.shape.specs.Checked.{Checked}
 use Rattle.shape.proofs.Laws.Chains.{in_none, in_front}
+use Rattle.shape.proofs.Laws.Ends.{checked_end}
 use Rattle.shape.proofs.Laws.Refining.{list_is_walk}
 use Rattle.shape.proofs.Laws.Reading.{edge_flags_are, node_flags_are, shape_adjacency, plain_end}
 use Rattle.runs.specs.Laws.Runs.{entries_are, entries_of, alive_below}
@@ -121,13 +122,6 @@ module _ {w : Words} (k : Checked w) (d : TraversalDirection) where
       run_ends : (x e : ℕ) → x < w.counts.nodes.bound → live_in (edge_live w) e ≡ true → In e (run_list ws ce cn x) → end_at ws e ≡ x
       run_ends x e h live m =
           by_test (get_or (node_live w) x false) (λ t. (checked_placed x h t).own e live (in_run x e m)) (λ t. true_false live ((k.axis d).removed_runs x e h t m))
-
-  -- the end of a live edge is a live node
-  pub checked_end : (e : ℕ) → live_in (edge_live w) e ≡ true → get_or (node_live w) (end_at ws e) false ≡ true
-  checked_end e live =
-      subst (λ (x : ℕ). get_or (node_live w) x false ≡ true) (plain_end w d e (alive_below w.live_edges w.counts e live))
-      (ap (λ (f : List Bool). get_or f (end_of d (plain_of (shape_of w)) e) false) (sym (plain_node_flags w))
-      ∙ k.walks.ends_live d e (ap (λ (f : List Bool). get_or f e false) (plain_edge_flags w) ∙ live))
 
   -- a live edge can be redirected to a live node
   pub checked_redirectable : (tombstoned : Bool) → (tombstoned ≡ false → (f : ℕ) → f < w.counts.edges.bound → live_in (edge_live w) f ≡ true) → (e new : ℕ)
