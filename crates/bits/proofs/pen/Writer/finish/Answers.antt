@@ -1,11 +1,8 @@
 -- `bits::pen::Writer::finish` meets its contract: what waits is written with zero bits up to a byte.
 use Rattle.std.specs.Prelude.{◌-◌, ◌*◌}
 use Rattle.plain.specs.Library.{arith}
-use Rattle.bits.proofs.Putting.{waiting_fits, waiting_small, finishing}
+use Rattle.bits.proofs.Putting.{waiting_small, finishing}
 use Rattle.bits.proofs.pen.Writer.finish.Goals as goal
-
-pub raise-all-requires : goal.raise-all-requires
-raise-all-requires c = let s = c in waiting_fits s.requires.0 (omega arith)
 
 pub overflow_cast-all : goal.overflow_cast-all
 overflow_cast-all c = let s = c in rw c.raise-all.ensures (record { fits = waiting_small _ s.requires.0 (omega arith) })

@@ -9,9 +9,6 @@ use Rattle.bits.proofs.pen.Writer.put.Goals as goal
 pub raise-requires : goal.raise-requires
 raise-requires c = omega (arith, all_fits c.requires)
 
-pub overflow_add-pending : goal.overflow_add-pending
-overflow_add-pending c = omega (arith, all_fits c.requires)
-
 pub overflow_cast-pending : goal.overflow_cast-pending
 overflow_cast-pending c = rw c.raise.ensures (record { fits = front_fits c.requires (omega arith) })
 
