@@ -1,6 +1,6 @@
 -- `liveness::rank_by` meets its contract: the slots of the words before, and those of its own word before it.
 use Rattle.std.specs.Prelude.{◌+◌, ◌/◌, ◌%◌, ◌^◌, ◌≡◌, get_or}
-use Rattle.plain.specs.Library.{sym, ◌∙◌, pow_pos, arith}
+use Rattle.plain.specs.Library.{sym, ◌∙◌, arith}
 use lib.Count.{ones}
 use Rattle.plain.specs.Reads.{live_count}
 use Rattle.liveness.specs.Flags.{live_flags}
@@ -15,9 +15,6 @@ whole : (c : Start) → let a = c.args in
 whole c =
     let a = c.args in
     rw (c.requires.0.holds (a.slot / 64) (omega (arith, c.requires.1))) (sym (count_rest a.words.now a.slot))
-
-pub nonzero_rem-result-2 : goal.nonzero_rem-result-2
-nonzero_rem-result-2 c = let slot = c.args.slot in omega (arith, power slot, pow_pos (slot % 64))
 
 pub overflow_add-result : goal.overflow_add-result
 overflow_add-result c = let s = c in rw power (omega (arith, whole (goal.at.overflow_add-result c).Start, count_le s.args.words.now s.args.slot, s.requires.0.few, s.requires.1))
