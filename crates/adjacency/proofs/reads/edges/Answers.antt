@@ -1,11 +1,7 @@
 -- `adjacency::reads::edges` meets its contract: the list of a node is its walk.
 use Rattle.plain.specs.Library.{sym, ◌∙◌}
-use Rattle.adjacency.specs.Laws.StoreWalks.{checked_walkable, list_is_walk}
+use Rattle.adjacency.specs.Laws.StoreWalks.{list_is_walk}
 use Rattle.adjacency.proofs.reads.edges.Goals as goal
-
-pub edges-requires : goal.edges-requires
-edges-requires c =
-    rw (c.axis-axis.ensures, c.layout.ensures) (checked_walkable c.requires.checked c.args.direction c.args.node c.requires.node_lt_bound)
 
 pub returns : goal.returns
 returns c =
