@@ -153,9 +153,9 @@ fn check_image(device: Device, lengths: Lengths, bytes: &[u8]) -> Result<(), Ref
     match first_broken(bytes) {
         Ok(()) => {
             let image = Image::new(bytes);
-            check_reading(limits, lengths, Ok(()), image.nodes, image.edges)
+            check_reading(limits, lengths, Ok((image.nodes, image.edges)))
         }
-        Err(rule) => check_reading(limits, lengths, Err(rule), 0, 0),
+        Err(rule) => check_reading(limits, lengths, Err(rule)),
     }
 }
 

@@ -3,12 +3,12 @@
 
 #![tactic(auto)]
 
-ghost use Rattle.std.specs.Prelude.{◌≡◌, ◌≤◌, ◌<◌, MatchResult};
+ghost use Rattle.std.specs.Prelude.{ℕ, ◌≡◌, ◌≤◌, ◌<◌, MatchResult};
 ghost use Rattle.plain.specs.Answers.{done_of};
-ghost use Rattle.plain.specs.Refusals.{number_of, value_of, image_rule_of};
+ghost use Rattle.plain.specs.Refusals.{number_of, value_of, image_rule_number};
 ghost use Rattle.plain.specs.Memory.{first_short, other_slices, live_words, axis_length};
 ghost use Rattle.plain.specs.Calls.{fresh, short_answer, reading};
-ghost use Rattle.memory.specs.Lengths.{caps, measured, above_number, device_of, limited, Taken, Few, FewSlots};
+ghost use Rattle.memory.specs.Lengths.{caps, measured, above_number, device_of, limited, Taken, Few};
 
 use plain::LIMIT;
 use plain::refusals::{ImageRule, Refusal};
@@ -105,10 +105,9 @@ impl Limits {
 
 // The live words of so many slots.
 pub fn live_words(slots: usize) -> usize
-    requires { FewSlots slots }
     ensures { result ≡ live_words slots }
 {
-    (slots + 63) / 64
+    slots.div_ceil(64)
 }
 
 // The words of an axis.
@@ -143,20 +142,20 @@ fn check_others(lengths: Lengths) -> Result<(), Refusal>
     need(axis, lengths.incoming)
 }
 
-// Refuses to read an image into memory of these lengths, by the image's first broken rule, if one is, and its two counts: the limits of the memory, the rule, the limits of
-// the image, a slice too short.
+// Refuses to read an image into memory of these lengths, by the two counts that it asks for or the first rule that it breaks: the limits of the memory, the rule, the limits
+// of the image, a slice too short.
 #[tactic(auto, unfolding(plain::specs::Calls::reading, plain::specs::Calls::within, plain::specs::Memory::first_short))]
 pub fn check_reading(
     limits: Limits,
     lengths: Lengths,
-    rule: Result<(), ImageRule>,
-    count_nodes: u32,
-    count_edges: u32,
+    asked: Result<(u32, u32), ImageRule>,
 ) -> Result<(), Refusal>
-    ensures { done_of result ≡ reading (limited limits) (measured lengths) (image_rule_of rule) count_nodes count_edges }
+    ensures { MatchResult asked
+        (λ counts. done_of result ≡ reading (limited limits) (measured lengths) 0 counts.0 counts.1)
+        (λ rule. (nodes edges : ℕ) → done_of result ≡ reading (limited limits) (measured lengths) (image_rule_number rule) nodes edges) }
 {
     limits.take(lengths.nodes, lengths.lows)?;
-    rule?;
+    let (count_nodes, count_edges) = asked?;
     let asked_nodes = count_nodes as usize;
     let asked_edges = count_edges as usize;
     limits.take(asked_nodes, asked_edges)?;

@@ -107,8 +107,8 @@ fn append_live(axis: &mut [u32], layout: Layout, node: usize, live: &[u64], firs
 }
 
 // Takes the dead edges out of the run of a node. Where no edge is removed the run is not read; else it is read once, and written from its first dead entry on.
-// `tombstoned` says whether some edge is removed. It stands beside the live words here and in what is above: a `cursor::listed::Listed` of both would be no plainer,
-// since it has a number of slots of its own, of which each contract would have to say that it is the layout's.
+// `tombstoned` says whether some edge is removed. It is told, here and in what is above, and not taken out of the layout's counts, since a contract may not ask more of a
+// caller than before: that the counts tell of the bits.
 pub fn sweep(axis: &mut [u32], layout: Layout, node: usize, live: &[u64], tombstoned: bool)
     requires { Sweepable axis.old layout.edge_capacity layout.node_capacity layout.counts node live.now tombstoned }
     ensures { Swept axis.old axis.new layout.edge_capacity layout.node_capacity layout.counts node live.now }

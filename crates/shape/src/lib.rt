@@ -3,7 +3,7 @@
 
 #![tactic(auto)]
 
-ghost use Rattle.std.specs.Prelude.{◌*◌, ◌≤◌, ◌≡◌, false, length, get_or};
+ghost use Rattle.std.specs.Prelude.{◌*◌, ◌<◌, ◌≤◌, ◌≡◌, false, length, get_or, MatchResult};
 ghost use Rattle.plain.specs.declared.refusals.Refusal.TheVariants.{OutOfRangeNode, RemovedNode, OutOfRangeEdge, RemovedEdge};
 ghost use Rattle.memory.specs.Lengths.{measured};
 ghost use Rattle.shape.specs.Shape.{axis_words, edge_live, lengths_of, node_live};
@@ -15,7 +15,8 @@ use plain::refusals::Refusal;
 use plain::{Counts, EdgePayload, EdgeRecord, TraversalDirection};
 
 // How an axis is laid out: by the capacities where its columns begin, and by the counts how much of each is in use. What works on the words of one axis is given it beside
-// them, by value, since the words are lent now to be read and now to be written.
+// them, by value, since the words are lent now to be read and now to be written. Its columns have no methods: tried, and each access needed a proof of its own; specs/Columns
+// says where each column begins. A clause names its fields, so that the records of specs/ keep their arguments.
 #[derive(Clone, Copy)]
 pub struct Layout {
     pub edge_capacity: usize,
@@ -23,7 +24,16 @@ pub struct Layout {
     pub counts: Counts,
 }
 
-// A store to be read: its counts and the seven slices that are lent.
+// One direction of a store, to be read: the words of its axis with their layout, and the live words of both kinds of slot.
+#[derive(Clone, Copy)]
+pub struct Incidence<'a> {
+    pub axis: &'a [u32],
+    pub layout: Layout,
+    pub live_nodes: &'a [u64],
+    pub live_edges: &'a [u64],
+}
+
+// A store to be read: its counts and the seven slices that are lent. Lows and highs are two slices and not one of pairs, since the C interface lends them apart.
 #[derive(Clone, Copy)]
 pub struct Store<'a> {
     pub counts: Counts,
@@ -55,6 +65,21 @@ impl<'a> Store<'a> {
             edge_capacity: self.lows.len(),
             node_capacity: self.nodes.len(),
             counts: self.counts,
+        }
+    }
+
+    // One direction.
+    pub fn incidence(&self, direction: TraversalDirection) -> Incidence<'a>
+        ensures axis { result.axis.now ≡ axis_words direction (words self.now) }
+        ensures layout { result.layout ≡ layout_of (words self.now) }
+        ensures live_nodes { result.live_nodes.now ≡ self.now.live_nodes.now }
+        ensures live_edges { result.live_edges.now ≡ self.now.live_edges.now }
+    {
+        Incidence {
+            axis: self.axis(direction),
+            layout: self.layout(),
+            live_nodes: self.live_nodes,
+            live_edges: self.live_edges,
         }
     }
 
@@ -112,7 +137,30 @@ impl<'a> Store<'a> {
         )
     }
 
-    // Refuses a node at or above the bound, and one that is removed.
+    // Refuses a node at or above the bound.
+    pub fn known_node(&self, node: u32) -> Result<(), Refusal>
+        ensures { MatchResult result (λ _. node < self.now.counts.nodes.bound) (λ refusal. (self.now.counts.nodes.bound ≤ node) × (refusal ≡ OutOfRangeNode)) }
+    {
+        if node < self.counts.nodes.bound {
+            Ok(())
+        } else {
+            Err(Refusal::OutOfRangeNode)
+        }
+    }
+
+    // Refuses an edge at or above the bound.
+    pub fn known_edge(&self, edge: u32) -> Result<(), Refusal>
+        ensures { MatchResult result (λ _. edge < self.now.counts.edges.bound) (λ refusal. (self.now.counts.edges.bound ≤ edge) × (refusal ≡ OutOfRangeEdge)) }
+    {
+        if edge < self.counts.edges.bound {
+            Ok(())
+        } else {
+            Err(Refusal::OutOfRangeEdge)
+        }
+    }
+
+    // Refuses a node at or above the bound, and one that is removed. What is told of nodes and of edges differs in the words, the bound and two refusals: one function of both
+    // would take all four, and be longer than either.
     #[tactic(auto, unfolding(crate::specs::Stores::slot_refused))]
     pub fn live_node(&self, node: u32) -> Result<(), Refusal>
         requires { self.now.counts.nodes.bound ≤ 64 * length self.now.live_nodes.now }
