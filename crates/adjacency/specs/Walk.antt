@@ -4,6 +4,7 @@ use Rattle.std.specs.Prelude.{ℕ, ◌*◌, ◌≤◌, ◌<◌, ◌≡◌, Bool,
 use Rattle.plain.specs.declared.Counts.{Counts}
 use Rattle.plain.specs.Numbers.{LIMIT}
 use Rattle.liveness.specs.Flags.{live_flags}
+use Rattle.shape.specs.declared.Incidence.{Incidence}
 use Rattle.shape.specs.Columns.{Sized}
 use Rattle.shape.specs.Shape.{adjacency_in, part, walk_of}
 use Rattle.shape.specs.Checked.{Bounded, LiveRight, Index, Rings, Runs}
@@ -15,6 +16,10 @@ use Rattle.cursor.specs.Cursor.{part_left, ring_left, Ready}
 -- a node's walk, by the live words of the edges
 abbrev pub walk_in : List ℕ → ℕ → ℕ → Counts → List ℕ → ℕ → Bool → List ℕ
 walk_in ws ce cn counts live_edges x live = walk_of (live_flags live_edges counts.edges.bound) live (adjacency_in ws ce cn counts x)
+
+-- the same of one direction of a store
+abbrev pub side_walk : Incidence → ℕ → Bool → List ℕ
+side_walk s x live = walk_in s.axis.now s.layout.edge_capacity s.layout.node_capacity s.layout.counts s.live_edges.now x live
 
 -- some edge is removed
 abbrev pub tombstoned_in : Counts → Bool

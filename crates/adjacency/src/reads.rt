@@ -18,14 +18,8 @@ pub fn edges<'a>(store: &Store<'a>, direction: TraversalDirection, node: u32) ->
     requires node_lt_bound { node < store.now.counts.nodes.bound }
     ensures { result ≡ list_of direction (lists (words store.now)) node }
 {
-    let axis = store.axis(direction);
-    walk::edges(
-        axis,
-        store.layout(),
-        store.live_edges,
-        node as usize,
-        store.is_node_live(node),
-    )
+    let side = store.incidence(direction);
+    walk::edges(side, node as usize, store.is_node_live(node))
 }
 
 // How many edges a node's list has, of a node slot below the bound.
@@ -35,9 +29,7 @@ pub fn degree(store: &Store, direction: TraversalDirection, node: u32) -> usize
     ensures { result ≡ length (list_of direction (lists (words store.now)) node) }
 {
     walk::degree(
-        store.axis(direction),
-        store.layout(),
-        store.live_edges,
+        store.incidence(direction),
         node as usize,
         store.is_node_live(node),
     )
@@ -50,9 +42,7 @@ pub fn total(store: &Store, direction: TraversalDirection, node: u32) -> Sums
     ensures { result ≡ sums_in direction (lists (words store.now)) node }
 {
     walk::total(
-        store.axis(direction),
-        store.layout(),
-        store.live_edges,
+        store.incidence(direction),
         node as usize,
         store.is_node_live(node),
         store.lows,

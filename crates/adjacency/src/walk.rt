@@ -6,7 +6,7 @@ ghost use Rattle.plain.specs.Numbers.{NONE as none};
 ghost use Rattle.liveness.specs.Flags.{live_flags};
 ghost use Rattle.shape.specs.Shape.{adjacency_in, raw};
 ghost use Rattle.cursor.specs.Cursor.{listed as is_listed, listed_by};
-ghost use Rattle.adjacency.specs.Walk.{walk_in, tombstoned_in, entries_column, next_column, ColumnsThere, Readable, Walkable, WalkSummable, Started};
+ghost use Rattle.adjacency.specs.Walk.{side_walk, tombstoned_in, entries_column, next_column, ColumnsThere, Readable, Walkable, WalkSummable, Started};
 ghost use Rattle.cursor.specs.Finding.{first_of, ends_at, Among};
 ghost use Rattle.cursor.specs.Summing.{sums_of};
 
@@ -17,7 +17,7 @@ use cursor::entries::Entries;
 use cursor::listed::Listed;
 use cursor::{AdjacencyCursor, Start};
 use plain::{Counts, NONE, Sums};
-use shape::Layout;
+use shape::{Incidence, Layout};
 
 // Whether some edge is removed.
 pub fn tombstoned(counts: Counts) -> bool
@@ -112,75 +112,54 @@ pub fn entries(axis: &[u32], layout: Layout, node: usize, live: bool) -> Entries
 }
 
 // The walk over a node's adjacency: the listed ones of its entries.
-pub fn edges<'a>(
-    axis: &'a [u32],
-    layout: Layout,
-    live_edges: &'a [u64],
-    node: usize,
-    live: bool,
-) -> AdjacentEdges<'a>
-    requires { Walkable axis.now layout.edge_capacity layout.node_capacity layout.counts live_edges.now node }
-    ensures { result ≡ walk_in axis.now layout.edge_capacity layout.node_capacity layout.counts live_edges.now node live }
+pub fn edges<'a>(side: Incidence<'a>, node: usize, live: bool) -> AdjacentEdges<'a>
+    requires { Walkable side.axis.now side.layout.edge_capacity side.layout.node_capacity side.layout.counts side.live_edges.now node }
+    ensures { result ≡ side_walk side.entry node live }
 {
-    entries(axis, layout, node, live).listed(listed_edges(layout.counts, live_edges))
+    entries(side.axis, side.layout, node, live).listed(listed_edges(
+        side.layout.counts,
+        side.live_edges,
+    ))
 }
 
 // How many entries a node's walk has.
-pub fn count_walk(
-    axis: &[u32],
-    layout: Layout,
-    live_edges: &[u64],
-    node: usize,
-    live: bool,
-) -> usize
-    requires { Walkable axis.now layout.edge_capacity layout.node_capacity layout.counts live_edges.now node }
-    ensures { result ≡ length (walk_in axis.now layout.edge_capacity layout.node_capacity layout.counts live_edges.now node live) }
+pub fn count_walk(side: Incidence, node: usize, live: bool) -> usize
+    requires { Walkable side.axis.now side.layout.edge_capacity side.layout.node_capacity side.layout.counts side.live_edges.now node }
+    ensures { result ≡ length (side_walk side.entry node live) }
 {
-    edges(axis, layout, live_edges, node, live).count()
+    edges(side, node, live).count()
 }
 
 // The degree of a node: how many entries its walk has. Where no edge is removed, only the ring is walked.
-pub fn degree(axis: &[u32], layout: Layout, live_edges: &[u64], node: usize, live: bool) -> usize
-    requires { Walkable axis.now layout.edge_capacity layout.node_capacity layout.counts live_edges.now node }
-    ensures { result ≡ length (walk_in axis.now layout.edge_capacity layout.node_capacity layout.counts live_edges.now node live) }
+pub fn degree(side: Incidence, node: usize, live: bool) -> usize
+    requires { Walkable side.axis.now side.layout.edge_capacity side.layout.node_capacity side.layout.counts side.live_edges.now node }
+    ensures { result ≡ length (side_walk side.entry node live) }
 {
-    if tombstoned(layout.counts) {
-        return count_walk(axis, layout, live_edges, node, live);
+    if tombstoned(side.layout.counts) {
+        return count_walk(side, node, live);
     }
-    let start = start(axis, layout, node, live);
-    start.cursor.part_count(start.linked) + start.cursor.ring_count(next_of(axis, layout))
+    let start = start(side.axis, side.layout, node, live);
+    start.cursor.part_count(start.linked) + start.cursor.ring_count(next_of(side.axis, side.layout))
 }
 
 // The first entry of a node's walk whose far end is `end`. `far` is the axis of the other direction.
-pub fn find(
-    axis: &[u32],
-    far: &[u32],
-    layout: Layout,
-    live_edges: &[u64],
-    node: usize,
-    live: bool,
-    end: u32,
-) -> Option<u32>
-    requires walkable { Walkable axis.now layout.edge_capacity layout.node_capacity layout.counts live_edges.now node }
-    requires edge_capacity_in_bounds { layout.edge_capacity ≤ length far.now }
-    ensures first { unwrap_or result none ≡ first_of (ends_at far.now end) (walk_in axis.now layout.edge_capacity layout.node_capacity layout.counts live_edges.now node live) }
-    ensures among { Among result (walk_in axis.now layout.edge_capacity layout.node_capacity layout.counts live_edges.now node live) }
+pub fn find(side: Incidence, far: &[u32], node: usize, live: bool, end: u32) -> Option<u32>
+    requires walkable { Walkable side.axis.now side.layout.edge_capacity side.layout.node_capacity side.layout.counts side.live_edges.now node }
+    requires edge_capacity_in_bounds { side.layout.edge_capacity ≤ length far.now }
+    ensures first { unwrap_or result none ≡ first_of (ends_at far.now end) (side_walk side.entry node live) }
+    ensures among { Among result (side_walk side.entry node live) }
 {
-    entries(axis, layout, node, live).find_end(far, end, listed_edges(layout.counts, live_edges))
+    entries(side.axis, side.layout, node, live).find_end(
+        far,
+        end,
+        listed_edges(side.layout.counts, side.live_edges),
+    )
 }
 
 // The sum of the lowest and the sum of the highest weights of a node's walk.
-pub fn total(
-    axis: &[u32],
-    layout: Layout,
-    live_edges: &[u64],
-    node: usize,
-    live: bool,
-    lows: &[u32],
-    highs: &[u32],
-) -> Sums
-    requires { WalkSummable axis.now layout.edge_capacity layout.node_capacity layout.counts live_edges.now node live lows.now highs.now }
-    ensures { result ≡ sums_of lows.now highs.now (walk_in axis.now layout.edge_capacity layout.node_capacity layout.counts live_edges.now node live) }
+pub fn total(side: Incidence, node: usize, live: bool, lows: &[u32], highs: &[u32]) -> Sums
+    requires { WalkSummable side.axis.now side.layout.edge_capacity side.layout.node_capacity side.layout.counts side.live_edges.now node live lows.now highs.now }
+    ensures { result ≡ sums_of lows.now highs.now (side_walk side.entry node live) }
 {
-    edges(axis, layout, live_edges, node, live).total(lows, highs)
+    edges(side, node, live).total(lows, highs)
 }

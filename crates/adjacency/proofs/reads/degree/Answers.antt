@@ -5,4 +5,4 @@ use Rattle.adjacency.proofs.reads.degree.Goals as goal
 pub returns : goal.returns
 returns c =
     degree_read c.requires.checked c.args.direction c.args.node c.requires.node_lt_bound c.is_node_live.ensures
-    (rw (c.axis.ensures, c.layout.ensures) at c.degree.ensures)
+    (rw (c.incidence.ensures.axis, c.incidence.ensures.layout, c.incidence.ensures.live_edges) at c.degree.ensures)

@@ -4,10 +4,10 @@ use Rattle.adjacency.proofs.reads.total.Goals as goal
 
 pub total-requires : goal.total-requires
 total-requires c =
-    rw (c.axis.ensures, c.layout.ensures)
+    rw (c.incidence.ensures.axis, c.incidence.ensures.layout, c.incidence.ensures.live_edges)
     (checked_summable c.requires.checked c.args.direction c.args.node c.requires.node_lt_bound c.is_node_live.ensures)
 
 pub returns : goal.returns
 returns c =
     total_read c.requires.checked c.args.direction c.args.node c.requires.node_lt_bound c.is_node_live.ensures
-    (rw (c.axis.ensures, c.layout.ensures) at c.total.ensures)
+    (rw (c.incidence.ensures.axis, c.incidence.ensures.layout, c.incidence.ensures.live_edges) at c.total.ensures)
