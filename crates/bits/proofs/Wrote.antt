@@ -55,9 +55,8 @@ wrote_bytes s i k bs {f} room wide is long =
     }
 
 -- the low bytes of a number, cut out of all four
-pub wrote_low : (s : List ℕ) (i k x : ℕ) (all : List ℕ) → i + k ≤ length s → k ≤ 4 → all ≡ bytes_high_first 4 x
-    → Wrote s (8 * i) (bits_of (8 * k) x) (take i s ++ (take (4 - (4 - k)) (drop (4 - k) all) ++ drop k (drop i s)))
-wrote_low s i k x all room few is =
+pub low_bits : (k x : ℕ) (all : List ℕ) → k ≤ 4 → all ≡ bytes_high_first 4 x → bits (take (4 - (4 - k)) (drop (4 - k) all)) ≡ bits_of (8 * k) x
+low_bits k x all few is =
     let e : 4 ≡ 4 - k + k = omega arith in
     let m : 4 - (4 - k) ≡ k = omega arith in
     let low : drop (4 - k) all ≡ bytes_high_first k x =
@@ -65,4 +64,12 @@ wrote_low s i k x all room few is =
     let long : length (drop (4 - k) all) ≡ k = rw is (simp length-drop (omega arith)) in
     let whole : take (4 - (4 - k)) (drop (4 - k) all) ≡ drop (4 - k) all =
     ap (λ (n : ℕ). take n (drop (4 - k) all)) (m ∙ sym long) ∙ take-length (drop (4 - k) all) in
-    wrote_bytes s i k (take (4 - (4 - k)) (drop (4 - k) all)) room (length_bits_of (8 * k) x) (ap bits (whole ∙ low) ∙ bytes_bits k x) (ap length whole ∙ long)
+    ap bits (whole ∙ low) ∙ bytes_bits k x
+
+-- a part of the bytes, of which the bits of a number are stored
+pub wrote_part : (s : List ℕ) (i k x : ℕ) (part : List ℕ) → i + k ≤ length s → length part ≡ length (take (i + k - i) (drop i s))
+    → bits part ≡ bits_of (8 * length (take (i + k - i) (drop i s))) x → Wrote s (8 * i) (bits_of (8 * k) x) (take i s ++ (part ++ drop (i + k - i) (drop i s)))
+wrote_part s i k x part room long is =
+    let e : i + k - i ≡ k = omega arith in
+    let sized : length (take (i + k - i) (drop i s)) ≡ k = simp (length-take, length-drop) (omega arith) in
+    rw e (wrote_bytes s i k part room (length_bits_of (8 * k) x) (rw sized at is) (long ∙ sized))

@@ -68,7 +68,7 @@ fn read_bytewise(bytes: &[u8], position: usize, width: u32) -> u32
 }
 
 // The field of `width` bits at bit `position`: out of a window of eight bytes, which the compiler makes one load, and which holds a field of up to 32 bits wherever in its
-// first byte the field starts.
+// first byte the field starts. The place stays a parameter: it is a bit, at which no sub-slice begins.
 pub fn read_field(bytes: &[u8], position: usize, width: u32) -> u32
     requires { Room bytes.now position width }
     ensures { result ≡ field_at bytes.now position width }

@@ -2,7 +2,7 @@
 // is read.
 
 ghost use Rattle.std.specs.Prelude.{◌+◌, ◌*◌, ◌<◌, ◌≤◌, ◌≡◌, ◌++◌, length};
-ghost use Rattle.plain.specs.Bits.{bits_of, padding};
+ghost use Rattle.plain.specs.Bits.{bits, bits_of, padding};
 ghost use Rattle.bits.specs.Wrote.{Wrote};
 ghost use Rattle.bits.specs.Penned.{Ready, Puts, Penned, Written, fresh, reach, waiting};
 
@@ -16,13 +16,12 @@ pub struct Pen {
     pub count: u32,
 }
 
-// Writes the `count` low bytes of x from byte i on: at a count of four the compiler makes one store of it.
-fn write_low(bytes: &mut [u8], i: usize, x: u32, count: usize)
-    requires room { i + count ≤ length bytes.old }
-    requires few { count ≤ 4 }
-    ensures { Wrote bytes.old (8 * i) (bits_of (8 * count) x) bytes.new }
+// Writes the low bytes of x, as many as there are bytes: where that is four the compiler makes one store of it.
+fn write_low(bytes: &mut [u8], x: u32)
+    requires { length bytes.old ≤ 4 }
+    ensures { bits bytes.new ≡ bits_of (8 * length bytes.old) x }
 {
-    bytes[i..i + count].copy_from_slice(&x.to_be_bytes()[4 - count..]);
+    bytes.copy_from_slice(&x.to_be_bytes()[4 - bytes.len()..]);
 }
 
 // The pen over the bytes that it writes. A function that is lent a writer ensures that its bytes keep their ghost name, as `put` does: else its callers know nothing of
@@ -64,7 +63,7 @@ impl<'a> Writer<'a> {
         }
         let left = count - 32;
         let bytes = &mut *self.bytes;
-        write_low(bytes, at, (pending >> left) as u32, 4);
+        write_low(&mut bytes[at..at + 4], (pending >> left) as u32);
         self.pen = Pen {
             at: at + 4,
             pending: cut(pending, 0, left),
@@ -80,6 +79,6 @@ impl<'a> Writer<'a> {
         let Writer { bytes, pen } = self;
         let parts = pen.count.div_ceil(8);
         let all = raise(pen.pending, 8 * parts - pen.count);
-        write_low(bytes, pen.at, all as u32, parts as usize);
+        write_low(&mut bytes[pen.at..pen.at + parts as usize], all as u32);
     }
 }

@@ -43,11 +43,7 @@ impl<'a> Iterator for AdjacentEdges<'a> {
 
     #[inline]
     fn next(&mut self) -> Option<u32> {
-        while let Some(edge) = self.entries.next() {
-            if self.listed.has(edge) {
-                return Some(edge);
-            }
-        }
-        None
+        let listed = self.listed;
+        self.entries.find(|edge| listed.has(*edge))
     }
 }

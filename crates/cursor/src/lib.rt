@@ -18,7 +18,6 @@ use plain::NONE;
 
 // Where a walk stands. Of a base part `base` and `base_end` are positions in the adjacency column. Of a run `base` is the entry to read next
 // and `base_end` how many are left. `delta` is the ring's entry to read next, NONE where none is left, and `delta_last` the ring's last.
-#[repr(C)]
 #[derive(Clone, Copy)]
 pub struct AdjacencyCursor {
     pub base: u32,
@@ -27,9 +26,8 @@ pub struct AdjacencyCursor {
     pub delta_last: u32,
 }
 
-// Where a walk starts, and whether it reads a run. That stands beside the cursor, and not in an enum of both kinds of part, since a cursor is four numbers in the
-// layout for C.
-#[repr(C)]
+// Where a walk starts, and whether it reads a run. It stands beside the cursor, and not in an enum of both kinds of part: the scope of the build names a cursor of
+// four numbers.
 #[derive(Clone, Copy)]
 pub struct Start {
     pub linked: bool,
@@ -85,7 +83,7 @@ impl AdjacencyCursor {
         Entries::of(ring, false, next, next).count()
     }
 
-    // The next entry of the ring, and the cursor behind it. NONE is the ring's end, since a cursor is four numbers in the layout for C.
+    // The next entry of the ring, and the cursor behind it. NONE is the ring's end: the scope of the build names a cursor of four numbers.
     #[inline]
     fn step_ring(self, next: &[u32]) -> (Option<u32>, Self)
         requires { (self.delta ≡ none → ⊥) → self.delta < length next.now }
@@ -104,7 +102,7 @@ impl AdjacencyCursor {
     }
 
     // The next entry, dead or not, and the cursor behind it. Linked: the node has a run, and `entries` is the link column. Not linked: `entries` is the
-    // adjacency column.
+    // adjacency column. `linked` goes beside the columns: which of them is lent follows from it, and the cursor has no room for it.
     #[inline]
     #[tactic(auto, unfolding(crate::specs::Cursor::step_of), using(crate::specs::Laws::Stepping::ring_within, crate::specs::Laws::Stepping::base_within, crate::specs::Laws::Stepping::run_within))]
     pub fn step(self, linked: bool, entries: &[u32], next: &[u32]) -> (Option<u32>, Self)

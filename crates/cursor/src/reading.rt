@@ -51,6 +51,7 @@ impl<'a> AdjacentEdges<'a> {
         requires within { Within ends.now self }
         ensures { out.new ≡ written (map (word ends.now) self.entry) out.old }
     {
+        // a zip of `out.iter_mut()` with the edges was tried, and the proof did not close: the loop's invariant cannot name the words that are written so
         for (n, edge) in self.enumerate() {
             out[n] = ends[edge as usize];
         }
@@ -78,6 +79,7 @@ impl<'a> Entries<'a> {
         ensures first { unwrap_or result none ≡ first_of (ends_at ends.now end) (keep (listed_by listed.entry) self.entry) }
         ensures among { Among result (keep (listed_by listed.entry) self.entry) }
     {
+        // a `find` with both tests was tried, and the proof did not close: that the closure may read the end of each entry that it is asked stayed open
         for edge in self {
             if ends[edge as usize] == end && listed.has(edge) {
                 return Some(edge);

@@ -1,6 +1,8 @@
 -- The next live slot: over dead slots it stays the same, at a live slot it is that slot, past the end there is none; and so found word by word.
-use Rattle.std.specs.Prelude.{ℕ, zero, suc, ◌+◌, ◌-◌, ◌*◌, ◌/◌, ◌%◌, ◌^◌, ◌≤◌, ◌<◌, ◌≡◌, refl, Bool, true, false, List, length, get_or, eqb}
-use Rattle.plain.specs.Library.{sym, ap, ◌∙◌, pow_pos, arith, eq-eqb}
+use Rattle.std.specs.Prelude.{ℕ, zero, suc, ◌+◌, ◌-◌, ◌*◌, ◌/◌, ◌%◌, ◌^◌, ◌≤◌, ◌<◌, ◌≡◌, refl, Bool, true, false, List, length, get_or, eqb, ltb, Option, unwrap_or, IfSome}
+use Rattle.std.specs.Bool.{then_some}
+use Rattle.plain.specs.Library.{sym, ap, ◌∙◌, pow_pos, arith, eq-eqb, ltb-true}
+use borrow.Author.Tests.{ltb-false}
 use Prim.Native.Nat.{min}
 use native.Mathlib.Nat.{add-zero, div-one, pow-suc}
 use native.Mathlib.Decide.{dec_le}
@@ -159,3 +161,20 @@ module _ (words : List ℕ) (slots i : ℕ) where
       let d : 64 * i / 64 ≡ i = omega arith in
       let m : 64 * i % 64 ≡ 0 = omega arith in
       rw (d, m, div-one) at (next_word words slots (64 * i) l (rw d f) (rw (d, m, div-one) n))
+
+-- ---- a bit that may be past the slots
+
+module _ (slot slots : ℕ) {found : Option ℕ} (is : found ≡ then_some (ltb slot slots) slot) where
+  pub short_next : unwrap_or found slots ≡ min slot slots
+  short_next = rw is (at (ltb slot slots) refl)
+    where
+      at : (b : Bool) → ltb slot slots ≡ b → unwrap_or (then_some b slot) slots ≡ min slot slots
+      at true e = let l = ltb-true slot slots e in omega arith
+      at false e = let l = ltb-false slot slots e in omega arith
+
+  pub short_below : IfSome found (λ s. s < slots)
+  short_below = rw is (at (ltb slot slots) refl)
+    where
+      at : (b : Bool) → ltb slot slots ≡ b → IfSome (then_some b slot) (λ s. s < slots)
+      at true e = ltb-true slot slots e
+      at false e = tt

@@ -1,13 +1,14 @@
 // Which slots are live: a bit a slot, packed into lent words, 64 slots a word, the lowest bit first. All functions are internal: where
 // the words may be shorter than the slots need, the length is required. What the words mean is `live_flags` of specs/Flags.antt.
 // `words` and `slots` stay two parameters: a store holds its words and its counts apart, so that a value of both, with the length in its type, would be made and its
-// length proved at each call, which is no plainer. `LiveSlots` is such a value where all slots are passed, and `Store` asks of its own.
+// length proved at each call, which is no plainer. `LiveSlots` is such a value where all slots are passed, `Listed` of crate cursor where the edges of a walk are, and
+// `Store` asks of its own.
 
 #![tactic(auto)]
 
 pub mod live_slots;
 
-ghost use Rattle.std.specs.Prelude.{◌*◌, ◌<◌, ◌≤◌, ◌≡◌, false, length, get_or, min};
+ghost use Rattle.std.specs.Prelude.{◌*◌, ◌<◌, ◌≤◌, ◌≡◌, false, length, get_or, unwrap_or, IfSome};
 ghost use Rattle.plain.specs.Reads.{live_count};
 ghost use Rattle.plain.specs.Compaction.{rank as rank_of};
 ghost use Rattle.liveness.specs.Flags.{live_flags, packed, counted, next_live};
@@ -104,8 +105,9 @@ pub fn write_ranks(words: &[u64], slots: usize, ranks: &mut [u32])
     requires { RanksFit words.now slots ranks.old }
     ensures { Ranked words.now slots ranks.new }
 {
-    let count = (slots + 63) / 64;
+    let count = slots.div_ceil(64);
     let mut live: u32 = 0;
+    // a zip of `ranks.iter_mut()` with the words was tried, and the proof did not close: the loop's invariant cannot name the counts that are written so
     for i in 0..count {
         ranks[i] = live;
         live += words[i].count_ones();
@@ -135,32 +137,36 @@ pub fn reset_all_live(words: &mut [u64], slots: usize)
     }
 }
 
-// The first live slot from word `start` on, and `slots` where there is none, a word at a time.
-fn next_in_words(words: &[u64], slots: usize, start: usize) -> usize
+// The first live slot from word `start` on, a word at a time.
+fn next_in_words(words: &[u64], slots: usize, start: usize) -> Option<usize>
     requires { (slots ≤ 64 * length words.now) × (0 < slots) }
-    ensures { result ≡ next_live (live_flags words.now slots) (64 * start) }
+    ensures next { unwrap_or result slots ≡ next_live (live_flags words.now slots) (64 * start) }
+    ensures below { IfSome result (λ slot. slot < slots) }
 {
     let last = (slots - 1) / 64;
     for i in start..=last {
         let word = words[i];
         if word != 0 {
-            return (64 * i + word.trailing_zeros() as usize).min(slots);
+            let slot = 64 * i + word.trailing_zeros() as usize;
+            return (slot < slots).then_some(slot);
         }
     }
-    slots
+    None
 }
 
-// The first live slot at or after `from`, and `slots` where there is none.
-pub fn next_live(words: &[u64], slots: usize, from: usize) -> usize
+// The first live slot at or after `from`.
+pub fn next_live(words: &[u64], slots: usize, from: usize) -> Option<usize>
     requires { slots ≤ 64 * length words.now }
-    ensures { result ≡ next_live (live_flags words.now slots) from }
+    ensures next { unwrap_or result slots ≡ next_live (live_flags words.now slots) from }
+    ensures below { IfSome result (λ slot. slot < slots) }
 {
     if slots <= from {
-        return slots;
+        return None;
     }
     let word = words[from / 64] >> (from % 64);
     if word != 0 {
-        return (from + word.trailing_zeros() as usize).min(slots);
+        let slot = from + word.trailing_zeros() as usize;
+        return (slot < slots).then_some(slot);
     }
     next_in_words(words, slots, from / 64 + 1)
 }

@@ -4,7 +4,7 @@ ghost use Rattle.std.specs.Prelude.{◌*◌, ◌≤◌, ◌≡◌, length};
 ghost use Rattle.plain.specs.Reads.{live_slots};
 ghost use Rattle.liveness.specs.Flags.{live_flags};
 
-use crate::next_live;
+use crate::{is_live, next_live};
 
 // What is left of the live slots: those from slot `from` on.
 #[derive(Clone, Copy)]
@@ -42,12 +42,14 @@ impl Iterator for LiveSlots<'_> {
     ghost remaining = { item_count left };
 
     fn next(&mut self) -> Option<usize> {
-        let slot = next_live(self.words, self.slots, self.from);
-        if slot < self.slots {
-            self.from = slot + 1;
-            Some(slot)
-        } else {
-            None
+        // Most slots are live: the bit of the first of them is tested before the search, for whose answer each turn would wait.
+        let from = self.from;
+        if is_live(self.words, self.slots, from) {
+            self.from = from + 1;
+            return Some(from);
         }
+        let slot = next_live(self.words, self.slots, from)?;
+        self.from = slot + 1;
+        Some(slot)
     }
 }

@@ -19,7 +19,7 @@ impl Value for u32 {
     ghost value_is = { λ n. n };
 
     fn value(self) -> u64 {
-        self as u64
+        u64::from(self)
     }
 }
 
@@ -52,7 +52,7 @@ impl Value for bool {
     ghost value_is = { λ b. cond b 1 0 };
 
     fn value(self) -> u64 {
-        if self { 1 } else { 0 }
+        u64::from(self)
     }
 }
 

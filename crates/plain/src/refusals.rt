@@ -9,31 +9,23 @@ use crate::{Answer, NONE, numbers};
 #[derive(Clone, Copy, PartialEq, Eq, Debug)]
 pub enum Rule {
     // Counts and lengths.
-    Sizes,
+    Sizes = 1,
     // Live bits.
-    Live,
+    Live = 2,
     // Ends and weights.
-    Ends,
+    Ends = 3,
     // The compressed index.
-    Index,
-    Rings,
-    Runs,
-    Walks,
+    Index = 4,
+    Rings = 5,
+    Runs = 6,
+    Walks = 7,
 }
 
 impl Rule {
     pub fn number(self) -> u32
         ensures { result ≡ rule_number self }
     {
-        match self {
-            Rule::Sizes => 1,
-            Rule::Live => 2,
-            Rule::Ends => 3,
-            Rule::Index => 4,
-            Rule::Rings => 5,
-            Rule::Runs => 6,
-            Rule::Walks => 7,
-        }
+        self as u32
     }
 }
 
@@ -41,31 +33,24 @@ impl Rule {
 #[derive(Clone, Copy, PartialEq, Eq, Debug)]
 pub enum ImageRule {
     // Fewer bytes than both counts take.
-    Counts,
+    Counts = 1,
     // A count above the limit.
-    Limits,
+    Limits = 2,
     // Another length than the counts ask for.
-    Length,
+    Length = 3,
     // A bit after the last field.
-    Padding,
+    Padding = 4,
     // An end that is no node, or a low above its high.
-    Records,
+    Records = 5,
     // An entry that is no edge, is there twice or is out of order.
-    Lists,
+    Lists = 6,
 }
 
 impl ImageRule {
     pub fn number(self) -> u32
         ensures { result ≡ image_rule_number self }
     {
-        match self {
-            ImageRule::Counts => 1,
-            ImageRule::Limits => 2,
-            ImageRule::Length => 3,
-            ImageRule::Padding => 4,
-            ImageRule::Records => 5,
-            ImageRule::Lists => 6,
-        }
+        self as u32
     }
 }
 

@@ -8,10 +8,12 @@ ghost use Rattle.plain.specs.Answers.{answer_of, yes_no_of, done_of};
 ghost use Rattle.plain.specs.Renumbering.{is_identity_map};
 ghost use Rattle.renumbering.specs.Calls.{through, Lookup, Compose, IsIdentity};
 
+use memory::need;
 use plain::NONE;
 use plain::refusals::Refusal;
 
-// The new slot of an old one, NONE where it did not survive or is out of range. It is no Option: the words of a map, which C reads, hold NONE themselves.
+// The new slot of an old one, NONE where it did not survive or is out of range. It is no Option: what it answers is a word of a map again, in the composed
+// map and for C, and would be made one only to be undone.
 #[tactic(auto, unfolding(plain::specs::Renumbering::lookup, plain::specs::Renumbering::lookup_answer))]
 pub fn lookup(renumbering: &[u32], slot: u32) -> u32
     ensures { Lookup renumbering.now slot (answer_of (Ok result)) }
@@ -35,9 +37,8 @@ fn lookup_again(second: &[u32], slot: u32) -> u32
 pub fn compose(first: &[u32], second: &[u32], res: &mut [u32]) -> Result<(), Refusal>
     ensures { Compose first.now second.now res.old (done_of result) res.new }
 {
-    if res.len() < first.len() {
-        return Err(Refusal::TooShort(first.len() as u64));
-    }
+    need(first.len(), res.len())?;
+    // a zip of `res.iter_mut()` with the first map was tried, and the proof did not close: the loop's invariant cannot name the words that are written so
     for (i, slot) in first.iter().enumerate() {
         res[i] = lookup_again(second, *slot);
     }

@@ -1,12 +1,14 @@
 -- `renumbering::compose` meets its contract: by `compose_short`, `compose_turn` and `compose_done` of proofs/Maps.antt.
 use Rattle.std.specs.Prelude.{ℕ, ◌≡◌, ◌++◌, length, take, drop}
 use Rattle.plain.specs.Library.{ap, ◌∙◌, length-set, arith}
+use Rattle.plain.proofs.Laws.Exits.{refused_exit}
 use Rattle.plain.specs.Renumbering.{composed}
 use Rattle.renumbering.proofs.Maps.{compose_short, compose_turn, compose_done}
 use Rattle.renumbering.proofs.compose.Goals as goal
 
-pub returns-then-res-first : goal.returns-then-res-first
-returns-then-res-first c = compose_short _ _ _ c.if-res-first.true
+pub returns-in_err-need : goal.returns-in_err-need
+returns-in_err-need c =
+    rw (refused_exit _ c.from_residual.ensures.1, c.in_err-need.ensures.1) (compose_short _ _ _ c.in_err-need.ensures.0)
 
 pub loop-i-preserved : goal.loop-i-preserved
 loop-i-preserved c =

@@ -1,24 +1,14 @@
 -- `next` of the listed edges meets its contract: the entry that is listed is the first of those left.
-use Rattle.plain.specs.Library.{sym, ◌∙◌}
-use Rattle.plain.specs.Lists.{keep}
-use Rattle.cursor.proofs.Going.{goes_on}
+use Rattle.plain.specs.Library.{sym, rules}
+use Rattle.cursor.specs.Cursor.{listed_by}
+use Rattle.cursor.proofs.Going.{goes_on, found_first}
 use Rattle.cursor.proofs.edges.AdjacentEdgesIterator.next.Goals as goal
 
-pub returns-then-has-clause-steps : goal.returns-then-has-clause-steps
-unfolding keep
-returns-then-has-clause-steps c =
-    sym c.self.view_is ∙ (sym c.loop-edge.invariant ∙ rw (c.in-Some.ensures.steps, sym c.has.ensures ∙ c.if-has.true))
-
-pub returns-then-has-clause-goes : goal.returns-then-has-clause-goes
-unfolding returns-then-has-clause-steps
-returns-then-has-clause-goes c = goes_on (λ _. tt) _ (returns-then-has-clause-steps c)
-
-pub loop-edge-preserved : goal.loop-edge-preserved
-unfolding keep
-loop-edge-preserved c =
-    rw (c.in-Some.ensures.steps, sym c.has.ensures ∙ c.if-has.false) at c.loop-edge.invariant
-
 pub returns-clause-steps : goal.returns-clause-steps
-unfolding keep
 returns-clause-steps c =
-    (sym c.self.view_is ∙ (sym c.loop-edge.invariant ∙ rw c.in_default.ensures.steps.0), rw c.in_default.ensures.steps.1)
+    let ran = c.find.ensures.ran in
+    rw (sym c.self.view_is)
+    (found_first (λ l. l) _ (listed_by c.self.inside.listed) (λ e b g h. search rules) ran.0 _ _ _ _ ran.1 ran.2.1 ran.2.2 ran.3 ran.4)
+
+pub returns-clause-goes : goal.returns-clause-goes
+returns-clause-goes c = goes_on (λ _. tt) _ (returns-clause-steps c)
