@@ -120,7 +120,7 @@ pub fn redirect(store: &mut StoreMut, direction: TraversalDirection, edge: u32, 
     }
 }
 
-// Moves the edges of a node's walk, of which there are some, to another live node on one axis, and answers how many.
+// Moves the edges of a node's walk, of which there are some, to another live node on one axis, and answers how many. In each direction a call of its own, as in redirect.
 pub fn move_adjacency(
     store: &mut StoreMut,
     direction: TraversalDirection,
