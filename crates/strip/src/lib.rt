@@ -15,7 +15,7 @@ ghost use Rattle.strip.specs.Strip.{Runnable, Ran, Opening, StripOf};
 
 use memory::{Device, Lengths};
 use plain::refusals::Refusal;
-use plain::{Counts, NONE, OPERATION_WORDS, Operation, numbers};
+use plain::{Answer, Counts, OPERATION_WORDS, Operation};
 use shape::StoreMut;
 use validate::judging::check_store;
 
@@ -49,13 +49,10 @@ fn write_answer(answers: &mut [u32], i: usize, came: Result<u32, Refusal>)
     requires untold { IfErr came (λ refusal. value_of refusal ≡ none) }
     ensures { answers.new ≡ set (set answers.old (2 * i) (answer_of came).number) (2 * i + 1) (answer_of came).value }
 {
-    let (number, value) = match came {
-        Ok(value) => (numbers::DONE, value),
-        Err(refusal) => (refusal.number(), NONE),
-    };
+    let answer = Answer::from(came);
     let to = 2 * i;
-    answers[to] = number;
-    answers[to + 1] = value;
+    answers[to] = answer.number;
+    answers[to + 1] = answer.value as u32;
 }
 
 // The operations of a strip in turn, with two words of answer each. A refused operation changes nothing and the strip goes on.
