@@ -2,10 +2,9 @@
 
 #![tactic(auto)]
 
-ghost use Rattle.std.specs.Prelude.{◌+◌, ◌*◌, ◌≤◌, ◌≡◌, IfErr, length, get_or, set};
-ghost use Rattle.plain.specs.declared.Operation.TheVariants.{Unknown};
+ghost use Rattle.std.specs.Prelude.{◌+◌, ◌*◌, ◌≤◌, ◌≡◌, IfErr, length, set};
 ghost use Rattle.plain.specs.Numbers.{NONE as none};
-ghost use Rattle.plain.specs.Operations.{operation_words, operations};
+ghost use Rattle.plain.specs.Operations.{operations};
 ghost use Rattle.plain.specs.Refusals.{value_of};
 ghost use Rattle.plain.specs.Answers.{answer_of, done_of};
 ghost use Rattle.memory.specs.Lengths.{measured, device_of};
@@ -28,22 +27,7 @@ pub fn fresh(device: Device, lengths: Lengths) -> Result<Counts, Refusal>
     Ok(Counts::default())
 }
 
-// Operation i of a strip, from its words.
-fn operation_at(words: &[u32], i: usize) -> Operation
-    requires { operation_words * i + operation_words ≤ length words.now }
-    ensures { result ≡ get_or (operations words.now) i Unknown }
-{
-    let at = OPERATION_WORDS * i;
-    operation::decode([
-        words[at],
-        words[at + 1],
-        words[at + 2],
-        words[at + 3],
-        words[at + 4],
-    ])
-}
-
-// Writes the two words of answer i: the words that a caller in C reads.
+// Writes the two words of answer i: the words that a caller in C reads. No value of a step is above a word, so that none is cut.
 fn write_answer(answers: &mut [u32], i: usize, came: Result<u32, Refusal>)
     requires room { 2 * i + 2 ≤ length answers.old }
     requires untold { IfErr came (λ refusal. value_of refusal ≡ none) }
@@ -61,8 +45,9 @@ fn run(store: &mut StoreMut, words: &[u32], answers: &mut [u32])
     ensures same { SameSlices store.old store.new }
     ensures ran { Ran (words_mut store.old) (operations words.now) answers.old (words_mut store.new) answers.new }
 {
-    for i in 0..words.len() / OPERATION_WORDS {
-        let came = step::step(store, operation_at(words, i));
+    let (operations, _) = words.as_chunks::<OPERATION_WORDS>();
+    for (i, operation) in operations.iter().enumerate() {
+        let came = step::step(store, operation::decode(*operation));
         write_answer(answers, i, came);
     }
 }
