@@ -1,6 +1,7 @@
 -- The printed text piece by piece: the line of an operation, the two digits of a byte, and how long they are.
-use Rattle.std.specs.Prelude.{ℕ, suc, ◌+◌, ◌*◌, ◌/◌, ◌%◌, ◌≤◌, ◌<◌, ◌≡◌, refl, List, [], ◌∷◌, ◌++◌, length, get_or, drop}
-use Rattle.plain.specs.Library.{sym, ap, ◌∙◌, append_assoc, length-append, length-drop, add-one, arith}
+use Rattle.std.specs.Prelude.{ℕ, zero, suc, ◌+◌, ◌*◌, ◌/◌, ◌%◌, ◌≤◌, ◌<◌, ◌≡◌, refl, List, [], ◌∷◌, ◌++◌, length, get_or, drop}
+use Rattle.std.specs.Simd.{first_chunks}
+use Rattle.plain.specs.Library.{sym, ap, ap₂, ◌∙◌, append_assoc, length-append, length-drop, add-one, arith}
 use lib.ListN.{drop_of_length-le}
 use lib.Seq.{drop-cons}
 use Rattle.plain.specs.Lotstrip.{decimal, answer_lines, hex_digit, hexadecimal}
@@ -27,6 +28,19 @@ lines_next answers i h =
           ∙ lines_first i (get_or answers (2 * i) 0) (get_or answers (2 * i + 1) 0) (drop (2 * (i + 1)) answers)
           ∙ ap (λ (k : ℕ). line i (get_or answers (2 * i) 0) (get_or answers (2 * i + 1) 0) ++ answer_lines k (drop (2 * (i + 1)) answers)) (sym (add-one i));
     }
+
+-- answer i is pair i
+pub pair_is : (answers : List ℕ) (count i : ℕ) → i < count → 2 * count ≤ length answers → get_or (first_chunks 2 count answers) i []
+    ≡ get_or answers (2 * i) 0 ∷ get_or answers (2 * i + 1) 0 ∷ []
+pair_is answers zero i l h = absurd (omega arith)
+pair_is [] (suc count) i l h = absurd (omega arith)
+pair_is (a ∷ []) (suc count) i l h = absurd (omega arith)
+pair_is (a ∷ b ∷ rest) (suc count) zero l h = refl
+pair_is (a ∷ b ∷ rest) (suc count) (suc i) l h =
+    let first : 2 * suc i ≡ suc (suc (2 * i)) = omega arith in
+    let second : 2 * suc i + 1 ≡ suc (suc (2 * i + 1)) = omega arith in
+    pair_is rest count i (omega arith) (omega arith)
+    ∙ sym (ap₂ {C = List ℕ} (λ (n m : ℕ). get_or (a ∷ b ∷ rest) n 0 ∷ get_or (a ∷ b ∷ rest) m 0 ∷ []) first second)
 
 -- past the last
 pub lines_none : (answers : List ℕ) (i : ℕ) → length answers / 2 ≤ i → answer_lines i (drop (2 * i) answers) ≡ []

@@ -1,5 +1,6 @@
 -- The input's words one by one.
-use Rattle.std.specs.Prelude.{ℕ, ◌+◌, ◌*◌, ◌/◌, ◌≤◌, ◌<◌, ◌≡◌, refl, List, [], ◌∷◌, ◌++◌, length, set, drop}
+use Rattle.std.specs.Prelude.{ℕ, zero, suc, ◌+◌, ◌*◌, ◌/◌, ◌≤◌, ◌<◌, ◌≡◌, refl, List, [], ◌∷◌, ◌++◌, length, get_or, set, slice_index, drop}
+use Rattle.std.specs.Simd.{first_chunks}
 use Rattle.plain.specs.Library.{sym, ap, ◌∙◌, append_assoc, append-nil, length-append, length-drop, zero-add, arith}
 use Rattle.bits.specs.Put.{Put}
 use Rattle.bits.specs.Laws.Put.{put_none, put_one, put_then, put_length, put_written}
@@ -43,6 +44,35 @@ words_none bytes i h = short (drop (word_bytes * i) bytes) (rw length-drop (omeg
     short (a ∷ b ∷ []) h = refl
     short (a ∷ b ∷ c ∷ []) h = refl
     short (a ∷ b ∷ c ∷ d ∷ rest) h = absurd (omega arith)
+
+-- ---- chunks of four bytes
+
+later : (a b c d : ℕ) (rest : List ℕ) (n m : ℕ) → n ≡ m + 4 → get_or (a ∷ b ∷ c ∷ d ∷ rest) n 0 ≡ get_or rest m 0
+later a b c d rest n m same =
+    let four : n ≡ suc (suc (suc (suc m))) = omega (arith, same) in
+    ap (λ (k : ℕ). get_or (a ∷ b ∷ c ∷ d ∷ rest) k 0) four
+
+-- the word of four bytes, as the library makes it
+abbrev pub word_made : List ℕ → ℕ
+word_made four = slice_index four 0 * 16777216 + slice_index four 1 * 65536 + slice_index four 2 * 256 + slice_index four 3
+
+-- word i is made of chunk i
+pub chunk_made : (bytes : List ℕ) (count i : ℕ) → i < count → word_bytes * count ≤ length bytes
+    → word_made (get_or (first_chunks word_bytes count bytes) i []) ≡ word_at bytes (word_bytes * i)
+chunk_made bytes zero i l h = absurd (omega arith)
+chunk_made [] (suc count) i l h = absurd (omega arith)
+chunk_made (a ∷ []) (suc count) i l h = absurd (omega arith)
+chunk_made (a ∷ b ∷ []) (suc count) i l h = absurd (omega arith)
+chunk_made (a ∷ b ∷ c ∷ []) (suc count) i l h = absurd (omega arith)
+chunk_made (a ∷ b ∷ c ∷ d ∷ rest) (suc count) zero l h = omega arith
+chunk_made (a ∷ b ∷ c ∷ d ∷ rest) (suc count) (suc i) l h =
+    chunk_made rest count i (omega arith) (omega arith)
+    ∙ sym (rw (
+      later a b c d rest (word_bytes * suc i) (word_bytes * i) (omega arith),
+      later a b c d rest (word_bytes * suc i + 1) (word_bytes * i + 1) (omega arith),
+      later a b c d rest (word_bytes * suc i + 2) (word_bytes * i + 2) (omega arith),
+      later a b c d rest (word_bytes * suc i + 3) (word_bytes * i + 3) (omega arith),
+    ))
 
 -- ---- a loop that reads word by word
 

@@ -103,9 +103,10 @@ impl<'a> Text<'a> {
         requires { self.old.end + length (answer_lines 0 answers.now) ≤ length self.old.bytes.now }
         ensures { Appended self.old (answer_lines 0 answers.now) self.new }
     {
-        for position in 0..answers.len() / 2 {
-            let word = 2 * position;
-            self.write_line(position as u64, answers[word], answers[word + 1]);
+        let (pairs, _) = answers.as_chunks::<2>();
+        for (position, pair) in pairs.iter().enumerate() {
+            let [number, value] = *pair;
+            self.write_line(position as u64, number, value);
         }
     }
 

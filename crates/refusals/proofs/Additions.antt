@@ -1,6 +1,5 @@
 -- The ways that additions, removals and a new payload end, each by what the program has tested.
-use Rattle.std.specs.Prelude.{ℕ, ◌≤◌, ◌<◌, ◌≡◌, refl, Bool, true, false, List, get_or, Err}
-use mir.Val.{bool_byte}
+use Rattle.std.specs.Prelude.{ℕ, ◌≤◌, ◌<◌, ◌≡◌, refl, Bool, true, false, cond, List, get_or, Err}
 use Rattle.plain.specs.Library.{sym, subst, ◌∙◌, ⊎_elim}
 use Rattle.plain.specs.declared.EdgePayload.{EdgePayload}
 use Rattle.plain.specs.declared.refusals.Refusal.{Refusal}
@@ -77,17 +76,17 @@ module _ {w : Words} (c : Checked w) where
       (gone : Removed flags x → Case (capacities w) (lists w) operation (unchanged 0 (lists w)))
       (never : Absent flags x → Case (capacities w) (lists w) operation (unchanged 0 (lists w)))
     where
-      slot_removed : {v : Words} {answer : Bool} → Removing operation (get_or live x false) w answer v → StepOf operation w v 0 (bool_byte answer)
+      slot_removed : {v : Words} {answer : Bool} → Removing operation (get_or live x false) w answer v → StepOf operation w v 0 (cond answer 1 0)
       slot_removed {v} {answer} r =
           by_test answer (λ was. rw was (done (there (live_slot t x (sym r.answers ∙ was))) acting refl (r.acts was)))
           (λ was-not. let dead = sym r.answers ∙ was-not in
           rw was-not (subst (λ (u : Words). StepOf operation w u 0 0) (sym (r.keeps was-not))
           (⊎_elim (λ l. stays c (gone (removed_slot t x l dead)) idle) (λ l. stays c (never (absent_slot t x l)) idle) (below_or_not x bound))))
 
-  pub node_removed : {v : Words} {answer : Bool} (x : ℕ) → RemovedNode x w answer v → StepOf (RemoveNode x) w v 0 (bool_byte answer)
+  pub node_removed : {v : Words} {answer : Bool} (x : ℕ) → RemovedNode x w answer v → StepOf (RemoveNode x) w v 0 (cond answer 1 0)
   node_removed x = slot_removed (nodes_told w) x refl refl remove_node remove_node_removed remove_node_absent
 
-  pub edge_removed : {v : Words} {answer : Bool} (e : ℕ) → RemovedEdge e w answer v → StepOf (RemoveEdge e) w v 0 (bool_byte answer)
+  pub edge_removed : {v : Words} {answer : Bool} (e : ℕ) → RemovedEdge e w answer v → StepOf (RemoveEdge e) w v 0 (cond answer 1 0)
   edge_removed e = slot_removed (edges_told w) e refl refl remove_edge remove_edge_removed remove_edge_absent
 
   -- ---- set payload, of removed edges too

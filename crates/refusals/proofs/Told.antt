@@ -1,4 +1,4 @@
--- What follows from what `live_node` and `live_edge` answered of the store v that is read, of the store w as it stands.
+-- What follows from what `live_node`, `live_edge`, `known_node` and `known_edge` answered of the store v that is read, of the store w as it stands.
 use Rattle.std.specs.Prelude.{ℕ, ◌≤◌, ◌<◌, ◌≡◌, true, false, Ok, Err, get_or}
 use Rattle.plain.specs.Library.{subst}
 use Rattle.plain.specs.declared.Operation.{Operation}
@@ -24,6 +24,19 @@ module _ {v w : Words} (same : v ≡ w) where
   told_edge e passed =
       subst (λ (u : Words). get_or (edge_live u) e false ≡ true) same
       (not_refused OutOfRangeEdge RemovedEdge (edge_live v) v.counts.edges.bound e passed)
+
+  -- a slot below the bound, or not
+  pub known_node : {x : ℕ} → x < v.counts.nodes.bound → x < w.counts.nodes.bound
+  known_node {x} = subst (λ (u : Words). x < u.counts.nodes.bound) same
+
+  pub unknown_node : {x : ℕ} → v.counts.nodes.bound ≤ x → w.counts.nodes.bound ≤ x
+  unknown_node {x} = subst (λ (u : Words). u.counts.nodes.bound ≤ x) same
+
+  pub known_edge : {e : ℕ} → e < v.counts.edges.bound → e < w.counts.edges.bound
+  known_edge {e} = subst (λ (u : Words). e < u.counts.edges.bound) same
+
+  pub unknown_edge : {e : ℕ} → v.counts.edges.bound ≤ e → w.counts.edges.bound ≤ e
+  unknown_edge {e} = subst (λ (u : Words). u.counts.edges.bound ≤ e) same
 
   -- an operation that is refused for a slot
   module _ (operation : Operation) where

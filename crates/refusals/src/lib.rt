@@ -2,7 +2,7 @@
 
 #![tactic(auto)]
 
-ghost use Rattle.std.specs.Prelude.{◌≤◌, ◌<◌, ◌≡◌, MatchResult};
+ghost use Rattle.std.specs.Prelude.{◌≤◌, ◌<◌, ◌≡◌, cond, MatchResult};
 ghost use Rattle.plain.specs.Answers.{answer_of};
 ghost use Rattle.plain.specs.declared.refusals.Refusal.TheVariants.{Inverted};
 ghost use Rattle.plain.specs.declared.Operation.TheVariants.{AddNode, AddEdge, RemoveEdge, RemoveNode, Redirect, Move, SetPayload};
@@ -63,22 +63,22 @@ pub fn add_edge(
     Ok(slot)
 }
 
-// "Removals: 4." 1, or 0 where nothing live was there.
-pub fn remove_edge(store: &mut StoreMut, edge: u32) -> u32
+// "Removals: 4." Whether something live was there.
+pub fn remove_edge(store: &mut StoreMut, edge: u32) -> bool
     requires { Checked (words_mut store.old) }
     ensures same { SameSlices store.old store.new }
-    ensures steps { StepOf (RemoveEdge edge) (words_mut store.old) (words_mut store.new) 0 result }
+    ensures steps { StepOf (RemoveEdge edge) (words_mut store.old) (words_mut store.new) 0 (cond result 1 0) }
 {
-    u32::from(store::remove_edge(store, edge))
+    store::remove_edge(store, edge)
 }
 
 // "Removals: 4." The edges of both walks go with the node.
-pub fn remove_node(store: &mut StoreMut, node: u32) -> u32
+pub fn remove_node(store: &mut StoreMut, node: u32) -> bool
     requires { Checked (words_mut store.old) }
     ensures same { SameSlices store.old store.new }
-    ensures steps { StepOf (RemoveNode node) (words_mut store.old) (words_mut store.new) 0 result }
+    ensures steps { StepOf (RemoveNode node) (words_mut store.old) (words_mut store.new) 0 (cond result 1 0) }
 {
-    u32::from(store::remove_node(store, node))
+    store::remove_node(store, node)
 }
 
 // "Redirect: 4, 7, 8, 5, 6."
@@ -112,10 +112,8 @@ pub fn move_adjacency(
     if old == new {
         return Err(Refusal::OntoItself);
     }
-    if store.counts.nodes.bound <= old {
-        return Err(Refusal::OutOfRangeNode);
-    }
     let read = store.as_store();
+    read.known_node(old)?;
     if reads::degree(&read, direction, old) == 0 {
         return Ok(0);
     }
@@ -130,9 +128,7 @@ pub fn set_payload(store: &mut StoreMut, edge: u32, payload: EdgePayload) -> Res
     ensures steps { StepOf (SetPayload edge payload) (words_mut store.old) (words_mut store.new) (answer_of result).number (answer_of result).value }
 {
     ordered(payload)?;
-    if store.counts.edges.bound <= edge {
-        return Err(Refusal::OutOfRangeEdge);
-    }
+    store.as_store().known_edge(edge)?;
     store::set_payload(store, edge, payload);
     Ok(0)
 }

@@ -11,7 +11,7 @@ use plain::Operation;
 use plain::refusals::Refusal;
 use shape::StoreMut;
 
-// One operation: its value, or why it is refused.
+// One operation: its value, or why it is refused. A removal's is "1 or 0 for a yes or no".
 pub fn step(store: &mut StoreMut, operation: Operation) -> Result<u32, Refusal>
     requires { Checked (words_mut store.old) }
     ensures same { SameSlices store.old store.new }
@@ -24,8 +24,8 @@ pub fn step(store: &mut StoreMut, operation: Operation) -> Result<u32, Refusal>
             target,
             payload,
         } => refusals::add_edge(store, source, target, payload),
-        Operation::RemoveEdge { edge } => Ok(refusals::remove_edge(store, edge)),
-        Operation::RemoveNode { node } => Ok(refusals::remove_node(store, node)),
+        Operation::RemoveEdge { edge } => Ok(u32::from(refusals::remove_edge(store, edge))),
+        Operation::RemoveNode { node } => Ok(u32::from(refusals::remove_node(store, node))),
         Operation::Redirect {
             direction,
             edge,

@@ -3,46 +3,29 @@
 
 #![tactic(auto)]
 
-ghost use Rattle.std.specs.Prelude.{◌≤◌, ◌<◌, ◌^◌, ◌≡◌};
+ghost use Rattle.std.specs.Prelude.{◌<◌, ◌^◌, ◌≡◌, length, set};
 ghost use Rattle.plain.specs.declared.Operation.TheVariants.{AddNode, AddEdge, SetPayload};
 ghost use Rattle.shape.specs.Checked.{Checked};
 ghost use Rattle.shape.specs.Stores.{words_mut, SameSlices};
-ghost use Rattle.store.specs.Operations.{Acted, RemovedEdge, RemovedNode, RedirectedEdge, MovedEdges, Raisable, one_more as raised, fewer as lowered, NodeAddable, EdgeAddable, EdgeRedirectable, EdgesMovable, PayloadSettable};
+ghost use Rattle.store.specs.Operations.{Acted, RemovedEdge, RemovedNode, RedirectedEdge, MovedEdges, NodeAddable, EdgeAddable, EdgeRedirectable, EdgesMovable, PayloadSettable};
 
 use adjacency::{clear, rings, walk};
 use liveness;
-use plain::{Counts, EdgePayload, Slots, TraversalDirection};
+use plain::{EdgePayload, TraversalDirection};
 use relocate::{moves, redirects};
 use shape::StoreMut;
 
-// The counts of a kind of slot with a live one more.
-fn one_more(slots: Slots) -> Slots
-    requires { Raisable slots }
-    ensures { result ≡ raised slots }
+// Sets the weights of the edge slot at a place.
+fn set_weights(lows: &mut [u32], highs: &mut [u32], at: usize, payload: EdgePayload)
+    requires { (at < length lows.old) × (at < length highs.old) }
+    ensures lows { lows.new ≡ set lows.old at payload.low }
+    ensures highs { highs.new ≡ set highs.old at payload.high }
+    ensures fits { payload.high < 2 ^ 32 }
 {
-    Slots {
-        bound: slots.bound + 1,
-        base: slots.base,
-        live: slots.live + 1,
-    }
+    let EdgePayload { low, high } = payload;
+    lows[at] = low;
+    highs[at] = high;
 }
-
-// The counts of a kind of slot with n live ones less.
-fn fewer(slots: Slots, n: u32) -> Slots
-    requires { n ≤ slots.live }
-    ensures { result ≡ lowered n slots }
-{
-    Slots {
-        bound: slots.bound,
-        base: slots.base,
-        live: slots.live - n,
-    }
-}
-
-// A word is one of 32 bits, which a proof knows of a number that is passed, and not of one that is a field of what is passed.
-fn word_fits(word: u32)
-    ensures { word < 2 ^ 32 }
-{}
 
 // Adds a node: the slot is the bound, which rises by one.
 pub fn add_node(store: &mut StoreMut, payload: u32)
@@ -50,19 +33,14 @@ pub fn add_node(store: &mut StoreMut, payload: u32)
     ensures same { SameSlices store.old store.new }
     ensures acted { Acted (AddNode payload) (words_mut store.old) (words_mut store.new) }
 {
-    let slots = store.counts.nodes;
-    let others = store.counts.edges;
-    let slot = slots.bound as usize;
+    let slot = store.counts.nodes.bound as usize;
     let layout = store.layout();
-    let more = one_more(slots);
     store.nodes[slot] = payload;
     liveness::push_live(store.live_nodes, slot);
     rings::open_node(store.outgoing, layout, slot);
     rings::open_node(store.incoming, layout, slot);
-    store.counts = Counts {
-        nodes: more,
-        edges: others,
-    };
+    store.counts.nodes.bound += 1;
+    store.counts.nodes.live += 1;
 }
 
 // Adds an edge: the slot is the bound, which rises by one; the edge is appended to its source's out-list and its target's in-list.
@@ -71,22 +49,15 @@ pub fn add_edge(store: &mut StoreMut, source: u32, target: u32, payload: EdgePay
     ensures same { SameSlices store.old store.new }
     ensures acted { Acted (AddEdge source target payload) (words_mut store.old) (words_mut store.new) }
 {
-    let others = store.counts.nodes;
-    let slots = store.counts.edges;
-    let slot = slots.bound;
+    let slot = store.counts.edges.bound;
     let at = slot as usize;
     let layout = store.layout();
-    let more = one_more(slots);
-    word_fits(payload.high);
-    store.lows[at] = payload.low;
-    store.highs[at] = payload.high;
+    set_weights(store.lows, store.highs, at, payload);
     liveness::push_live(store.live_edges, at);
     rings::append(store.outgoing, layout, source as usize, slot);
     rings::append(store.incoming, layout, target as usize, slot);
-    store.counts = Counts {
-        nodes: others,
-        edges: more,
-    };
+    store.counts.edges.bound += 1;
+    store.counts.edges.live += 1;
 }
 
 // Removes an edge, and answers whether it was live. No list is edited.
@@ -95,16 +66,11 @@ pub fn remove_edge(store: &mut StoreMut, edge: u32) -> bool
     ensures same { SameSlices store.old store.new }
     ensures removed { RemovedEdge edge (words_mut store.old) result (words_mut store.new) }
 {
-    let others = store.counts.nodes;
-    let slots = store.counts.edges;
-    if !liveness::clear(store.live_edges, slots.bound as usize, edge as usize) {
+    let slots = store.counts.edges.bound as usize;
+    if !liveness::clear(store.live_edges, slots, edge as usize) {
         return false;
     }
-    let less = fewer(slots, 1);
-    store.counts = Counts {
-        nodes: others,
-        edges: less,
-    };
+    store.counts.edges.live -= 1;
     true
 }
 
@@ -115,11 +81,9 @@ pub fn remove_node(store: &mut StoreMut, node: u32) -> bool
     ensures same { SameSlices store.old store.new }
     ensures removed { RemovedNode node (words_mut store.old) result (words_mut store.new) }
 {
-    let counts = store.counts;
-    let slots = counts.nodes;
-    let others = counts.edges;
+    let slots = store.counts.nodes.bound as usize;
     let at = node as usize;
-    if !liveness::clear(store.live_nodes, slots.bound as usize, at) {
+    if !liveness::clear(store.live_nodes, slots, at) {
         return false;
     }
     let layout = store.layout();
@@ -128,12 +92,8 @@ pub fn remove_node(store: &mut StoreMut, node: u32) -> bool
     let incoming = &mut *store.incoming;
     let out = clear::clear_adjacency(outgoing, layout, live_edges, at);
     let back = clear::clear_adjacency(incoming, layout, live_edges, at);
-    let less = fewer(slots, 1);
-    let rest = fewer(others, out + back);
-    store.counts = Counts {
-        nodes: less,
-        edges: rest,
-    };
+    store.counts.nodes.live -= 1;
+    store.counts.edges.live -= out + back;
     true
 }
 
@@ -160,7 +120,7 @@ pub fn redirect(store: &mut StoreMut, direction: TraversalDirection, edge: u32, 
     }
 }
 
-// Moves the edges of a node's walk, of which there are some, to another live node on one axis, and answers how many.
+// Moves the edges of a node's walk, of which there are some, to another live node on one axis, and answers how many. In each direction a call of its own, as in redirect.
 pub fn move_adjacency(
     store: &mut StoreMut,
     direction: TraversalDirection,
@@ -193,8 +153,5 @@ pub fn set_payload(store: &mut StoreMut, edge: u32, payload: EdgePayload)
     ensures same { SameSlices store.old store.new }
     ensures acted { Acted (SetPayload edge payload) (words_mut store.old) (words_mut store.new) }
 {
-    let at = edge as usize;
-    word_fits(payload.high);
-    store.lows[at] = payload.low;
-    store.highs[at] = payload.high;
+    set_weights(store.lows, store.highs, edge as usize, payload);
 }

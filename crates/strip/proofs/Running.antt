@@ -1,11 +1,12 @@
 -- The operations of a strip in turn: what holds as one begins, and the laws of the loop, operation by operation.
-use Rattle.std.specs.Prelude.{ℕ, ◌+◌, ◌*◌, ◌/◌, ◌≤◌, ◌<◌, ◌≡◌, refl, List, [], ◌∷◌, ◌++◌, length, get_or, set, take, drop}
+use Rattle.std.specs.Prelude.{ℕ, zero, suc, ◌+◌, ◌*◌, ◌/◌, ◌≤◌, ◌<◌, ◌≡◌, refl, List, [], ◌∷◌, ◌++◌, length, get_or, set, slice_index, take, drop}
+use Rattle.std.specs.Simd.{first_chunks}
 use Rattle.plain.specs.Library.{sym, ap, ap₂, subst, ◌∙◌, append_assoc, length-append, length-set, add-one, arith}
 use lib.Seq.{take-suc, length-take-le}
 use Rattle.plain.specs.declared.Operation.{Operation}
 use Rattle.plain.specs.declared.Operation.TheVariants.{Unknown}
 use Rattle.plain.specs.Lists.{written}
-use Rattle.plain.specs.Operations.{operation_words, operations}
+use Rattle.plain.specs.Operations.{operation_words, decoded, operations}
 use Rattle.plain.specs.Plain.{Plain}
 use Rattle.plain.specs.Step.{Capacities, State, Outcome, step, stepped, run, answers}
 use Rattle.plain.proofs.Laws.Strips.{run_snoc, answers_snoc, length_answers, length_operations}
@@ -26,9 +27,22 @@ step_lists {operation} {w} c does = ap state_of does.shaped ∙ step_state (chec
 
 -- ---- the words
 
--- an operation whose words are there
-pub operation_there : (words : List ℕ) (i : ℕ) → operation_words * i + operation_words ≤ length words → i < length (operations words)
-operation_there words i h = rw (length_operations words) (omega arith)
+-- the operation of five words
+abbrev pub decoded_words : List ℕ → Operation
+decoded_words five = decoded (slice_index five 0) (slice_index five 1) (slice_index five 2) (slice_index five 3) (slice_index five 4)
+
+-- operation i is decoded from chunk i of the words
+pub chunk_decoded : (words : List ℕ) (count i : ℕ) → i < count → operation_words * count ≤ length words
+    → decoded_words (get_or (first_chunks operation_words count words) i []) ≡ get_or (operations words) i Unknown
+unfolding operations
+chunk_decoded words zero i l h = absurd (omega arith)
+chunk_decoded [] (suc count) i l h = absurd (omega arith)
+chunk_decoded (a ∷ []) (suc count) i l h = absurd (omega arith)
+chunk_decoded (a ∷ b ∷ []) (suc count) i l h = absurd (omega arith)
+chunk_decoded (a ∷ b ∷ c ∷ []) (suc count) i l h = absurd (omega arith)
+chunk_decoded (a ∷ b ∷ c ∷ d ∷ []) (suc count) i l h = absurd (omega arith)
+chunk_decoded (a ∷ b ∷ c ∷ d ∷ e ∷ rest) (suc count) zero l h = refl
+chunk_decoded (a ∷ b ∷ c ∷ d ∷ e ∷ rest) (suc count) (suc i) l h = chunk_decoded rest count i (omega arith) (omega arith)
 
 -- ---- the answer slice
 

@@ -1,5 +1,5 @@
 -- A refused operation tells no value: "value NONE".
-use Rattle.std.specs.Prelude.{ℕ, zero, suc, ◌<◌, ◌≡◌, refl, Bool, true, false, List, [], ◌∷◌, length, eqb, Result, Ok, Err, IfErr}
+use Rattle.std.specs.Prelude.{ℕ, zero, suc, ◌≡◌, refl, Bool, true, false, List, [], ◌∷◌, eqb, Result, Ok, Err, IfErr}
 use Rattle.plain.specs.Library.{Option, none, some, ◌∙◌, arith}
 use Rattle.plain.specs.declared.refusals.Refusal.{Refusal}
 use Rattle.plain.specs.declared.TraversalDirection.{TraversalDirection}

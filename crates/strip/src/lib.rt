@@ -2,10 +2,9 @@
 
 #![tactic(auto)]
 
-ghost use Rattle.std.specs.Prelude.{◌+◌, ◌*◌, ◌≤◌, ◌≡◌, IfErr, length, get_or, set};
-ghost use Rattle.plain.specs.declared.Operation.TheVariants.{Unknown};
+ghost use Rattle.std.specs.Prelude.{◌+◌, ◌*◌, ◌≤◌, ◌≡◌, IfErr, length, set};
 ghost use Rattle.plain.specs.Numbers.{NONE as none};
-ghost use Rattle.plain.specs.Operations.{operation_words, operations};
+ghost use Rattle.plain.specs.Operations.{operations};
 ghost use Rattle.plain.specs.Refusals.{value_of};
 ghost use Rattle.plain.specs.Answers.{answer_of, done_of};
 ghost use Rattle.memory.specs.Lengths.{measured, device_of};
@@ -15,7 +14,7 @@ ghost use Rattle.strip.specs.Strip.{Runnable, Ran, Opening, StripOf};
 
 use memory::{Device, Lengths};
 use plain::refusals::Refusal;
-use plain::{Counts, NONE, OPERATION_WORDS, Operation, numbers};
+use plain::{Answer, Counts, OPERATION_WORDS, Operation};
 use shape::StoreMut;
 use validate::judging::check_store;
 
@@ -28,34 +27,16 @@ pub fn fresh(device: Device, lengths: Lengths) -> Result<Counts, Refusal>
     Ok(Counts::default())
 }
 
-// Operation i of a strip, from its words.
-fn operation_at(words: &[u32], i: usize) -> Operation
-    requires { operation_words * i + operation_words ≤ length words.now }
-    ensures { result ≡ get_or (operations words.now) i Unknown }
-{
-    let at = OPERATION_WORDS * i;
-    operation::decode([
-        words[at],
-        words[at + 1],
-        words[at + 2],
-        words[at + 3],
-        words[at + 4],
-    ])
-}
-
-// Writes the two words of answer i: the words that a caller in C reads.
+// Writes the two words of answer i: the words that a caller in C reads. No value of a step is above a word, so that none is cut.
 fn write_answer(answers: &mut [u32], i: usize, came: Result<u32, Refusal>)
     requires room { 2 * i + 2 ≤ length answers.old }
     requires untold { IfErr came (λ refusal. value_of refusal ≡ none) }
     ensures { answers.new ≡ set (set answers.old (2 * i) (answer_of came).number) (2 * i + 1) (answer_of came).value }
 {
-    let (number, value) = match came {
-        Ok(value) => (numbers::DONE, value),
-        Err(refusal) => (refusal.number(), NONE),
-    };
+    let answer = Answer::from(came);
     let to = 2 * i;
-    answers[to] = number;
-    answers[to + 1] = value;
+    answers[to] = answer.number;
+    answers[to + 1] = answer.value as u32;
 }
 
 // The operations of a strip in turn, with two words of answer each. A refused operation changes nothing and the strip goes on.
@@ -64,8 +45,9 @@ fn run(store: &mut StoreMut, words: &[u32], answers: &mut [u32])
     ensures same { SameSlices store.old store.new }
     ensures ran { Ran (words_mut store.old) (operations words.now) answers.old (words_mut store.new) answers.new }
 {
-    for i in 0..words.len() / OPERATION_WORDS {
-        let came = step::step(store, operation_at(words, i));
+    let (operations, _) = words.as_chunks::<OPERATION_WORDS>();
+    for (i, operation) in operations.iter().enumerate() {
+        let came = step::step(store, operation::decode(*operation));
         write_answer(answers, i, came);
     }
 }

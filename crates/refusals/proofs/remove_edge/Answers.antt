@@ -4,4 +4,4 @@ use Rattle.refusals.proofs.remove_edge.Goals as goal
 
 pub returns-clause-steps : goal.returns-clause-steps
 returns-clause-steps c =
-    rw c.from.ensures (edge_removed c.requires c.args.edge c.remove_edge.ensures.removed)
+    edge_removed c.requires c.args.edge c.remove_edge.ensures.removed

@@ -4,4 +4,4 @@ use Rattle.refusals.proofs.remove_node.Goals as goal
 
 pub returns-clause-steps : goal.returns-clause-steps
 returns-clause-steps c =
-    rw c.from.ensures (node_removed c.requires c.args.node c.remove_node.ensures.removed)
+    node_removed c.requires c.args.node c.remove_node.ensures.removed

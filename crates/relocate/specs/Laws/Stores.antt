@@ -131,7 +131,7 @@ module _ {w : Words} (k : Checked w) (d : TraversalDirection) where
       let low = alive_below w.live_edges w.counts e live in
       record {
         axis = checked_relocatable;
-        old_placed = checked_placed (end_at ws e) ((k.axis d).ends_below e low) (checked_end e live);
+        old_placed = checked_placed (end_at ws e) ((k.axis d).ends_below e low) (checked_end k d e live);
         new_placed = checked_placed new (live_node new new_live) new_live;
         edge_below = low;
         edge_live = live;

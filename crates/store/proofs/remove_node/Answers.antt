@@ -13,12 +13,12 @@ pub clear_adjacency-back-requires : goal.clear_adjacency-back-requires
 clear_adjacency-back-requires c =
     rw c.layout-layout.ensures (node_clearable c.requires c.args.node c.clear.ensures c.if-not-clear.false Incoming (rw c.layout-layout.ensures at c.clear_adjacency-out.ensures).long)
 
-pub fewer-less-requires : goal.fewer-less-requires
-fewer-less-requires c =
+pub overflow_sub-store : goal.overflow_sub-store
+overflow_sub-store c =
     node_counted c.requires c.args.node c.clear.ensures c.if-not-clear.false
 
-pub overflow_add-out : goal.overflow_add-out
-overflow_add-out c =
+pub overflow_add-store : goal.overflow_add-store
+overflow_add-store c =
     omega (
       arith,
       edges_few c.requires c.args.node c.clear.ensures c.if-not-clear.false (rw c.layout-layout.ensures at c.clear_adjacency-out.ensures) (rw c.layout-layout.ensures at c.clear_adjacency-back.ensures),
@@ -26,6 +26,5 @@ overflow_add-out c =
 
 pub returns-clause-removed : goal.returns-clause-removed
 returns-clause-removed c =
-    rw (c.fewer-less.ensures, c.fewer-rest.ensures)
     (clearing_live c.requires c.args.node c.clear.ensures c.if-not-clear.false (rw c.layout-layout.ensures at c.clear_adjacency-out.ensures) (rw c.layout-layout.ensures at c.clear_adjacency-back.ensures)
     c.clear.auto.words)
