@@ -42,6 +42,7 @@ use bits::pen::Writer;
 use bits::{least_width, raise};
 use image_check::places::{COUNT_WIDTH, NODE_PAYLOAD_WIDTH, WEIGHT_WIDTH, image_bytes};
 use liveness::live_slots::LiveSlots;
+use memory::need;
 use plain::refusals::Refusal;
 use plain::EdgeRecord;
 use shape::Store;
@@ -165,13 +166,9 @@ pub fn write_image(store: &Store, work: &mut [u32], bytes: &mut [u8]) -> Result<
     check_store(store)?;
     let counts = store.counts;
     let listed = 2 * counts.edges.live as usize;
-    if work.len() < listed {
-        return Err(Refusal::TooShort(listed as u64));
-    }
+    need(listed, work.len())?;
     let needed = image_bytes(counts.nodes.live, counts.edges.live);
-    if bytes.len() < needed {
-        return Err(Refusal::TooShort(needed as u64));
-    }
+    need(needed, bytes.len())?;
     write_both(store, work);
     write_survivors(store, work, bytes);
     Ok(needed)
