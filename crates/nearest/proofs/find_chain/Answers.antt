@@ -4,7 +4,7 @@ use Rattle.nearest.proofs.Answering.{found_refused, found_short, way_forward, fo
 use Rattle.nearest.proofs.find_chain.Goals as goal
 
 pub returns-in_err-left : goal.returns-in_err-left
-returns-in_err-left c = rw (refused_exit _ c.from_residual-in_err-left.ensures.1) (found_refused c.requires _ c.search.ensures c.in_err-left.ensures.value)
+returns-in_err-left c = rw (refused_exit _ c.from_residual.ensures.1) (found_refused c.requires _ c.search.ensures c.in_err-left.ensures.value)
 
 pub returns-in_err-need : goal.returns-in_err-need
 returns-in_err-need c =

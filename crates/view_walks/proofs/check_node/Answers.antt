@@ -1,5 +1,4 @@
 -- `view_walks::check_node` meets its contract: a rule that is broken, a node at or above the bound, or one below it.
-use Rattle.std.specs.Prelude.{Ok, Err}
 use Rattle.plain.proofs.Laws.Exits.{refused_exit}
 use Rattle.view_walks.specs.Walks.{no_store}
 use Rattle.view_walks.proofs.Walking.{placed}

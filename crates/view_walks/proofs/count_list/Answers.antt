@@ -5,7 +5,7 @@ use Rattle.view_walks.proofs.Walking.{placed_checked, count_short, count_fits}
 use Rattle.view_walks.proofs.count_list.Goals as goal
 
 pub returns-in_err-check_node : goal.returns-in_err-check_node
-returns-in_err-check_node c = rw (refused_exit _ c.from_residual-in_err-check_node.ensures.1) (refused c.in_err-check_node.ensures)
+returns-in_err-check_node c = rw (refused_exit _ c.from_residual.ensures.1) (refused c.in_err-check_node.ensures)
 
 pub degree-entries-requires-clause-checked : goal.degree-entries-requires-clause-checked
 degree-entries-requires-clause-checked c = placed_checked c.in_ok-check_node.ensures

@@ -8,7 +8,7 @@ use Rattle.view_walks.proofs.Seeking.{find_refused, second_past, find_done, foun
 use Rattle.view_walks.proofs.finding.find.Goals as goal
 
 pub returns-in_err-check_node-clause-answered : goal.returns-in_err-check_node-clause-answered
-returns-in_err-check_node-clause-answered c = rw (refused_exit _ c.from_residual-in_err-check_node.ensures.1) (find_refused c.args.first c.args.second c.in_err-check_node.ensures)
+returns-in_err-check_node-clause-answered c = rw (refused_exit _ c.from_residual.ensures.1) (find_refused c.args.first c.args.second c.in_err-check_node.ensures)
 
 pub returns-in_err-known_node-clause-answered : goal.returns-in_err-known_node-clause-answered
 returns-in_err-known_node-clause-answered c =
