@@ -1,5 +1,5 @@
 -- The call whole: what is refused before the search, in the definition's order, and what counts where nothing is.
-use Rattle.std.specs.Prelude.{ℕ, ◌*◌, ◌≤◌, ◌<◌, ◌≡◌, refl, Bool, false, List, length, get_or, Ok, Err}
+use Rattle.std.specs.Prelude.{ℕ, ◌*◌, ◌≤◌, ◌<◌, ◌≡◌, refl, Bool, false, List, length, get_or, Result, Ok, Err, MatchResult}
 use Rattle.plain.specs.Library.{sym, ap, ◌∙◌, subst, arith}
 use Rattle.plain.specs.declared.Answer.{Answer}
 use Rattle.plain.specs.declared.refusals.Refusal.{Refusal}
