@@ -30,12 +30,7 @@ fn padding_clear(bytes: &[u8], size: usize) -> bool
 fn ends_below(ends: RecordField, n: u32) -> bool
     ensures { result ≡ values_below ends.entry n }
 {
-    for edge in 0..ends.edges {
-        if ends.get(edge) >= n {
-            return false;
-        }
-    }
-    true
+    (0..ends.edges).all(|edge| ends.get(edge) < n)
 }
 
 // Rule 5 of the weights: no edge's low is above its high.
@@ -43,14 +38,7 @@ fn weights_right(lows: RecordField, highs: RecordField) -> bool
     requires { highs.edges ≡ lows.edges }
     ensures { result ≡ values_ordered lows.entry highs.entry }
 {
-    for edge in 0..lows.edges {
-        let low = lows.get(edge);
-        let high = highs.get(edge);
-        if low > high {
-            return false;
-        }
-    }
-    true
+    (0..lows.edges).all(|edge| lows.get(edge) <= highs.get(edge))
 }
 
 // Rule 6 of one direction: the entries from bit `list` on, one of each edge, are below the edge count, none comes twice, and their ends do not descend.

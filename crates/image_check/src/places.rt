@@ -74,5 +74,5 @@ pub fn image_bytes(nodes: u32, edges: u32) -> usize
     requires { (nodes ≤ LIMIT) × (edges ≤ LIMIT) }
     ensures { result ≡ bytes_for (image_size nodes edges) }
 {
-    (ins_start(nodes, edges) + lists_size(edges) + 7) / 8
+    (ins_start(nodes, edges) + lists_size(edges)).div_ceil(8)
 }
