@@ -65,7 +65,7 @@ fn lists_right(ends: RecordField, list: usize, v: u32) -> bool
     true
 }
 
-// The first broken one of rules 4 to 6, of bytes whose counts and length are right.
+// The first broken one of rules 4 to 6, of bytes whose counts and length are right. A struct of the three would be made by one function, to be taken apart by this one.
 fn broken_content(bytes: &[u8], n: u32, m: u32) -> Result<(), ImageRule>
     requires { Whole bytes.now n m }
     ensures { image_rule_of result ≡ broken_image bytes.now }

@@ -1,6 +1,7 @@
 // Where the parts of an image stand, in bits, from its two counts: "node count n and edge count m (16 bits each); n payloads (32); per edge source, target
 // (w bits each), payload (32); the out-lists of nodes 0 up to n−1 joined, then the in-lists (v bits an entry)"; and document 02, No. 8: "the image's edge record
-// holds low then high in 64 bits".
+// holds low then high in 64 bits". Each function takes the counts that it reads, and asks for no other bound than it needs: a struct of both counts within the limit
+// would ask more of most of them.
 
 ghost use Rattle.std.specs.Prelude.{◌*◌, ◌≤◌, ◌≡◌};
 ghost use Rattle.plain.specs.Numbers.{LIMIT};

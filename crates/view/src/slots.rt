@@ -7,8 +7,8 @@ ghost use Rattle.shape.specs.Shape.{lists};
 ghost use Rattle.shape.specs.Stores.{words};
 ghost use Rattle.view.specs.Calls.{Answered, Recorded};
 
-use plain::refusals::Refusal;
 use plain::EdgeRecord;
+use plain::refusals::Refusal;
 use shape::Store;
 use validate::judging::check_store;
 
