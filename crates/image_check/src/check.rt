@@ -30,12 +30,7 @@ fn padding_clear(bytes: &[u8], size: usize) -> bool
 fn ends_below(ends: RecordField, n: u32) -> bool
     ensures { result ≡ values_below ends.entry n }
 {
-    for edge in 0..ends.edges {
-        if ends.get(edge) >= n {
-            return false;
-        }
-    }
-    true
+    (0..ends.edges).all(|edge| ends.get(edge) < n)
 }
 
 // Rule 5 of the weights: no edge's low is above its high.
@@ -43,14 +38,7 @@ fn weights_right(lows: RecordField, highs: RecordField) -> bool
     requires { highs.edges ≡ lows.edges }
     ensures { result ≡ values_ordered lows.entry highs.entry }
 {
-    for edge in 0..lows.edges {
-        let low = lows.get(edge);
-        let high = highs.get(edge);
-        if low > high {
-            return false;
-        }
-    }
-    true
+    (0..lows.edges).all(|edge| lows.get(edge) <= highs.get(edge))
 }
 
 // Rule 6 of one direction: the entries from bit `list` on, one of each edge, are below the edge count, none comes twice, and their ends do not descend.
@@ -77,7 +65,7 @@ fn lists_right(ends: RecordField, list: usize, v: u32) -> bool
     true
 }
 
-// The first broken one of rules 4 to 6, of bytes whose counts and length are right.
+// The first broken one of rules 4 to 6, of bytes whose counts and length are right. A struct of the three would be made by one function, to be taken apart by this one.
 fn broken_content(bytes: &[u8], n: u32, m: u32) -> Result<(), ImageRule>
     requires { Whole bytes.now n m }
     ensures { image_rule_of result ≡ broken_image bytes.now }

@@ -1,6 +1,7 @@
 // Where the parts of an image stand, in bits, from its two counts: "node count n and edge count m (16 bits each); n payloads (32); per edge source, target
 // (w bits each), payload (32); the out-lists of nodes 0 up to n−1 joined, then the in-lists (v bits an entry)"; and document 02, No. 8: "the image's edge record
-// holds low then high in 64 bits".
+// holds low then high in 64 bits". Each function takes the counts that it reads, and asks for no other bound than it needs: a struct of both counts within the limit
+// would ask more of most of them.
 
 ghost use Rattle.std.specs.Prelude.{◌*◌, ◌≤◌, ◌≡◌};
 ghost use Rattle.plain.specs.Numbers.{LIMIT};
@@ -74,5 +75,5 @@ pub fn image_bytes(nodes: u32, edges: u32) -> usize
     requires { (nodes ≤ LIMIT) × (edges ≤ LIMIT) }
     ensures { result ≡ bytes_for (image_size nodes edges) }
 {
-    (ins_start(nodes, edges) + lists_size(edges) + 7) / 8
+    (ins_start(nodes, edges) + lists_size(edges)).div_ceil(8)
 }

@@ -116,7 +116,7 @@ counts_end : {a b : Writer} (nodes edges : ℕ) → a.pen ≡ fresh → Written 
 counts_end nodes edges begun k =
     let l : length (count_bits nodes edges) ≡ nodes_start = simp (length-append, length_bits_of) in omega (arith, k.penned.next, ap reach begun)
 
-module _ {a : Writer} {width : ℕ} {w : Words} (h : SlotsFit a width w) where
+module _ {a : Writer} {w : Words} (h : SlotsFit a w) where
   pub node_words : w.counts.nodes.bound ≤ 64 * length w.live_nodes
   node_words = let k = h.checked.nodes in omega (arith, k.live_long, k.bounded.bound_within)
 
@@ -141,7 +141,7 @@ module _ {a : Writer} {width : ℕ} {w : Words} (h : SlotsFit a width w) where
   -- after the nodes the edges have room
   pub edges_fit : {b c : Writer} → Written a (count_bits w.counts.nodes.live w.counts.edges.live) b
       → Written b (row node_payload_width (live_payloads w.nodes w.live_nodes w.counts.nodes.bound)) c
-      → EdgesFit c width w.live_nodes w.counts.nodes.bound w
+      → EdgesFit c (least_width w.counts.nodes.live) w.live_nodes w.counts.nodes.bound w
   edges_fit {b} {c} counted paid =
       let k = h.checked in
       let n = w.counts.nodes.live in
@@ -154,8 +154,8 @@ module _ {a : Writer} {width : ℕ} {w : Words} (h : SlotsFit a width w) where
       record { ready = paid.penned.ready; within = omega (arith, h.room, paid.penned.long, counted.penned.long) } in
       record {
         ranks_fit = record {
-          narrow = rw h.holds (width_few n (nodes_limit k));
-          wide = rw h.holds (let few = nodes_limit k in omega (arith, width_holds n (omega arith), k.nodes.live.live_right));
+          narrow = width_few n (nodes_limit k);
+          wide = let few = nodes_limit k in omega (arith, width_holds n (omega arith), k.nodes.live.live_right);
         };
         long = omega (arith, k.edges.live_long, k.edges.bounded.bound_within);
         sources_there = omega (arith, (k.axis Outgoing).sized.room, k.edges.bounded.bound_within);
@@ -164,14 +164,14 @@ module _ {a : Writer} {width : ℕ} {w : Words} (h : SlotsFit a width w) where
         highs_there = omega (arith, k.highs_long, k.edges.bounded.bound_within);
         sources_live = λ e l. checked_end k Outgoing e l;
         targets_live = λ e l. checked_end k Incoming e l;
-        room = rw (h.holds, ← k.edges.live.live_right) room;
+        room = rw (← k.edges.live.live_right) room;
       }
 
   -- the three parts follow each other
   pub slots_written : {b c d : Writer} → Written a (count_bits w.counts.nodes.live w.counts.edges.live) b
       → Written b (row node_payload_width (live_payloads w.nodes w.live_nodes w.counts.nodes.bound)) c
-      → Written c (edge_bits width (live_records w.live_nodes w.counts.nodes.bound w)) d
-      → Written a (slot_bits width (survivors (lists w))) d
+      → Written c (edge_bits (least_width w.counts.nodes.live) (live_records w.live_nodes w.counts.nodes.bound w)) d
+      → Written a (slot_bits (least_width w.counts.nodes.live) (survivors (lists w))) d
   slots_written x y z = let k = h.checked in rw (many_nodes k, many_edges k, left_nodes k, left_edges k) (written_then x (written_then y z))
 
 -- ---- the whole
@@ -204,16 +204,22 @@ module _ {w : Words} {work s : List ℕ} (h : ImageFits w work s) where
       ∙ ap (row width) (both_renumbered h.checked)
       ∙ row_append width (joined here.outs) (joined here.ins)
 
-  module _ {a : Writer} (begun : Begun s a) {width : ℕ} (node-holds : width ≡ least_width w.counts.nodes.live) where
-    pub slots_fit : SlotsFit a width w
-    slots_fit = record { begun = begun.pen; checked = h.checked; holds = node-holds; room = omega (arith, h.room, ap length begun.lent) }
+  abbrev node-width : ℕ
+  node-width = least_width w.counts.nodes.live
 
-    slots_length : length (slot_bits width here) ≡ outs_start w.counts.nodes.live w.counts.edges.live
+  abbrev entry-width : ℕ
+  entry-width = least_width w.counts.edges.live
+
+  module _ {a : Writer} (begun : Begun s a) where
+    pub slots_fit : SlotsFit a w
+    slots_fit = record { begun = begun.pen; checked = h.checked; room = omega (arith, h.room, ap length begun.lent) }
+
+    slots_length : length (slot_bits node-width here) ≡ outs_start w.counts.nodes.live w.counts.edges.live
     slots_length =
         simp (length-append, length_bits_of, length_row, length_edge_bits)
-        (rw (many_nodes h.checked, many_edges h.checked, node-holds) (omega arith))
+        (rw (many_nodes h.checked, many_edges h.checked) (omega arith))
 
-    module _ {entry-width : ℕ} (edge-holds : entry-width ≡ least_width w.counts.edges.live) {b : Writer} (slotted : Written a (slot_bits width here) b) where
+    module _ {b : Writer} (slotted : Written a (slot_bits node-width here) b) where
       -- after the slots the lists have room, and the width holds every entry
       pub lists_fit : ListsFit b entry-width w (take (2 * w.counts.edges.live) work)
       lists_fit =
@@ -221,20 +227,20 @@ module _ {w : Words} {work s : List ℕ} (h : ImageFits w work s) where
           let n = w.counts.nodes.live in
           let m = w.counts.edges.live in
           let place : reach b.pen ≡ outs_start n m =
-          slotted.penned.next ∙ ap (λ (p : Pen). reach p + length (slot_bits width here)) begun.pen ∙ zero-add (length (slot_bits width here)) ∙ slots_length in
+          slotted.penned.next ∙ ap (λ (p : Pen). reach p + length (slot_bits node-width here)) begun.pen ∙ zero-add (length (slot_bits node-width here)) ∙ slots_length in
           let few_edges = edges_limit k in
           let size : length (take (2 * m) work) ≡ 2 * m = ap length h.listed ∙ both_length k in
           let room : PiecesFit b (least_width m) (2 * m) =
           record { ready = slotted.penned.ready; within = omega (arith, h.room, slotted.penned.long, ap length begun.lent) } in
           record {
-            narrow = rw edge-holds (width_few m few_edges);
+            narrow = width_few m few_edges;
             long = omega (arith, k.edges.live_long, k.edges.bounded.bound_within);
             few = omega (arith, k.edges.bounded.bound_within, (k.axis Outgoing).sized.edges_within);
             right = k.edges.live.live_right;
-            wide = rw edge-holds (omega (arith, width_holds m (omega arith), k.edges.live.live_right));
+            wide = omega (arith, width_holds m (omega arith), k.edges.live.live_right);
             entries_live = λ i l. subst (λ (entries : List ℕ). get_or (edge_live w) (get_or entries i 0) false ≡ true) (sym h.listed)
                 (both_live k (get_or (both_walks w) i 0) (member_at (both_walks w) i 0 (omega (arith, size, both_length k))));
-            room = rw (edge-holds, size) room;
+            room = rw size room;
           }
 
       module _ {c : Writer} (listed : Written b (row entry-width (map (rank (edge_live w)) (take (2 * w.counts.edges.live) work))) c) where
@@ -243,11 +249,11 @@ module _ {w : Words} {work s : List ℕ} (h : ImageFits w work s) where
         unfolding image_bits
         penned_all =
             let k = h.checked in
-            let narrow : width ≡ least_width (length here.nodes) = node-holds ∙ ap least_width (sym (many_nodes k)) in
-            let wide : entry-width ≡ least_width (length here.edges) = edge-holds ∙ ap least_width (sym (many_edges k)) in
+            let narrow : node-width ≡ least_width (length here.nodes) = ap least_width (sym (many_nodes k)) in
+            let wide : entry-width ≡ least_width (length here.edges) = ap least_width (sym (many_edges k)) in
             let all = rw (begun.lent, begun.pen) at (written_then slotted listed).penned in
             subst (λ (l : List ℕ). Penned s fresh l c.bytes.now c.pen)
-            (ap (λ (l : List ℕ). slot_bits width here ++ l) (lists_bits entry-width)
+            (ap (λ (l : List ℕ). slot_bits node-width here ++ l) (lists_bits entry-width)
             ∙ ap₂ (λ (x y : ℕ). slot_bits x here ++ (row y (joined here.outs) ++ row y (joined here.ins))) narrow wide ∙ simp append_assoc) all
 
         -- and what waits in the pen has room

@@ -5,7 +5,7 @@ use Rattle.plain.specs.declared.EdgeRecord.{EdgeRecord as DeclaredRecord}
 use Rattle.plain.specs.Numbers.{LIMIT}
 use Rattle.plain.specs.Reads.{live_count, live_slots}
 use Rattle.plain.specs.Compaction.{EdgeRecord, Survivors, rank}
-use Rattle.plain.specs.Bits.{bits_of, row, bytes_for, least_width}
+use Rattle.plain.specs.Bits.{bits_of, row, bytes_for}
 use Rattle.plain.specs.Image.{edge_bits, record_width, outs_start, image_size, count_width, node_payload_width}
 use Rattle.liveness.specs.Flags.{live_flags}
 use Rattle.shape.specs.Shape.{Words, edge_live}
@@ -102,11 +102,10 @@ live_records live slots v = map (record_at live slots v) (live_slots (edge_live 
 abbrev pub slot_bits : ℕ → Survivors → List ℕ
 slot_bits w s = count_bits (length s.nodes) (length s.edges) ++ (row node_payload_width s.nodes ++ edge_bits w s.edges)
 
--- a width that holds every live node's number, and room up to the lists
-pub record SlotsFit (a : Writer) (width : ℕ) (w : Words) : Type 0 where
+-- a writer with nothing written, a checked store, and room up to the lists
+pub record SlotsFit (a : Writer) (w : Words) : Type 0 where
   pub begun : a.pen ≡ fresh
   pub checked : Checked w
-  pub holds : width ≡ least_width w.counts.nodes.live
   pub room : outs_start w.counts.nodes.live w.counts.edges.live ≤ 8 * length a.bytes.now
 
 -- ---- the lists' entries

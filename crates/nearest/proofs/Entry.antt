@@ -1,5 +1,5 @@
 -- The call whole: what is refused before the search, in the definition's order, and what counts where nothing is.
-use Rattle.std.specs.Prelude.{ℕ, ◌*◌, ◌≤◌, ◌<◌, ◌≡◌, refl, Bool, false, List, length, get_or, Ok, Err}
+use Rattle.std.specs.Prelude.{ℕ, ◌*◌, ◌≤◌, ◌<◌, ◌≡◌, refl, Bool, false, List, length, get_or, Result, Ok, Err, MatchResult}
 use Rattle.plain.specs.Library.{sym, ap, ◌∙◌, subst, arith}
 use Rattle.plain.specs.declared.Answer.{Answer}
 use Rattle.plain.specs.declared.refusals.Refusal.{Refusal}
@@ -88,14 +88,14 @@ module _ {w : Words} (first second room : ℕ) where
 
       module _ {done_too : Unit} (passed_too : Ok done_too ≡ slot_refused OutOfRangeNode RemovedNode (node_live w) w.counts.nodes.bound second) where
         -- the work slice
-        pub work_refused : room < 2 * node_capacity w → Refused w first second room (done_of (Err (TooShort (2 * node_capacity w))))
+        work_refused : room < 2 * node_capacity w → Refused w first second room (done_of (Err (TooShort (2 * node_capacity w))))
         work_refused short =
             refuses 2 (2 * node_capacity w) (λ q. omega arith)
             (λ chain. counts chain
             ∙ work_refuses (node_capacity w) (lists w) first second room chain first_there (live_there w second (lot_live w second passed_too)) short)
 
         -- nothing
-        pub none_refused : 2 * node_capacity w ≤ room → Refused w first second room (record { number = 0; value = 0 })
+        none_refused : 2 * node_capacity w ≤ room → Refused w first second room (record { number = 0; value = 0 })
         none_refused long = record {
           refused = λ some. absurd (some refl);
           unbroken = λ _. sym j.first;
@@ -106,6 +106,13 @@ module _ {w : Words} (first second room : ℕ) where
             long = omega arith;
           };
         }
+
+        -- whether there is room
+        pub work_asked : (r : Result Unit Refusal)
+            → MatchResult r (λ _. 2 * node_capacity w ≤ room) (λ refusal. (room < 2 * node_capacity w) × (refusal ≡ TooShort (2 * node_capacity w)))
+            → Refused w first second room (done_of r)
+        work_asked (Ok done) long = none_refused long
+        work_asked (Err refusal) lacks = rw lacks.1 (work_refused lacks.0)
 
 -- ---- the entry
 

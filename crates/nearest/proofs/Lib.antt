@@ -8,3 +8,4 @@ mod Seeding
 mod Nearing
 mod Answering
 mod Entry
+mod Finding

@@ -16,8 +16,8 @@ use adjacency::reads;
 use plain::TraversalDirection;
 use shape::Store;
 
-// Looks at a lot: one that is new gets its word and goes to the end of the queue. Answers the queue's length, which goes beside the slice: a struct of both would have
-// to say at each call that its slice is still the one that was lent, and be no plainer.
+// Looks at a lot: one that is new gets its word and goes to the end of the queue. Answers the queue's length, which goes beside the slice: unlike a text
+// or a pen, the words in front of the queue are read between two calls.
 fn see(work: &mut [u32], node_capacity: usize, tail: usize, word: u32, lot: u32) -> usize
     requires { Seeable node_capacity lot tail work.old }
     ensures { frontier result work.new ≡ turn node_capacity word lot (frontier tail work.old) }

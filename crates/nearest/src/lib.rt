@@ -13,6 +13,7 @@ ghost use Rattle.nearest.specs.Stores.{Asked};
 ghost use Rattle.nearest.specs.Answers.{Found, Answered, Refused};
 ghost use Rattle.nearest.specs.Calls.{NearestOf};
 
+use memory::need;
 use plain::refusals::Refusal;
 use shape::Store;
 use validate::judging::check_store;
@@ -24,11 +25,7 @@ fn check_ask(store: &Store, first: u32, second: u32, room: usize) -> Result<(), 
     check_store(store)?;
     store.live_node(first)?;
     store.live_node(second)?;
-    let needed = 2 * store.nodes.len();
-    if room < needed {
-        return Err(Refusal::TooShort(needed as u64));
-    }
-    Ok(())
+    need(2 * store.nodes.len(), room)
 }
 
 // The search, and the way forward where there is one and room for it; the borrowed words are left as they come. Internal: nothing is refused before the search.
@@ -43,9 +40,7 @@ fn find_chain(
     ensures { Found (words store.now) first second work.old chain.old (answer_of result) work.new chain.new }
 {
     let left = backwards::search(store, first, second, work).ok_or(Refusal::Unreachable)?;
-    if chain.len() < left {
-        return Err(Refusal::TooShort(left as u64));
-    }
+    need(left, chain.len())?;
     forwards::write_way(store, work, second, left, first, chain);
     Ok(left)
 }

@@ -11,12 +11,14 @@ ghost use Rattle.view.specs.Calls.{Listed, Replied};
 ghost use Rattle.view.specs.Ids.{LiveFits, LiveTold};
 
 use liveness::live_slots::LiveSlots;
+use memory::need;
 use plain::Slots;
 use plain::refusals::Refusal;
 use shape::Store;
 use validate::judging::check_store;
 
 // Writes the live slots below `bound` to the start of `slots`, in slot order, from one live slot to the next. Internal: there is room for them.
+// By their index: tried by `iter_mut().zip`, and the proof did not close, since of the slice after it nothing is known but its length.
 fn write_live(words: &[u64], bound: usize, slots: &mut [u32])
     requires { LiveFits words.now bound slots.old }
     ensures { slots.new ≡ written (live_slots (live_flags words.now bound)) slots.old }
@@ -33,9 +35,7 @@ fn list_live(words: &[u64], counted: Slots, slots: &mut [u32]) -> Result<u32, Re
     ensures { Listed (live_slots (live_flags words.now counted.bound)) slots.old (answer_of result) slots.new }
 {
     let live = counted.live;
-    if slots.len() < live as usize {
-        return Err(Refusal::TooShort(u64::from(live)));
-    }
+    need(live as usize, slots.len())?;
     write_live(words, counted.bound as usize, slots);
     Ok(live)
 }

@@ -7,8 +7,8 @@ ghost use Rattle.shape.specs.Shape.{lists};
 ghost use Rattle.shape.specs.Stores.{words};
 ghost use Rattle.view.specs.Calls.{Answered, Recorded};
 
-use plain::refusals::Refusal;
 use plain::EdgeRecord;
+use plain::refusals::Refusal;
 use shape::Store;
 use validate::judging::check_store;
 
@@ -17,9 +17,7 @@ pub fn node_payload(store: &Store, node: u32) -> Result<u32, Refusal>
     ensures { Answered (words store.now) (λ w. node_payload (lists w) node) (answer_of result) }
 {
     check_store(store)?;
-    if store.counts.nodes.bound <= node {
-        return Err(Refusal::OutOfRangeNode);
-    }
+    store.known_node(node)?;
     Ok(store.nodes[node as usize])
 }
 
@@ -28,9 +26,7 @@ pub fn edge_record(store: &Store, edge: u32) -> Result<EdgeRecord, Refusal>
     ensures { Recorded (words store.now) (λ w. edge_record (lists w) edge) (edge_record_of result) }
 {
     check_store(store)?;
-    if store.counts.edges.bound <= edge {
-        return Err(Refusal::OutOfRangeEdge);
-    }
+    store.known_edge(edge)?;
     Ok(store.edge_at(edge as usize))
 }
 

@@ -1,13 +1,13 @@
 -- The reads of a node's list, way out by way out: what is refused, what is answered, and what is written.
 -- ---- a node at or above the bound, and one below it
-use Rattle.std.specs.Prelude.{ℕ, ◌≤◌, ◌<◌, ◌≡◌, refl, true, false, Ok, Err, List, [], map, length, get_or}
+use Rattle.std.specs.Prelude.{ℕ, ◌≤◌, ◌<◌, ◌≡◌, refl, true, false, Result, Ok, Err, MatchResult, List, [], map, length, get_or}
 use Rattle.plain.specs.Library.{sym, ap, ◌∙◌, arith, length-map}
 use Rattle.plain.specs.declared.TraversalDirection.{TraversalDirection}
 use Rattle.plain.specs.declared.Sums.{Sums}
 use Rattle.plain.specs.declared.refusals.Rule.{Rule}
 use Rattle.plain.specs.declared.refusals.Rule.TheVariants.{Sizes, Live, Ends, Index, Rings, Runs, Walks}
 use Rattle.plain.specs.declared.refusals.Refusal.{Refusal}
-use Rattle.plain.specs.declared.refusals.Refusal.TheVariants.{TooShort}
+use Rattle.plain.specs.declared.refusals.Refusal.TheVariants.{TooShort, OutOfRangeNode}
 use Rattle.plain.specs.Answers.{answer_of, sums_total_of}
 use Rattle.plain.specs.Numbers.{NONE}
 use Rattle.plain.specs.Lists.{member, written}
@@ -24,6 +24,7 @@ use Rattle.cursor.specs.Cursor.{word, Within}
 use Rattle.adjacency.specs.Reads.{sums_in}
 use Rattle.adjacency.specs.Laws.Walk.{walk_below as edge_below}
 use Rattle.adjacency.specs.Laws.StoreWalks.{checked_walkable, list_is_walk}
+use Rattle.validate.specs.Judging.{Judged}
 use Rattle.view.specs.Calls.{Answered, Totalled, Replied}
 use Rattle.view.specs.Laws.Calls.{answer_refuses, answer_done, total_refuses, total_done, reply_refuses, reply_absent, list_short, list_done}
 use Rattle.view_walks.specs.Walks.{list_in, far_ends_in, Placed, no_store, past, there, Counted, refused, short, fits}
@@ -73,6 +74,12 @@ no_zero Runs q = omega arith
 no_zero Walks q = omega arith
 
 -- ---- a node that is refused, and one that is not
+
+-- where no rule is broken, a node beside the bound
+pub placed : {w : Words} {x : ℕ} → Judged w 0 → (r : Result Unit Refusal)
+    → MatchResult r (λ _. x < w.counts.nodes.bound) (λ refusal. (w.counts.nodes.bound ≤ x) × (refusal ≡ OutOfRangeNode)) → Placed w x r
+placed j (Ok done) below = there j below
+placed j (Err refusal) at = rw at.1 (past j at.0)
 
 module _ {w : Words} {x : ℕ} where
   pub degree_refused : (d : TraversalDirection) {r : Refusal} → Placed w x (Err r) → Answered w (λ w. degree d (lists w) x) (answer_of (Err r))

@@ -21,9 +21,7 @@ pub fn find(store: &Store, first: u32, second: u32) -> Result<Option<u32>, Refus
     ensures among { IfOk result (λ found. Among found (list_of Outgoing (lists (words store.now)) first)) }
 {
     check_node(store, first)?;
-    if store.counts.nodes.bound <= second {
-        return Err(Refusal::OutOfRangeNode);
-    }
+    store.known_node(second)?;
     let edge = walk::find(
         store.outgoing,
         store.incoming,

@@ -13,6 +13,7 @@ ghost use Rattle.view.specs.Calls.{Answered, Totalled, Replied};
 ghost use Rattle.view_walks.specs.Walks.{Placed, Counted};
 
 use adjacency::reads;
+use memory::need;
 use plain::refusals::Refusal;
 use plain::{Sums, TraversalDirection};
 use shape::Store;
@@ -23,10 +24,7 @@ fn check_node(store: &Store, node: u32) -> Result<(), Refusal>
     ensures { Placed (words store.now) node result }
 {
     check_store(store)?;
-    if store.counts.nodes.bound <= node {
-        return Err(Refusal::OutOfRangeNode);
-    }
-    Ok(())
+    store.known_node(node)
 }
 
 // How many entries a node's list has, where `room` words are lent for them: 1, 5, 2. Internal: it writes nothing.
@@ -40,9 +38,7 @@ fn count_list(
 {
     check_node(store, node)?;
     let entries = reads::degree(store, direction, node);
-    if room < entries {
-        return Err(Refusal::TooShort(entries as u64));
-    }
+    need(entries, room)?;
     Ok(entries)
 }
 

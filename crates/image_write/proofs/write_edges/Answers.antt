@@ -13,7 +13,7 @@ use Rattle.image_write.proofs.write_edges.Goals as goal
 pub loop-e-init : goal.loop-e-init
 loop-e-init c =
     let a = c.args in
-    live_none a.out.now (record_width a.width) (piece a.width a.nodes.now.live.now a.nodes.now.slots (words a.store.now))
+    live_none a.out.now (record_width a.nodes.now.width) (piece a.nodes.now.width a.nodes.now.live.now a.nodes.now.slots (words a.store.now))
     (ap left c.into_iter-e-iterator.ensures.into_iter_gives ∙ c.new-e-items.ensures) c.requires.room
 
 pub edge_at-requires : goal.edge_at-requires
@@ -26,11 +26,11 @@ pub loop-e-preserved : goal.loop-e-preserved
 loop-e-preserved c =
     let a = c.args in
     live_more c.loop-e.invariant c.in-Some.ensures.steps
-    (λ e. length_record_bits a.width (record_at a.nodes.now.live.now a.nodes.now.slots (words a.store.now) e)) (rw c.edge_at.ensures at c.write_edge.ensures)
+    (λ e. length_record_bits a.nodes.now.width (record_at a.nodes.now.live.now a.nodes.now.slots (words a.store.now) e)) (rw c.edge_at.ensures at c.write_edge.ensures)
 
 pub returns : goal.returns
 returns c =
     let a = c.args in
-    rw (records_strung a.width (record_at a.nodes.now.live.now a.nodes.now.slots (words a.store.now))
+    rw (records_strung a.nodes.now.width (record_at a.nodes.now.live.now a.nodes.now.slots (words a.store.now))
     (live_slots (edge_live (words a.store.now)))) at
     (live_all c.loop-e.invariant c.in-None.ensures.steps.0)

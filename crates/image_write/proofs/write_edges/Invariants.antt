@@ -10,4 +10,4 @@ use Rattle.image_write.proofs.write_edges.Given as goal
 abbrev pub invariant-loop-e : goal.invariant-loop-e
 invariant-loop-e l =
     let v = words l.store in
-    StrungLive (edge_live v) l.initial.out (record_width l.width) (piece l.width l.nodes.live.now l.nodes.slots v) l.yielded (left l.e-iterator) l.out
+    StrungLive (edge_live v) l.initial.out (record_width l.nodes.width) (piece l.nodes.width l.nodes.live.now l.nodes.slots v) l.yielded (left l.e-iterator) l.out

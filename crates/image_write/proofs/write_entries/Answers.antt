@@ -1,6 +1,6 @@
 -- `image_write::write_entries` meets its contract: after each turn one entry more was written.
 use Rattle.std.specs.Prelude.{get_or}
-use Rattle.plain.specs.Library.{arith}
+use Rattle.plain.specs.Library.{◌∙◌, arith}
 use Rattle.plain.specs.Compaction.{rank}
 use Rattle.plain.proofs.Laws.Bits.{length_bits_of}
 use Rattle.liveness.specs.Flags.{live_flags}
@@ -11,7 +11,7 @@ use Rattle.image_write.proofs.write_entries.Goals as goal
 pub loop-entry-init : goal.loop-entry-init
 loop-entry-init c =
     let a = c.args in
-    entry_none a.out.now a.width (entry_bits a.width a.edges.now.live.now a.edges.now.slots) a.entries.now c.requires.room
+    entry_none a.out.now a.edges.now.width (entry_bits a.edges.now.width a.edges.now.live.now a.edges.now.slots) a.entries.now c.requires.room
 
 pub new_number-requires : goal.new_number-requires
 new_number-requires c =
@@ -19,16 +19,16 @@ new_number-requires c =
 
 pub put-requires : goal.put-requires
 put-requires c =
-    next_entry c.requires c.loop-entry.invariant (omega arith) c.new_number.ensures
+    next_entry c.requires c.loop-entry.invariant (omega arith) (c.from.ensures ∙ c.new_number.ensures)
 
 pub loop-entry-preserved : goal.loop-entry-preserved
 loop-entry-preserved c =
     let a = c.args in
-    entry_more c.loop-entry.invariant (λ e. length_bits_of a.width (rank (live_flags a.edges.now.live.now a.edges.now.slots) e)) (omega arith)
-    (rw c.new_number.ensures at c.put.ensures)
+    entry_more c.loop-entry.invariant (λ e. length_bits_of a.edges.now.width (rank (live_flags a.edges.now.live.now a.edges.now.slots) e)) (omega arith)
+    (rw (c.from.ensures, c.new_number.ensures) at c.put.ensures)
 
 pub returns : goal.returns
 returns c =
     let a = c.args in
-    rw (row_strung a.width (rank (live_flags a.edges.now.live.now a.edges.now.slots)) a.entries.now) at
+    rw (row_strung a.edges.now.width (rank (live_flags a.edges.now.live.now a.edges.now.slots)) a.entries.now) at
     (entries_all c.loop-entry.invariant (omega arith))

@@ -5,4 +5,4 @@ use Rattle.image_write.proofs.write_entries.Given as goal
 
 abbrev pub invariant-loop-entry : goal.invariant-loop-entry
 invariant-loop-entry l =
-    StrungTo l.initial.out l.width (entry_bits l.width l.edges.live.now l.edges.slots) l.entries l.entry-index l.out
+    StrungTo l.initial.out l.edges.width (entry_bits l.edges.width l.edges.live.now l.edges.slots) l.entries l.entry-index l.out

@@ -10,8 +10,8 @@ new-edges-requires c =
 pub write_entries-requires : goal.write_entries-requires
 write_entries-requires c =
     let h = c.requires in
-    rw (c.new-edges.ensures.0, c.new-edges.ensures.1)
+    rw (c.new-edges.ensures.live, c.new-edges.ensures.slots, c.new-edges.ensures.width)
     (record { ranks_fit = record { narrow = h.narrow; wide = h.wide }; entries_live = h.entries_live; room = h.room })
 
 pub returns : goal.returns
-returns c = rw (c.new-edges.ensures.0, c.new-edges.ensures.1) at c.write_entries.ensures
+returns c = rw (c.new-edges.ensures.live, c.new-edges.ensures.slots, c.new-edges.ensures.width) at c.write_entries.ensures

@@ -8,4 +8,4 @@ use Rattle.image_write.proofs.write_nodes.Given as goal
 
 abbrev pub invariant-loop-node : goal.invariant-loop-node
 invariant-loop-node l =
-    StrungLive (live_flags l.live l.bound) l.initial.out node_payload_width (node_bits l.nodes) l.yielded (left l.node-iterator) l.out
+    StrungLive (live_flags l.store.live_nodes.now l.store.counts.nodes.bound) l.initial.out node_payload_width (node_bits l.store.nodes.now) l.yielded (left l.node-iterator) l.out

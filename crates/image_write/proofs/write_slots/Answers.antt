@@ -15,8 +15,8 @@ write_nodes-requires c = nodes_fit c.requires c.write_counts.ensures
 
 pub write_edges-requires : goal.write_edges-requires
 write_edges-requires c =
-    rw (c.new-nodes.ensures.0, c.new-nodes.ensures.1) (edges_fit c.requires c.write_counts.ensures c.write_nodes.ensures)
+    rw (c.new-nodes.ensures.live, c.new-nodes.ensures.slots, c.new-nodes.ensures.width) (edges_fit c.requires c.write_counts.ensures c.write_nodes.ensures)
 
 pub returns : goal.returns
 returns c =
-    slots_written c.requires c.write_counts.ensures c.write_nodes.ensures (rw (c.new-nodes.ensures.0, c.new-nodes.ensures.1) at c.write_edges.ensures)
+    slots_written c.requires c.write_counts.ensures c.write_nodes.ensures (rw (c.new-nodes.ensures.live, c.new-nodes.ensures.slots, c.new-nodes.ensures.width) at c.write_edges.ensures)

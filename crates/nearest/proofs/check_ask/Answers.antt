@@ -1,6 +1,6 @@
 -- `nearest::check_ask` meets its contract: a law for each way out.
 use Rattle.plain.proofs.Laws.Exits.{refused_exit}
-use Rattle.nearest.proofs.Entry.{first_refused, second_refused, work_refused, none_refused}
+use Rattle.nearest.proofs.Entry.{first_refused, second_refused, work_asked}
 use Rattle.nearest.proofs.check_ask.Goals as goal
 
 pub returns-in_err-live_node : goal.returns-in_err-live_node
@@ -14,12 +14,7 @@ returns-in_err-live_node-2 c =
     rw (refused_exit _ c.from_residual-in_err-live_node-2.ensures.1)
     (second_refused a.first a.second a.room c.in_ok-check_store.ensures c.in_ok-live_node.ensures c.in_err-live_node-2.ensures)
 
-pub returns-then-room-needed : goal.returns-then-room-needed
-returns-then-room-needed c =
-    let a = c.args in
-    work_refused a.first a.second a.room c.in_ok-check_store.ensures c.in_ok-live_node.ensures c.in_ok-live_node-2.ensures c.if-room-needed.true
-
 pub returns : goal.returns
 returns c =
     let a = c.args in
-    none_refused a.first a.second a.room c.in_ok-check_store.ensures c.in_ok-live_node.ensures c.in_ok-live_node-2.ensures c.if-room-needed.false
+    work_asked a.first a.second a.room c.in_ok-check_store.ensures c.in_ok-live_node.ensures c.in_ok-live_node-2.ensures _ c.need.ensures

@@ -10,8 +10,10 @@ returns-in_err-check_node c = rw (refused_exit _ c.from_residual.ensures.1) (ref
 pub degree-entries-requires-clause-checked : goal.degree-entries-requires-clause-checked
 degree-entries-requires-clause-checked c = placed_checked c.in_ok-check_node.ensures
 
-pub returns-then-room-entries : goal.returns-then-room-entries
-returns-then-room-entries c = count_short c.in_ok-check_node.ensures c.degree-entries.ensures c.if-room-entries.true
+pub returns-in_err-need : goal.returns-in_err-need
+returns-in_err-need c =
+    let lacks = c.in_err-need.ensures in
+    rw (refused_exit _ c.from_residual-in_err-need.ensures.1, lacks.1) (count_short c.in_ok-check_node.ensures c.degree-entries.ensures lacks.0)
 
 pub returns : goal.returns
-returns c = count_fits c.in_ok-check_node.ensures c.degree-entries.ensures c.if-room-entries.false
+returns c = count_fits c.in_ok-check_node.ensures c.degree-entries.ensures c.in_ok-need.ensures

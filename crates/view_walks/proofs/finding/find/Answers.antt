@@ -10,8 +10,10 @@ use Rattle.view_walks.proofs.finding.find.Goals as goal
 pub returns-in_err-check_node-clause-answered : goal.returns-in_err-check_node-clause-answered
 returns-in_err-check_node-clause-answered c = rw (refused_exit _ c.from_residual.ensures.1) (find_refused c.args.first c.args.second c.in_err-check_node.ensures)
 
-pub returns-then-store-second-clause-answered : goal.returns-then-store-second-clause-answered
-returns-then-store-second-clause-answered c = second_past c.args.first c.args.second c.in_ok-check_node.ensures c.if-store-second.true
+pub returns-in_err-known_node-clause-answered : goal.returns-in_err-known_node-clause-answered
+returns-in_err-known_node-clause-answered c =
+    let past = c.in_err-known_node.ensures in
+    rw (refused_exit _ c.from_residual-in_err-known_node.ensures.1, past.1) (second_past c.args.first c.args.second c.in_ok-check_node.ensures past.0)
 
 pub find-edge-requires-clause-walkable : goal.find-edge-requires-clause-walkable
 find-edge-requires-clause-walkable c =
@@ -22,7 +24,7 @@ find-edge-requires-clause-edge_capacity_in_bounds c = rw c.layout.ensures (omega
 
 pub returns-clause-answered : goal.returns-clause-answered
 returns-clause-answered c =
-    find_done c.args.first c.args.second c.in_ok-check_node.ensures c.if-store-second.false c.is_node_live.ensures c.find-edge.result
+    find_done c.args.first c.args.second c.in_ok-check_node.ensures c.in_ok-known_node.ensures c.is_node_live.ensures c.find-edge.result
     (rw c.layout.ensures at c.find-edge.ensures.first)
 
 pub returns-clause-among : goal.returns-clause-among
