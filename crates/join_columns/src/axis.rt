@@ -8,12 +8,13 @@ ghost use Rattle.shape.specs.Stores.{words};
 ghost use Rattle.join_columns.specs.Sides.{side_of, side_ends, side_entries, EndsFit, EntriesFit, BothEndsFit, BothEntriesFit, AxisJoinable, AxisJoined};
 ghost use Rattle.join_columns.specs.Books.{side_in};
 
-use crate::slots::{Column, MapsMut, copy_live};
+use crate::slots::{Column, copy_live};
 use adjacency::index::count_offsets;
 use adjacency::rings::open_nodes;
 use plain::TraversalDirection;
 use shape::{Layout, Store};
 use survivors::lists::write_lists;
+use survivors::maps::MapsMut;
 use survivors::slots::translate;
 
 // A book that is joined, and the maps of its live slots.
