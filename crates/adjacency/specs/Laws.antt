@@ -1,6 +1,7 @@
--- The laws of index, rings and walks, for the crates above to cite.
+-- The laws of index, rings, walks and parts of slices, for the crates above to cite.
 pub mod Walk
 pub mod Clear
 pub mod StoreClears
 pub mod StoreWalks
 pub mod Rings
+pub mod Parts

@@ -2,6 +2,7 @@
 use Rattle.std.specs.Prelude.{ℕ, ◌+◌, ◌*◌, ◌≤◌, ◌<◌, ◌≡◌, cond, ◌≢◌, List, [], ◌∷◌, ◌++◌, length, get_or, eqb, Option, MatchOption}
 use Rattle.plain.specs.Library.{none}
 use Rattle.plain.specs.Numbers.{NONE, LIMIT}
+use Rattle.shape.specs.Index.{Rewritten}
 use Rattle.shape.specs.Columns.{Sized, end_at, next_at, last_at}
 use Rattle.shape.specs.Shape.{ring_of, run_of}
 use Rattle.shape.specs.Checked.{Rings, Runs}
@@ -48,6 +49,17 @@ pub record Opened (ws vs : List ℕ) (ce cn node : ℕ) : Type 0 where
   pub runs : (eb : ℕ) → eb ≤ ce → Runs ws ce cn node eb → Runs vs ce cn (node + 1) eb
   -- only the node's last edge and mark are written
   pub kept : (i : ℕ) → i ≢ 4 * ce + node → i ≢ 4 * ce + 4 * cn + node → get_or vs i 0 ≡ get_or ws i 0
+
+-- What it takes to open the first n node slots.
+pub record NodesOpenable (ws : List ℕ) (ce cn n : ℕ) : Type 0 where
+  pub sized : Sized ws ce cn
+  pub room : n ≤ cn
+
+-- The first n nodes have NONE for their last edge, and then 0 for their mark; every other word is as it was.
+pub record NodesOpened (ws vs : List ℕ) (ce cn n : ℕ) : Type 0 where
+  pub emptied : List ℕ
+  pub rings : Rewritten ws emptied (4 * ce) n (λ _. NONE)
+  pub marks : Rewritten emptied vs (4 * ce + 4 * cn) n (λ _. 0)
 
 -- What it takes to read the ends of a node's ring: its last edge is a word of the axis, and names an edge if it is not NONE.
 pub record EndsReadable (ws : List ℕ) (ce x : ℕ) : Type 0 where

@@ -2,8 +2,9 @@
 // edge's link leads to the first; NONE in its place is the empty ring, since the words are lent. So an append takes constant time and the ring is read in the
 // order of appending. What a call asks and promises of the words is a record of specs/Rings.antt.
 
-ghost use Rattle.adjacency.specs.Rings.{Appendable, Appended, Openable, Opened, EndsReadable, EndsRead, Detachable, Detached};
+ghost use Rattle.adjacency.specs.Rings.{Appendable, Appended, Openable, Opened, NodesOpenable, NodesOpened, EndsReadable, EndsRead, Detachable, Detached};
 
+use crate::index::fill_words;
 use plain::NONE;
 use shape::Layout;
 
@@ -41,6 +42,20 @@ pub fn open_node(axis: &mut [u32], layout: Layout, node: usize)
 {
     axis[4 * layout.edge_capacity + node] = NONE;
     axis[4 * layout.edge_capacity + 4 * layout.node_capacity + node] = 0;
+}
+
+// Gives the first `count` nodes the empty ring and no run, whatever stood there. For a new base.
+pub fn open_nodes(axis: &mut [u32], layout: Layout, count: usize)
+    requires { NodesOpenable axis.old layout.edge_capacity layout.node_capacity count }
+    ensures { NodesOpened axis.old axis.new layout.edge_capacity layout.node_capacity count }
+{
+    fill_words(axis, 4 * layout.edge_capacity, count, NONE);
+    fill_words(
+        axis,
+        4 * layout.edge_capacity + 4 * layout.node_capacity,
+        count,
+        0,
+    );
 }
 
 // The ends of the node's ring, None where it is empty.

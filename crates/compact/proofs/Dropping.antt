@@ -46,6 +46,10 @@ module _ {w : Words} {node_map work : List ℕ} (pre : Droppable w node_map work
           (pre.checked.axis d).ends_below e
           (let low = live_below (edge_live w) e l in omega (arith, length_flags w.live_edges w.counts.edges.bound))
 
+  -- and so of a work slice that is as long
+  pub droppable_as : {work' : List ℕ} → length work' ≡ length work → Droppable w node_map work'
+  droppable_as same = record { checked = pre.checked; mapped = pre.mapped; nodes_there = pre.nodes_there; there = rw same pre.there }
+
   -- the two halves of the work slice
   pub first_half : w.counts.edges.live ≤ length work
   first_half = let room = pre.there in omega arith

@@ -2,8 +2,8 @@
 
 ghost use Rattle.compact.specs.Bases.{Rebuildable, Rebuilt, Compactable, AxisCompacted};
 
-use adjacency::index;
-use plain::NONE;
+use adjacency::index::{count_offsets, place_joined};
+use adjacency::rings::open_nodes;
 use shape::Layout;
 use survivors::slots;
 
@@ -19,15 +19,9 @@ pub fn rebuild(
     requires { Rebuildable axis.old layout.edge_capacity layout.node_capacity count_nodes count_edges entries.now }
     ensures { Rebuilt axis.old layout.edge_capacity layout.node_capacity count_nodes count_edges entries.now axis.new }
 {
-    index::count_offsets(axis, layout, count_nodes, count_edges);
-    index::place_joined(axis, layout, entries, count_edges);
-    index::fill_words(axis, 4 * layout.edge_capacity, count_nodes, NONE);
-    index::fill_words(
-        axis,
-        4 * layout.edge_capacity + 4 * layout.node_capacity,
-        count_nodes,
-        0,
-    );
+    count_offsets(axis, layout, count_nodes, count_edges);
+    place_joined(axis, layout, &entries[..count_edges]);
+    open_nodes(axis, layout, count_nodes);
 }
 
 // Compacts one direction: the ends of the live edges move down and are renumbered, and the new base takes its lists from lent words. `bound` is the number of
@@ -47,6 +41,6 @@ pub fn compact_axis(
         entries.now axis.new }
 {
     slots::keep_live(axis, live_edges, bound, count_edges);
-    slots::translate(axis, count_edges, node_map);
+    slots::translate(&mut axis[..count_edges], node_map);
     rebuild(axis, layout, count_nodes, count_edges, entries);
 }

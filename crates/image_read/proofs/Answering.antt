@@ -1,41 +1,22 @@
 -- The answer of a reading, by the device, the lengths of the memory and the bytes. "Reading: 13, 12, 2 (13 and 2 nodes before edges, a payload slice shorter than its count
 -- being too short, then the other slices)"; on the skid 15 "in place of 13 when lent memory exceeds its limits, and right after 12 when an image does".
 use Rattle.std.specs.Prelude.{ℕ, ◌≡◌, List}
-use Rattle.plain.specs.Library.{ap, ap₂, ◌∙◌, arith}
+use Rattle.plain.specs.Library.{ap, ap₂, ◌∙◌}
 use Rattle.plain.specs.declared.Answer.{Answer}
-use Rattle.plain.specs.declared.refusals.ImageRule.{ImageRule}
-use Rattle.plain.specs.declared.refusals.ImageRule.TheVariants.{Counts, Limits, Length, Padding, Records, Lists}
-use Rattle.plain.specs.Refusals.{image_rule_number}
 use Rattle.plain.specs.Image.{broken_image, nodes_in, edges_in}
 use Rattle.plain.specs.Memory.{Lengths}
 use Rattle.plain.specs.Devices.{Device, Proper}
 use Rattle.plain.specs.Calls.{reading, read_image}
 use Rattle.plain.proofs.Laws.Devices.{box_takes}
-use Rattle.memory.specs.Laws.{broken_read, read_roomy}
+use Rattle.memory.specs.Laws.{read_roomy}
 use Rattle.image_read.specs.Reading.{Accepted}
 
-module _ (device : Device) (l : Lengths) (bytes : List ℕ) where
-  -- by the rule and the counts that were read
-  pub whole_told : {rule n m : ℕ} {told : Answer} → rule ≡ broken_image bytes → n ≡ nodes_in bytes → m ≡ edges_in bytes
-      → told ≡ reading device l rule n m → told ≡ read_image device l bytes
-  unfolding read_image
-  whole_told {rule} is nodes edges told =
-      told ∙ ap₂ (λ (n m : ℕ). reading device l rule n m) nodes edges ∙ ap (λ (k : ℕ). reading device l k (nodes_in bytes) (edges_in bytes)) is
-
-  -- by the rule alone, where the bytes are no image
-  pub broken_told : {rule : ℕ} {told : Answer} → rule ≡ broken_image bytes → (rule ≡ 0 → ⊥) → told ≡ reading device l rule 0 0 → told ≡ read_image device l bytes
-  unfolding read_image
-  broken_told {rule} is broke told =
-      told ∙ broken_read device l rule 0 0 (nodes_in bytes) (edges_in bytes) broke ∙ ap (λ (k : ℕ). reading device l k (nodes_in bytes) (edges_in bytes)) is
-
--- a rule that is broken has a number
-pub rule_broke : (rule : ImageRule) → image_rule_number rule ≡ 0 → ⊥
-rule_broke Counts = λ e. omega arith
-rule_broke Limits = λ e. omega arith
-rule_broke Length = λ e. omega arith
-rule_broke Padding = λ e. omega arith
-rule_broke Records = λ e. omega arith
-rule_broke Lists = λ e. omega arith
+-- by the rule and the counts that were read
+pub read_told : (device : Device) (l : Lengths) (bytes : List ℕ) {rule n m : ℕ} {told : Answer} → rule ≡ broken_image bytes → n ≡ nodes_in bytes → m ≡ edges_in bytes
+    → told ≡ reading device l rule n m → told ≡ read_image device l bytes
+unfolding read_image
+read_told device l bytes {rule} is nodes edges told =
+    told ∙ ap₂ (λ (n m : ℕ). reading device l rule n m) nodes edges ∙ ap (λ (k : ℕ). reading device l k (nodes_in bytes) (edges_in bytes)) is
 
 -- where the number is 0, nothing was refused
 pub read_accepted : {device : Device} → Proper device → (l : Lengths) (bytes : List ℕ) → (read_image device l bytes).number ≡ 0 → Accepted l bytes

@@ -20,14 +20,15 @@ ghost use Rattle.image_read.specs.Calls.{ReadOf};
 ghost use Rattle.image_read.specs.Reading.{Accepted, WeightsReadable, WeightsRead, PayloadsReadable, PayloadsRead, AxesReadable, AxesRead, ImagePlaced};
 
 use crate::whole::Image;
-use adjacency::index;
+use adjacency::index::count_offsets;
+use adjacency::rings::open_nodes;
 use bits::{least_width, read_field};
 use image_check::check::first_broken;
 use image_check::places;
 use liveness::reset_all_live;
 use memory::{Device, Lengths, check_reading};
 use plain::refusals::Refusal;
-use plain::{Counts, NONE, Slots};
+use plain::{Counts, Slots};
 use shape::{Layout, StoreMut};
 
 // Reads fields of `width` bits into words, the first at bit `position` and each `stride` bits further.
@@ -55,16 +56,10 @@ fn read_base(
     requires { BaseReadable axis.old layout.edge_capacity layout.node_capacity count_nodes count_edges bytes.now position width }
     ensures { Rebuilt axis.old layout.edge_capacity layout.node_capacity count_nodes count_edges (fields_at bytes.now position width count_edges) axis.new }
 {
-    index::count_offsets(axis, layout, count_nodes, count_edges);
+    count_offsets(axis, layout, count_nodes, count_edges);
     let lists = &mut axis[layout.edge_capacity..layout.edge_capacity + count_edges];
     read_fields(bytes, position, width as usize, width, lists);
-    index::fill_words(axis, 4 * layout.edge_capacity, count_nodes, NONE);
-    index::fill_words(
-        axis,
-        4 * layout.edge_capacity + 4 * layout.node_capacity,
-        count_nodes,
-        0,
-    );
+    open_nodes(axis, layout, count_nodes);
 }
 
 // Reads one direction: the ends of the edges from bit `ends` on, a record apart, and the joined lists from bit `lists` on.

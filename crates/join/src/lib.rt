@@ -5,15 +5,15 @@
 
 ghost use Rattle.plain.specs.Answers.{done_of};
 ghost use Rattle.shape.specs.Stores.{SameSlices, words, words_mut};
-ghost use Rattle.join_columns.specs.Slots.{SameMaps};
+ghost use Rattle.survivors.specs.Maps.{SameMaps};
 ghost use Rattle.join.specs.Calls.{maps_of, cleared, JoinOf};
 
 use join_columns::answers::check_join;
-pub use join_columns::slots::MapsMut;
 use join_memory::settle;
 use plain::Counts;
 use plain::refusals::Refusal;
 use shape::{Store, StoreMut};
+pub use survivors::maps::MapsMut;
 use validate::judging::check_store;
 
 // Joins two books: "It refuses with 1 for the first book, 1 for the second, 13 for the third memory (lots before transfers), 2 for its other slices, 10 if the survivors of

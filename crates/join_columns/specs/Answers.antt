@@ -2,7 +2,7 @@
 use Rattle.std.specs.Prelude.{length}
 use Rattle.plain.specs.declared.Counts.{Counts}
 use Rattle.plain.specs.Joining.{MapRooms, Sizes}
-use Rattle.join_columns.specs.declared.slots.MapsMut.{MapsMut}
+use Rattle.survivors.specs.declared.maps.MapsMut.{MapsMut}
 
 -- the sizes of a book by its counts
 abbrev pub sizes_of : Counts → Sizes

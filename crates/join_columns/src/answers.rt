@@ -6,10 +6,10 @@ ghost use Rattle.plain.specs.Joining.{join_answer};
 ghost use Rattle.memory.specs.Lengths.{measured};
 ghost use Rattle.join_columns.specs.Answers.{sizes_of, rooms_of};
 
-use crate::slots::MapsMut;
 use memory::{Lengths, Limits, check_fresh, need};
 use plain::Counts;
 use plain::refusals::Refusal;
+use survivors::maps::MapsMut;
 
 // Refuses to join two checked books by their counts and by the lengths of what is lent: the third memory as a store's, 10 if the survivors of both exceed it, and
 // 2 for the first map too short, "nodes and edges of the first book, then of the second".

@@ -8,11 +8,13 @@ ghost use Rattle.shape.specs.Stores.{words};
 ghost use Rattle.join_columns.specs.Sides.{side_of, side_ends, side_entries, EndsFit, EntriesFit, BothEndsFit, BothEntriesFit, AxisJoinable, AxisJoined};
 ghost use Rattle.join_columns.specs.Books.{side_in};
 
-use crate::slots::{Column, MapsMut, copy_live};
-use adjacency::index;
-use plain::{NONE, TraversalDirection};
+use crate::slots::{Column, copy_live};
+use adjacency::index::count_offsets;
+use adjacency::rings::open_nodes;
+use plain::TraversalDirection;
 use shape::{Layout, Store};
 use survivors::lists::write_lists;
+use survivors::maps::MapsMut;
 use survivors::slots::translate;
 
 // A book that is joined, and the maps of its live slots.
@@ -48,7 +50,7 @@ fn copy_ends(book: &Book, direction: TraversalDirection, out: &mut [u32])
         live: book.store.live_edges,
     };
     copy_live(&ends, out);
-    translate(out, edge_slots.live as usize, book.node_map);
+    translate(&mut out[..edge_slots.live as usize], book.node_map);
 }
 
 // Writes the lists of the live nodes, one behind the other and put through the edge map, to the start of `out`.
@@ -57,7 +59,8 @@ fn write_entries(book: &Book, direction: TraversalDirection, out: &mut [u32])
     ensures { out.new ≡ written (side_entries (side_in direction book.now)) out.old }
 {
     write_lists(&book.store, direction, out);
-    translate(out, book.store.counts.edges.live as usize, book.edge_map);
+    let count = book.store.counts.edges.live as usize;
+    translate(&mut out[..count], book.edge_map);
 }
 
 // The ends of the first book's live edges, then those of the second's.
@@ -94,13 +97,7 @@ pub fn join_axis(
     let n = first.store.counts.nodes.live as usize + second.store.counts.nodes.live as usize;
     let m = first.store.counts.edges.live as usize + second.store.counts.edges.live as usize;
     join_ends(axis, direction, first, second);
-    index::count_offsets(axis, layout, n, m);
+    count_offsets(axis, layout, n, m);
     join_entries(&mut axis[layout.edge_capacity..], direction, first, second);
-    index::fill_words(axis, 4 * layout.edge_capacity, n, NONE);
-    index::fill_words(
-        axis,
-        4 * layout.edge_capacity + 4 * layout.node_capacity,
-        n,
-        0,
-    );
+    open_nodes(axis, layout, n);
 }

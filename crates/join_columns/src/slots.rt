@@ -1,13 +1,11 @@
-// Slots of two books, one book behind the other: the words of the live slots copied in slot order, and both maps of a book. All functions are internal.
+// Slots of two books, one book behind the other: the words of the live slots copied in slot order. All functions are internal.
 
 ghost use Rattle.std.specs.Prelude.{◌≡◌, ◌++◌};
 ghost use Rattle.plain.specs.Lists.{written};
-ghost use Rattle.join_columns.specs.Slots.{BothCopyable, Copyable, MapsFit, MapsWritten, SameMaps, live_words_in};
+ghost use Rattle.join_columns.specs.Slots.{BothCopyable, Copyable, live_words_in};
 
 use liveness::live_slots::LiveSlots;
 use plain::Slots;
-use shape::Store;
-use survivors::slots::write_map;
 
 // One word a slot of a book, and which of the slots are live.
 #[derive(Clone, Copy)]
@@ -15,13 +13,6 @@ pub struct Column<'a> {
     pub slots: Slots,
     pub words: &'a [u32],
     pub live: &'a [u64],
-}
-
-// The slices lent for the maps of a book: the new numbers of its nodes, and those of its edges.
-#[derive(Drop)]
-pub struct MapsMut<'a> {
-    pub nodes: &'a mut [u32],
-    pub edges: &'a mut [u32],
 }
 
 // Copies the words of the live slots, in slot order, to the start of `out`.
@@ -43,26 +34,4 @@ pub fn join_slots(out: &mut [u32], first: &Column, second: &Column)
     let count = first.slots.live as usize;
     copy_live(first, out);
     copy_live(second, &mut out[count..]);
-}
-
-// Both maps of a book, its live slots numbered from `first_node` and `first_edge` on.
-pub fn write_maps(book: &Store, first_node: u32, first_edge: u32, maps: &mut MapsMut)
-    requires { MapsFit book.now.counts book.now.live_nodes.now book.now.live_edges.now first_node first_edge maps.old.nodes.now maps.old.edges.now }
-    ensures written { MapsWritten book.now.counts book.now.live_nodes.now book.now.live_edges.now first_node first_edge
-        maps.old.nodes.now maps.old.edges.now maps.new.nodes.now maps.new.edges.now }
-    ensures same { SameMaps maps.old maps.new }
-{
-    let counts = book.counts;
-    write_map(
-        book.live_nodes,
-        counts.nodes.bound as usize,
-        first_node,
-        maps.nodes,
-    );
-    write_map(
-        book.live_edges,
-        counts.edges.bound as usize,
-        first_edge,
-        maps.edges,
-    );
 }

@@ -11,10 +11,10 @@ use Rattle.shape.specs.Checked.{Checked}
 use Rattle.shape.specs.Kept.{SameLengths}
 use Rattle.shape.specs.Shape.{Words, edge_capacity, edge_live, lengths_of, node_capacity, node_live, store}
 use Rattle.shape.specs.declared.StoreMut.{StoreMut}
+use Rattle.survivors.specs.Maps.{MapsWritten}
 use Rattle.survivors.specs.Slots.{live_words_of}
+use Rattle.survivors.specs.declared.maps.MapsMut.{MapsMut}
 use Rattle.join_columns.specs.Sides.{AxisJoined, side_of}
-use Rattle.join_columns.specs.Slots.{MapsWritten}
-use Rattle.join_columns.specs.declared.slots.MapsMut.{MapsMut}
 
 -- the counts of memory that is no store yet, and those beside a refusal
 abbrev pub no_counts : Counts

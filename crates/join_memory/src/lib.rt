@@ -3,14 +3,15 @@
 #![tactic(auto)]
 
 ghost use Rattle.shape.specs.Stores.{SameSlices, words, words_mut};
-ghost use Rattle.join_columns.specs.Slots.{SameMaps};
+ghost use Rattle.survivors.specs.Maps.{SameMaps};
 ghost use Rattle.join_memory.specs.Settling.{maps_of, cleared, Settleable, Settled};
 
 use join_columns::axis::{Book, join_axis};
-use join_columns::slots::{Column, MapsMut, join_slots, write_maps};
+use join_columns::slots::{Column, join_slots};
 use liveness::reset_all_live;
 use plain::{Counts, Slots, TraversalDirection};
 use shape::{Store, StoreMut};
+use survivors::maps::{MapsMut, write_maps};
 
 // Joins two checked books where there is room: first the maps, then both directions by them, then the payloads; every slot live and in the base.
 pub fn settle(

@@ -4,3 +4,4 @@ pub mod Turns
 pub mod Lists
 pub mod Working
 pub mod Left
+pub mod Fronts

@@ -4,4 +4,5 @@
 #![tactic(auto)]
 
 pub mod lists;
+pub mod maps;
 pub mod slots;

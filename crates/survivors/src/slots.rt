@@ -1,7 +1,7 @@
 // Slots under compaction: the map from old slots to new ones, the words of the live slots moved down, and words put through a map. Port of `surviving_slots`,
 // `take_live_nodes` and `remap_endpoint` of compact.rs. All functions are internal and work in place: there is no second column to move to.
 
-ghost use Rattle.std.specs.Prelude.{◌≡◌};
+ghost use Rattle.std.specs.Prelude.{◌≡◌, length};
 ghost use Rattle.plain.specs.Lists.{written};
 ghost use Rattle.plain.specs.Reads.{live_count};
 ghost use Rattle.plain.specs.Compaction.{renumbering_from};
@@ -20,13 +20,13 @@ pub fn write_map(live: &[u64], bound: usize, first: u32, map: &mut [u32])
     ensures { map.new ≡ written (renumbering_from first (live_flags live.now bound)) map.old }
 {
     let mut next: u32 = first;
-    for slot in 0..bound {
+    for (slot, word) in map[..bound].iter_mut().enumerate() {
         if is_live(live, bound, slot) {
-            map[slot] = next;
+            *word = next;
             next += 1;
         } else {
             // NONE, since the map's words go to C.
-            map[slot] = NONE;
+            *word = NONE;
         }
     }
 }
@@ -54,12 +54,12 @@ pub fn keep_weights(lows: &mut [u32], highs: &mut [u32], live: &[u64], bound: us
     keep_live(highs, live, bound, count);
 }
 
-// Puts the first words through a map: each becomes what the map holds at it.
-pub fn translate(words: &mut [u32], count: usize, map: &[u32])
-    requires { Translatable words.old count map.now }
-    ensures { Rewritten words.old words.new 0 count (translated_word words.old map.now) }
+// Puts words through a map: each becomes what the map holds at it.
+pub fn translate(words: &mut [u32], map: &[u32])
+    requires { Translatable words.old (length words.old) map.now }
+    ensures { Rewritten words.old words.new 0 (length words.old) (translated_word words.old map.now) }
 {
-    for i in 0..count {
-        words[i] = map[words[i] as usize];
+    for word in words.iter_mut() {
+        *word = map[*word as usize];
     }
 }

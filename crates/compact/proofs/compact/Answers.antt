@@ -1,6 +1,6 @@
 -- `compact::compact` meets its contract: the refusals, then the store.
 use Rattle.std.specs.Prelude.{Result}
-use Rattle.plain.specs.Library.{subst}
+use Rattle.plain.specs.Library.{subst, sym}
 use Rattle.plain.specs.declared.refusals.Rule.{Rule}
 use Rattle.plain.specs.Refusals.{rule_number, rule_of}
 use Rattle.plain.proofs.Laws.Exits.{refused_exit}
@@ -31,6 +31,9 @@ pub settle-requires : goal.settle-requires
 settle-requires c =
     compact_settleable (sound (goal.at.settle-requires c).In_ok-check_store) c.in_ok-check_lent.ensures
 
+-- the lent maps hold what was written to them
 pub returns-clause-compacted : goal.returns-clause-compacted
 returns-clause-compacted c =
-    compact_settled (sound (goal.at.returns-clause-compacted c).In_ok-check_store) c.in_ok-check_lent.ensures c.settle.ensures.settled
+    let same = c.settle.ensures.same_maps in
+    rw (c.node_map-2-1.given.1.1 (sym same.nodes), c.edge_map-2-1.given.1.1 (sym same.edges))
+    (compact_settled (sound (goal.at.returns-clause-compacted c).In_ok-check_store) c.in_ok-check_lent.ensures c.settle.ensures.settled)

@@ -1,6 +1,6 @@
 -- `image_read::read_axis` meets its contract: the ends, and the base on them.
 use Rattle.image_read.proofs.Directions.{base_readable, axis_read}
-use Rattle.image_read.proofs.Parts.{part_rewritten}
+use Rattle.adjacency.specs.Laws.Parts.{part_rewritten}
 use Rattle.image_read.proofs.read_axis.Goals.{After-read_fields}
 use Rattle.image_read.proofs.read_axis.Goals as goal
 

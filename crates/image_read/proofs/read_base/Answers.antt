@@ -2,7 +2,7 @@
 use Rattle.std.specs.Prelude.{◌+◌, ◌-◌, ◌≤◌, ◌≡◌, length}
 use Rattle.plain.specs.Library.{arith}
 use Rattle.image_read.proofs.Directions.{base_read}
-use Rattle.image_read.proofs.Parts.{part_rewritten_as}
+use Rattle.adjacency.specs.Laws.Parts.{part_rewritten_as}
 use Rattle.image_read.proofs.read_base.Goals as goal
 
 pub returns : goal.returns
@@ -13,4 +13,4 @@ returns c =
     let room : a.layout.edge_capacity + (all - a.layout.edge_capacity) ≤ length c.count_offsets.new.axis = omega (arith, c.count_offsets.ensures.long, c.requires.entries.room) in
     base_read c.requires c.count_offsets.ensures
     (part_rewritten_as c.count_offsets.new.axis a.layout.edge_capacity (all - a.layout.edge_capacity) room c.read_fields.ensures many)
-    c.fill_words.ensures c.fill_words-2.ensures
+    c.open_nodes.ensures.rings c.open_nodes.ensures.marks

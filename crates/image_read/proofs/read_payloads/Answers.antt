@@ -1,5 +1,5 @@
 -- `image_read::read_payloads` meets its contract.
-use Rattle.image_read.proofs.Parts.{part_rewritten}
+use Rattle.adjacency.specs.Laws.Parts.{part_rewritten}
 use Rattle.image_read.proofs.read_payloads.Goals as goal
 
 pub returns : goal.returns

@@ -1,5 +1,6 @@
 -- `image_read::read_weights` meets its contract: the places, and each weight.
-use Rattle.image_read.proofs.Parts.{part_fits, part_rewritten}
+use Rattle.adjacency.specs.Laws.Parts.{part_rewritten}
+use Rattle.image_read.proofs.Parts.{part_fits}
 use Rattle.image_read.proofs.read_weights.Goals as goal
 
 pub read_fields-requires : goal.read_fields-requires

@@ -38,7 +38,8 @@ use Rattle.survivors.proofs.Laws.Left.{highs_left, left_edges, left_nodes, left_
 use Rattle.survivors.proofs.Laws.Slots.{mapped_long, written_from, live_few, slots_there}
 use Rattle.join_memory.specs.Settling.{LentMaps, Settleable, Settled}
 use Rattle.join_columns.specs.Sides.{AxisJoinable, AxisJoined, Side, side_ends, side_entries, side_of}
-use Rattle.join_columns.specs.Slots.{BothCopyable, MapsFit, MapsWritten}
+use Rattle.survivors.specs.Maps.{MapsFit, MapsWritten}
+use Rattle.join_columns.specs.Slots.{BothCopyable}
 use Rattle.join_memory.specs.Laws.Books.{Mapped, book_ends, book_entries, edges_few, ends_readable, entries_readable, lists_in, nodes_few, slots_readable}
 use Rattle.join_columns.specs.Laws.Sides.{all_entries_long, compressible}
 

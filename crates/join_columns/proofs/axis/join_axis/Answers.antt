@@ -7,4 +7,4 @@ count_offsets-requires c = compressible c.requires c.join_ends.ensures
 
 pub returns : goal.returns
 returns c =
-    axis_joined c.requires c.join_ends.ensures c.count_offsets.ensures c.join_entries.ensures c.fill_words.ensures c.fill_words-2.ensures
+    axis_joined c.requires c.join_ends.ensures c.count_offsets.ensures c.join_entries.ensures c.open_nodes.ensures.rings c.open_nodes.ensures.marks

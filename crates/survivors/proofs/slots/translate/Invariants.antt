@@ -3,5 +3,5 @@ use Rattle.shape.specs.Index.{Rewritten}
 use Rattle.survivors.specs.Slots.{translated_word}
 use Rattle.survivors.proofs.slots.translate.Given as goal
 
-abbrev pub invariant-loop-i : goal.invariant-loop-i
-invariant-loop-i l = Rewritten l.initial.words l.words 0 l.i (translated_word l.initial.words l.map)
+abbrev pub invariant-loop-word : goal.invariant-loop-word
+invariant-loop-word l = Rewritten l.initial.words l.words 0 l.word-index (translated_word l.initial.words l.map)

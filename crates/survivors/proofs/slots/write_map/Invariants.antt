@@ -9,4 +9,4 @@ use Rattle.survivors.proofs.slots.write_map.Given as goal
 
 abbrev pub invariant-loop-slot : goal.invariant-loop-slot
 invariant-loop-slot l =
-    Passed l.live l.bound l.first l.slot l.next × Rewritten l.initial.map l.map 0 l.slot (lookup (renumbering_from l.first (live_flags l.live l.bound)))
+    Passed l.live l.bound l.first l.slot l.next × Rewritten l.initial.word-items l.word-items 0 l.slot (lookup (renumbering_from l.first (live_flags l.live l.bound)))
