@@ -14,7 +14,7 @@ use adjacency::walk;
 use cursor::edges::AdjacentEdges;
 use liveness::is_live;
 use marks::mark;
-use shape::Layout;
+use shape::{Incidence, Layout};
 
 // An edge of a walk ends at the node, by the column `ends`, and is not marked yet. Marks it.
 fn pass(ends: &[u32], node: u32, edge: u32, seen: &mut [u64]) -> bool
@@ -92,17 +92,21 @@ pub fn live_marked(words: &[u64], seen: &[u64], slots: usize) -> bool
 }
 
 // Rule 7: the walks of all nodes list each live edge once, at its end, and nothing else.
-pub fn walks_right(axis: &[u32], layout: Layout, live_nodes: &[u64], live_edges: &[u64]) -> bool
-    requires { WalksReadable axis.now layout.edge_capacity layout.node_capacity layout.counts live_nodes.now live_edges.now }
-    ensures { result ≡ walks_test axis.now layout.edge_capacity layout.node_capacity layout.counts live_nodes.now live_edges.now }
+pub fn walks_right(side: &Incidence) -> bool
+    requires { WalksReadable side.now.axis.now side.now.layout.edge_capacity side.now.layout.node_capacity side.now.layout.counts side.now.live_nodes.now side.now.live_edges.now }
+    ensures { result ≡ walks_test side.now.axis.now side.now.layout.edge_capacity side.now.layout.node_capacity side.now.layout.counts side.now.live_nodes.now side.now.live_edges.now }
 {
-    let node_bound = layout.counts.nodes.bound;
+    let node_bound = side.layout.counts.nodes.bound;
     let mut seen = [0u64; 512];
     for x in 0..node_bound {
-        let live = is_live(live_nodes, node_bound as usize, x as usize);
-        if !walk_right(axis, layout, live_edges, x, live, &mut seen) {
+        let live = is_live(side.live_nodes, node_bound as usize, x as usize);
+        if !walk_right(side.axis, side.layout, side.live_edges, x, live, &mut seen) {
             return false;
         }
     }
-    live_marked(live_edges, &seen, layout.counts.edges.bound as usize)
+    live_marked(
+        side.live_edges,
+        &seen,
+        side.layout.counts.edges.bound as usize,
+    )
 }
