@@ -62,17 +62,16 @@ fn marked_if_live(words: &[u64], seen: &[u64], slots: usize, slot: usize) -> boo
     !is_live(words, slots, slot) || is_live(seen, slots, slot)
 }
 
-// Whether the bits of the first words of one map are set in those of another; only the yes is promised.
-fn words_within(words: &[u64], seen: &[u64], count: usize) -> bool
-    requires { (count ≤ length words.now) × (count ≤ length seen.now) }
-    ensures { result ≡ true → (i : ℕ) → i < count → Within (get_or words.now i 0) (get_or seen.now i 0) }
+// Whether the bits of the words of one map are set in those of another; only the yes is promised.
+#[tactic(auto, using(crate::proofs::Within::within_and))]
+fn words_within(words: &[u64], seen: &[u64]) -> bool
+    requires { length words.now ≡ length seen.now }
+    ensures { result ≡ true → (i : ℕ) → i < length words.now → Within (get_or words.now i 0) (get_or seen.now i 0) }
 {
-    for i in 0..count {
-        if words[i] & seen[i] != words[i] {
-            return false;
-        }
-    }
-    true
+    words
+        .iter()
+        .zip(seen)
+        .all(|(word, marks)| word & marks == *word)
 }
 
 // Every live slot is marked. In a store that passes a word of live bits is within its word of marks; only where one is not is each slot looked at.
@@ -80,9 +79,11 @@ pub fn live_marked(words: &[u64], seen: &[u64], slots: usize) -> bool
     requires { (slots ≤ 64 * length words.now) × (slots ≤ 64 * length seen.now) }
     ensures { result ≡ all (marked_if_live (live_flags words.now slots) (live_flags seen.now slots)) (from 0 slots) }
 {
-    if words_within(words, seen, slots.div_ceil(64)) {
+    let count = slots.div_ceil(64);
+    if words_within(&words[..count], &seen[..count]) {
         return true;
     }
+    // No `all` over the range, for the reason at validate_words::rings::rings_right.
     for e in 0..slots {
         if !marked_if_live(words, seen, slots, e) {
             return false;
@@ -98,6 +99,7 @@ pub fn walks_right(side: &Incidence) -> bool
 {
     let node_bound = side.layout.counts.nodes.bound;
     let mut seen = [0u64; 512];
+    // Nor here, for the reason at runs::runs_once.
     for x in 0..node_bound {
         let live = is_live(side.live_nodes, node_bound as usize, x as usize);
         if !walk_right(side.axis, side.layout, side.live_edges, x, live, &mut seen) {
