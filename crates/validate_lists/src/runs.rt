@@ -12,7 +12,7 @@ ghost use Rattle.marks.specs.Marks.{Passed, Followed, Adds};
 ghost use Rattle.validate_lists.specs.Runs.{entry_test, run_test, ends_in, PassReadable, ChainReadable, RunReadable, RunsReadable, MapClear, taken, NodeOnce, RunsOnce};
 
 use liveness::is_live;
-use marks::mark;
+use marks::{WORDS, mark};
 use plain::NONE;
 use shape::Incidence;
 
@@ -163,7 +163,7 @@ pub fn runs_right(side: &Incidence) -> bool
     ensures { result ≡ runs_test side.now.layout.edge_capacity side.now.layout.node_capacity side.now.layout.counts (live_flags side.now.live_nodes.now side.now.layout.counts.nodes.bound) (live_flags side.now.live_edges.now side.now.layout.counts.edges.bound) side.now.axis.now }
 {
     let node_bound = side.layout.counts.nodes.bound as usize;
-    let mut seen = [0u64; 512];
+    let mut seen = [0u64; WORDS];
     for x in 0..node_bound {
         let live = is_live(side.live_nodes, node_bound, x);
         if !node_right(side, x, live, &mut seen) {

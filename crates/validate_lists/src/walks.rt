@@ -13,7 +13,7 @@ ghost use Rattle.validate_lists.specs.Walks.{ListReadable, WalkReadable, WalksRe
 use adjacency::walk;
 use cursor::edges::AdjacentEdges;
 use liveness::is_live;
-use marks::mark;
+use marks::{WORDS, mark};
 use shape::{Incidence, Layout};
 
 // An edge of a walk ends at the node, by the column `ends`, and is not marked yet. Marks it.
@@ -98,7 +98,7 @@ pub fn walks_right(side: &Incidence) -> bool
     ensures { result ≡ walks_test side.now.axis.now side.now.layout.edge_capacity side.now.layout.node_capacity side.now.layout.counts side.now.live_nodes.now side.now.live_edges.now }
 {
     let node_bound = side.layout.counts.nodes.bound;
-    let mut seen = [0u64; 512];
+    let mut seen = [0u64; WORDS];
     // Nor here, for the reason at runs::runs_once.
     for x in 0..node_bound {
         let live = is_live(side.live_nodes, node_bound as usize, x as usize);
