@@ -40,7 +40,7 @@ fn entry_placed(axis: &[u32], layout: Layout, i: u32, edge: u32) -> bool
     axis[at] <= i && i < axis[at + 1]
 }
 
-// How many entries the compressed index has in the parts of nodes that have no run. No branch on what the marks hold, so that it is a pass over vectors.
+// How many entries the compressed index has in the parts of nodes that have no run. No early exit and no branch on a mark, so that it is a pass over the words.
 fn count_places(axis: &[u32], layout: Layout) -> u32
     requires { CountReadable axis.now layout.edge_capacity layout.node_capacity layout.counts.nodes.base }
     ensures { result ≡ length (places axis.now layout.edge_capacity layout.node_capacity layout.counts.nodes.base) }
@@ -114,7 +114,7 @@ fn end_live(axis: &[u32], live_nodes: &[u64], live_edges: &[u64], edge: usize) -
     of_edge <= of_node
 }
 
-// Whether the end of every live edge is live, with no early exit, so that nothing is guessed of the words from edge to edge; only the yes is promised.
+// Whether the end of every live edge is live, with no early exit, so that it is a pass over the words; only the yes is promised.
 fn ends_live(side: &Incidence) -> bool
     requires { ListsReadable side.now.axis.now side.now.layout.edge_capacity side.now.layout.node_capacity side.now.layout.counts side.now.live_nodes.now side.now.live_edges.now }
     ensures { result ≡ true → (e : ℕ) → e < side.now.layout.counts.edges.bound → get_or (live_flags side.now.live_edges.now side.now.layout.counts.edges.bound) e false ≡ true → get_or (live_flags side.now.live_nodes.now side.now.layout.counts.nodes.bound) (end_at side.now.axis.now e) false ≡ true }
