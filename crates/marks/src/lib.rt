@@ -5,6 +5,9 @@
 ghost use Rattle.std.specs.Prelude.{◌*◌, ◌<◌, length};
 ghost use Rattle.marks.specs.Marks.{Marked};
 
+// How many words a map of all edges has: a bit for each of plain::LIMIT.
+pub const WORDS: usize = 512;
+
 // Marks an edge, and answers whether it was not marked.
 pub fn mark(seen: &mut [u64], edge: usize) -> bool
     requires { edge < 64 * length seen.old }

@@ -11,15 +11,15 @@ ghost use Rattle.validate_words.specs.Climbs.{Linked, LinkReadable};
 ghost use Rattle.validate_lists.specs.Walks.{walks_test};
 ghost use Rattle.validate.specs.Flat.{at_base, base_entries, delta_links, places, PlaceReadable, EntryPlaced, CountReadable, BaseFlat, DeltaFlat, ListsOnce, FlatReadable, ListsReadable};
 
-use marks::mark;
-use shape::Layout;
+use marks::{WORDS, mark};
+use shape::{Incidence, Layout};
 use validate_lists::runs::runs_once;
 use validate_lists::walks::live_marked;
-use validate_words::axes::words_below;
+use validate_words::axes::no_runs;
 use validate_words::rings::{edge_linked, pick};
 
-// Whether a node has a run; where none has, `runless` says so, and its mark is not read. That is what the axis has been seen to hold, and picks no step: an Option of the
-// marks in its place would be no plainer, since each contract here would still speak of the axis beside it.
+// Whether a node has a run; where none has, `runless` says so, told once for the axis: then no mark is read, no run followed and no place counted. An Option of the marks in
+// its place would be no plainer, since each contract here would still speak of the axis beside it.
 fn has_run(axis: &[u32], layout: Layout, runless: bool, node: usize) -> bool
     requires { Sized axis.now layout.edge_capacity layout.node_capacity × (node < layout.node_capacity) × (runless ≡ true → mark_at axis.now layout.edge_capacity layout.node_capacity node ≡ 0) }
     ensures { result ≡ not (eqb (mark_at axis.now layout.edge_capacity layout.node_capacity node) 0) }
@@ -40,7 +40,7 @@ fn entry_placed(axis: &[u32], layout: Layout, i: u32, edge: u32) -> bool
     axis[at] <= i && i < axis[at + 1]
 }
 
-// How many entries the compressed index has in the parts of nodes that have no run.
+// How many entries the compressed index has in the parts of nodes that have no run. No early exit and no branch on a mark, so that it is a pass over the words.
 fn count_places(axis: &[u32], layout: Layout) -> u32
     requires { CountReadable axis.now layout.edge_capacity layout.node_capacity layout.counts.nodes.base }
     ensures { result ≡ length (places axis.now layout.edge_capacity layout.node_capacity layout.counts.nodes.base) }
@@ -114,55 +114,44 @@ fn end_live(axis: &[u32], live_nodes: &[u64], live_edges: &[u64], edge: usize) -
     of_edge <= of_node
 }
 
-// Whether the end of every live edge is live, with no early exit; only the yes is promised.
-fn ends_live(axis: &[u32], layout: Layout, live_nodes: &[u64], live_edges: &[u64]) -> bool
-    requires { ListsReadable axis.now layout.edge_capacity layout.node_capacity layout.counts live_nodes.now live_edges.now }
-    ensures { result ≡ true → (e : ℕ) → e < layout.counts.edges.bound → get_or (live_flags live_edges.now layout.counts.edges.bound) e false ≡ true → get_or (live_flags live_nodes.now layout.counts.nodes.bound) (end_at axis.now e) false ≡ true }
+// Whether the end of every live edge is live, with no early exit, so that it is a pass over the words; only the yes is promised.
+fn ends_live(side: &Incidence) -> bool
+    requires { ListsReadable side.now.axis.now side.now.layout.edge_capacity side.now.layout.node_capacity side.now.layout.counts side.now.live_nodes.now side.now.live_edges.now }
+    ensures { result ≡ true → (e : ℕ) → e < side.now.layout.counts.edges.bound → get_or (live_flags side.now.live_edges.now side.now.layout.counts.edges.bound) e false ≡ true → get_or (live_flags side.now.live_nodes.now side.now.layout.counts.nodes.bound) (end_at side.now.axis.now e) false ≡ true }
 {
-    let bound = layout.counts.edges.bound as usize;
-    if layout.counts.nodes.live == layout.counts.nodes.bound {
+    let bound = side.layout.counts.edges.bound as usize;
+    if side.layout.counts.nodes.live == side.layout.counts.nodes.bound {
         return true;
     }
     let mut right = true;
     for e in 0..bound {
-        right &= end_live(axis, live_nodes, live_edges, e);
+        right &= end_live(side.axis, side.live_nodes, side.live_edges, e);
     }
     right
 }
 
 // The three passes, on a clear map; only the yes is promised.
-fn lists_once(
-    axis: &[u32],
-    layout: Layout,
-    live_nodes: &[u64],
-    live_edges: &[u64],
-    runless: bool,
-    seen: &mut [u64],
-) -> bool
-    requires { ListsReadable axis.now layout.edge_capacity layout.node_capacity layout.counts live_nodes.now live_edges.now × FlatReadable axis.now layout.edge_capacity layout.node_capacity layout.counts runless seen.old × ((e : ℕ) → marked seen.old e ≡ false) }
-    ensures { result ≡ true → ListsOnce axis.now layout.edge_capacity layout.node_capacity layout.counts seen.new }
+fn lists_once(side: &Incidence, runless: bool, seen: &mut [u64]) -> bool
+    requires { ListsReadable side.now.axis.now side.now.layout.edge_capacity side.now.layout.node_capacity side.now.layout.counts side.now.live_nodes.now side.now.live_edges.now × FlatReadable side.now.axis.now side.now.layout.edge_capacity side.now.layout.node_capacity side.now.layout.counts runless seen.old × ((e : ℕ) → marked seen.old e ≡ false) }
+    ensures { result ≡ true → ListsOnce side.now.axis.now side.now.layout.edge_capacity side.now.layout.node_capacity side.now.layout.counts seen.new }
 {
-    if !runless && !runs_once(axis, layout, live_nodes, live_edges, seen) {
+    if !runless && !runs_once(side, seen) {
         return false;
     }
-    base_flat(axis, layout, runless, seen) && delta_flat(axis, layout, runless, seen)
+    base_flat(side.axis, side.layout, runless, seen)
+        && delta_flat(side.axis, side.layout, runless, seen)
 }
 
 // Whether the lists of one direction are quickly seen to be right, by rule 6 and by rule 7; only the yes is promised.
-pub fn lists_flat(axis: &[u32], layout: Layout, live_nodes: &[u64], live_edges: &[u64]) -> bool
-    requires { ListsReadable axis.now layout.edge_capacity layout.node_capacity layout.counts live_nodes.now live_edges.now }
-    ensures { result ≡ true → (runs_test layout.edge_capacity layout.node_capacity layout.counts (live_flags live_nodes.now layout.counts.nodes.bound) (live_flags live_edges.now layout.counts.edges.bound) axis.now ≡ true) × (walks_test axis.now layout.edge_capacity layout.node_capacity layout.counts live_nodes.now live_edges.now ≡ true) }
+pub fn lists_flat(side: &Incidence) -> bool
+    requires { ListsReadable side.now.axis.now side.now.layout.edge_capacity side.now.layout.node_capacity side.now.layout.counts side.now.live_nodes.now side.now.live_edges.now }
+    ensures { result ≡ true → (runs_test side.now.layout.edge_capacity side.now.layout.node_capacity side.now.layout.counts (live_flags side.now.live_nodes.now side.now.layout.counts.nodes.bound) (live_flags side.now.live_edges.now side.now.layout.counts.edges.bound) side.now.axis.now ≡ true) × (walks_test side.now.axis.now side.now.layout.edge_capacity side.now.layout.node_capacity side.now.layout.counts side.now.live_nodes.now side.now.live_edges.now ≡ true) }
 {
-    let slots = layout.counts.edges.bound as usize;
-    let runless = words_below(
-        axis,
-        4 * layout.edge_capacity + 4 * layout.node_capacity,
-        layout.counts.nodes.bound as usize,
-        1,
-    );
-    let mut seen = [0u64; 512];
-    if !lists_once(axis, layout, live_nodes, live_edges, runless, &mut seen) {
+    let slots = side.layout.counts.edges.bound as usize;
+    let runless = no_runs(side.axis, side.layout);
+    let mut seen = [0u64; WORDS];
+    if !lists_once(side, runless, &mut seen) {
         return false;
     }
-    ends_live(axis, layout, live_nodes, live_edges) && live_marked(live_edges, &seen, slots)
+    ends_live(side) && live_marked(side.live_edges, &seen, slots)
 }

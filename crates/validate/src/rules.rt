@@ -60,16 +60,11 @@ pub fn lists_seen(store: &Store, direction: TraversalDirection) -> bool
     requires { Threaded (words store.now) }
     ensures { result ≡ true → (runs_of (words store.now) direction ≡ true) × (rule_6 (words store.now) ≡ true → walks_of (words store.now) direction ≡ true) }
 {
-    lists_flat(
-        store.axis(direction),
-        store.layout(),
-        store.live_nodes,
-        store.live_edges,
-    )
+    lists_flat(&store.incidence(direction))
 }
 
-// Rule 6: the runs of both directions. Those of a direction whose lists have been seen to be right are not followed: `out` and `back` are what `lists_seen` has told of each,
-// and a type of both would be no plainer.
+// Rule 6: the runs of both directions. Those of a direction whose lists have been seen to be right are not followed: `out` and `back` are what lists_seen has told of each
+// direction: two answers, each asked for once here and once in walks_right, so that a type of both would be made and taken apart in one place.
 #[tactic(auto, unfolding(shape::specs::Rules::rule_6))]
 pub fn runs_right(store: &Store, out: bool, back: bool) -> bool
     requires r1 { rule_1 (words store.now) ≡ true }
@@ -77,11 +72,8 @@ pub fn runs_right(store: &Store, out: bool, back: bool) -> bool
     requires back_seen { back ≡ true → runs_of (words store.now) Incoming ≡ true }
     ensures { result ≡ rule_6 (words store.now) }
 {
-    let layout = store.layout();
-    let live_nodes = store.live_nodes;
-    let live_edges = store.live_edges;
-    (out || runs::runs_right(store.outgoing, layout, live_nodes, live_edges))
-        && (back || runs::runs_right(store.incoming, layout, live_nodes, live_edges))
+    (out || runs::runs_right(&store.incidence(TraversalDirection::Outgoing)))
+        && (back || runs::runs_right(&store.incidence(TraversalDirection::Incoming)))
 }
 
 // Rule 7: the walks of both directions, likewise.
@@ -92,9 +84,6 @@ pub fn walks_right(store: &Store, out: bool, back: bool) -> bool
     requires back_seen { back ≡ true → walks_of (words store.now) Incoming ≡ true }
     ensures { result ≡ rule_7 (words store.now) }
 {
-    let layout = store.layout();
-    let live_nodes = store.live_nodes;
-    let live_edges = store.live_edges;
-    (out || walks::walks_right(store.outgoing, layout, live_nodes, live_edges))
-        && (back || walks::walks_right(store.incoming, layout, live_nodes, live_edges))
+    (out || walks::walks_right(&store.incidence(TraversalDirection::Outgoing)))
+        && (back || walks::walks_right(&store.incidence(TraversalDirection::Incoming)))
 }

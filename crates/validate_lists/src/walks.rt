@@ -13,8 +13,8 @@ ghost use Rattle.validate_lists.specs.Walks.{ListReadable, WalkReadable, WalksRe
 use adjacency::walk;
 use cursor::edges::AdjacentEdges;
 use liveness::is_live;
-use marks::mark;
-use shape::Layout;
+use marks::{WORDS, mark};
+use shape::{Incidence, Layout};
 
 // An edge of a walk ends at the node, by the column `ends`, and is not marked yet. Marks it.
 fn pass(ends: &[u32], node: u32, edge: u32, seen: &mut [u64]) -> bool
@@ -62,17 +62,16 @@ fn marked_if_live(words: &[u64], seen: &[u64], slots: usize, slot: usize) -> boo
     !is_live(words, slots, slot) || is_live(seen, slots, slot)
 }
 
-// Whether the bits of the first words of one map are set in those of another; only the yes is promised.
-fn words_within(words: &[u64], seen: &[u64], count: usize) -> bool
-    requires { (count ≤ length words.now) × (count ≤ length seen.now) }
-    ensures { result ≡ true → (i : ℕ) → i < count → Within (get_or words.now i 0) (get_or seen.now i 0) }
+// Whether the bits of the words of one map are set in those of another; only the yes is promised.
+#[tactic(auto, using(crate::proofs::Within::within_and))]
+fn words_within(words: &[u64], seen: &[u64]) -> bool
+    requires { length words.now ≡ length seen.now }
+    ensures { result ≡ true → (i : ℕ) → i < length words.now → Within (get_or words.now i 0) (get_or seen.now i 0) }
 {
-    for i in 0..count {
-        if words[i] & seen[i] != words[i] {
-            return false;
-        }
-    }
-    true
+    words
+        .iter()
+        .zip(seen)
+        .all(|(word, marks)| word & marks == *word)
 }
 
 // Every live slot is marked. In a store that passes a word of live bits is within its word of marks; only where one is not is each slot looked at.
@@ -80,9 +79,11 @@ pub fn live_marked(words: &[u64], seen: &[u64], slots: usize) -> bool
     requires { (slots ≤ 64 * length words.now) × (slots ≤ 64 * length seen.now) }
     ensures { result ≡ all (marked_if_live (live_flags words.now slots) (live_flags seen.now slots)) (from 0 slots) }
 {
-    if words_within(words, seen, slots.div_ceil(64)) {
+    let count = slots.div_ceil(64);
+    if words_within(&words[..count], &seen[..count]) {
         return true;
     }
+    // No `all` over the range, for the reason at validate_words::rings::rings_right.
     for e in 0..slots {
         if !marked_if_live(words, seen, slots, e) {
             return false;
@@ -92,17 +93,22 @@ pub fn live_marked(words: &[u64], seen: &[u64], slots: usize) -> bool
 }
 
 // Rule 7: the walks of all nodes list each live edge once, at its end, and nothing else.
-pub fn walks_right(axis: &[u32], layout: Layout, live_nodes: &[u64], live_edges: &[u64]) -> bool
-    requires { WalksReadable axis.now layout.edge_capacity layout.node_capacity layout.counts live_nodes.now live_edges.now }
-    ensures { result ≡ walks_test axis.now layout.edge_capacity layout.node_capacity layout.counts live_nodes.now live_edges.now }
+pub fn walks_right(side: &Incidence) -> bool
+    requires { WalksReadable side.now.axis.now side.now.layout.edge_capacity side.now.layout.node_capacity side.now.layout.counts side.now.live_nodes.now side.now.live_edges.now }
+    ensures { result ≡ walks_test side.now.axis.now side.now.layout.edge_capacity side.now.layout.node_capacity side.now.layout.counts side.now.live_nodes.now side.now.live_edges.now }
 {
-    let node_bound = layout.counts.nodes.bound;
-    let mut seen = [0u64; 512];
+    let node_bound = side.layout.counts.nodes.bound;
+    let mut seen = [0u64; WORDS];
+    // Nor here, for the reason at runs::runs_once.
     for x in 0..node_bound {
-        let live = is_live(live_nodes, node_bound as usize, x as usize);
-        if !walk_right(axis, layout, live_edges, x, live, &mut seen) {
+        let live = is_live(side.live_nodes, node_bound as usize, x as usize);
+        if !walk_right(side.axis, side.layout, side.live_edges, x, live, &mut seen) {
             return false;
         }
     }
-    live_marked(live_edges, &seen, layout.counts.edges.bound as usize)
+    live_marked(
+        side.live_edges,
+        &seen,
+        side.layout.counts.edges.bound as usize,
+    )
 }

@@ -1,5 +1,6 @@
 -- Rings that climb: a step past an edge, the edges one after the other, and that every ring closes where all climb and as many are a last as there are rings.
-use Rattle.std.specs.Prelude.{ℕ, zero, suc, ◌+◌, ◌-◌, ◌*◌, ◌≤◌, ◌<◌, ◌≡◌, Bool, true, cond, ◌&&◌, not, List, map, length, eqb, ltb, leb}
+use Rattle.std.specs.Prelude.{ℕ, zero, suc, ◌+◌, ◌-◌, ◌*◌, ◌≤◌, ◌<◌, ◌≡◌, refl, Bool, true, false, cond, ◌&&◌, not, List, map, length, eqb, ltb, leb}
+use mir.Val.{bool_byte}
 use Rattle.plain.specs.Library.{sym, ap, subst, ◌∙◌, ⊎_elim, length-map, arith, eq-eqb, ne_eqb, eqb-true, eqb-false, lt-ltb, le-leb, ltb-true, leb-true}
 use Rattle.plain.specs.Numbers.{NONE, LIMIT}
 use Rattle.plain.specs.Lists.{member, distinct, all, from, keep, count}
@@ -13,12 +14,13 @@ use Rattle.validate_words.specs.Rings.{own_test}
 use Rattle.validate_words.specs.Climbs.{Picked, is_last, some_at, Linked, Climbs}
 use Rattle.validate_words.proofs.Ringing.{closes, closes_last, closes_more, ring_none, ring_some}
 
--- what `pick` answers of a word that may be NONE
-pub pick_some : {w r : ℕ} → Picked w NONE 0 1 r → r ≡ cond (not (eqb w NONE)) 1 0
-pick_some {w} p = by_test (eqb w NONE) (λ t. rw t (rw t at p.is)) (λ t. rw t (rw t at p.is))
+-- a truth as a number
+pub byte_is : (b : Bool) → bool_byte b ≡ cond b 1 0
+byte_is true = refl
+byte_is false = refl
 
-pub pick_few : {a b r : ℕ} → Picked a b 0 1 r → r ≤ 1
-pick_few {a} {b} {r} p = by_test (eqb a b) (λ t. let q : r ≡ 0 = rw t at p.is in omega arith) (λ t. let q : r ≡ 1 = rw t at p.is in omega arith)
+pub byte_few : (b : Bool) → bool_byte b ≤ 1
+byte_few b = by_test b (λ t. rw (byte_is b, t) (omega arith)) (λ t. rw (byte_is b, t) (omega arith))
 
 -- what a link is by the four tests
 pub link_tested : {ws : List ℕ} {ce be eb e reach : ℕ} → be ≤ next_at ws ce e → next_at ws ce e < eb → end_at ws (next_at ws ce e) ≡ end_at ws e

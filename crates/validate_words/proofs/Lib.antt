@@ -1,2 +1,3 @@
 pub mod Ringing
 pub mod Climbing
+pub mod Paired

@@ -2,7 +2,8 @@
 // rings that pass cost a step an edge together, and the first that does not ends the check. Rings that climb, as all do that edges are only added to, are not
 // followed: one pass over the edges of the delta in their order tells that they close.
 
-ghost use Rattle.std.specs.Prelude.{◌+◌, ◌≤◌, ◌<◌, ◌≡◌, true, cond, length};
+ghost use Rattle.std.specs.Prelude.{◌+◌, ◌^◌, ◌≤◌, ◌<◌, ◌≡◌, true, cond, not, length, get_or, eqb};
+ghost use Rattle.plain.specs.Numbers.{NONE};
 ghost use Rattle.plain.specs.Lists.{all, from, count as count_of};
 ghost use Rattle.shape.specs.Rules.{ring_right as ring_test};
 ghost use Rattle.validate_words.specs.Sizes.{AxisSized};
@@ -28,6 +29,7 @@ fn ring_right(axis: &[u32], layout: Layout, node: u32) -> bool
 {
     let base = layout.counts.edges.base;
     let bound = layout.counts.edges.bound;
+    // Not by adjacency::rings::ring_ends, which asks that the last be an edge: that is what is tested here.
     let last = axis[4 * layout.edge_capacity + node as usize];
     if last == NONE {
         return true;
@@ -88,17 +90,17 @@ fn rings_ended(axis: &[u32], layout: Layout, edge: u32) -> u32
     ensures { result ≡ cond (is_last axis.now layout.edge_capacity edge) 1 0 }
 {
     let node = axis[edge as usize];
-    pick(axis[4 * layout.edge_capacity + node as usize], edge, 1, 0)
+    u32::from(axis[4 * layout.edge_capacity + node as usize] == edge)
 }
 
-// How many nodes have a ring: the words of a column, `count` of them from `at` on, that are not NONE.
-fn ring_count(axis: &[u32], at: usize, count: u32) -> u32
-    requires { at + count ≤ length axis.now }
-    ensures { result ≡ count_of (some_at axis.now at) (from 0 count) }
+// How many words are not NONE: of the column of last edges, how many nodes have a ring. No early exit, so that it is a pass over vectors.
+fn ring_count(lasts: &[u32]) -> u32
+    requires { length lasts.now < 2 ^ 32 }
+    ensures { result ≡ count_of (λ x. not (eqb (get_or lasts.now x 0) NONE)) (from 0 (length lasts.now)) }
 {
     let mut rings = 0;
-    for word in &axis[at..at + count as usize] {
-        rings += pick(*word, NONE, 0, 1);
+    for last in lasts {
+        rings += u32::from(*last != NONE);
     }
     rings
 }
@@ -118,7 +120,8 @@ fn rings_climb(axis: &[u32], layout: Layout) -> bool
         }
         lasts += rings_ended(axis, layout, e);
     }
-    ring_count(axis, 4 * layout.edge_capacity, ends) == lasts
+    let last_edges = 4 * layout.edge_capacity;
+    ring_count(&axis[last_edges..last_edges + ends as usize]) == lasts
 }
 
 // Rule 5: the rings of all nodes, removed or not.
@@ -126,13 +129,11 @@ pub fn rings_right(axis: &[u32], layout: Layout) -> bool
     requires { AxisSized axis.now layout.edge_capacity layout.node_capacity layout.counts }
     ensures { result ≡ all (ring_test layout.edge_capacity layout.counts.edges.base layout.counts.edges.bound axis.now) (from 0 layout.counts.nodes.bound) }
 {
-    let base = layout.counts.edges.base;
-    let bound = layout.counts.edges.bound;
-    let node_bound = layout.counts.nodes.bound;
     if rings_climb(axis, layout) {
         return true;
     }
-    for x in 0..node_bound {
+    // No `all` over the range: tried, and the proof did not close, since of a range no clause tells that a yes has asked of every node.
+    for x in 0..layout.counts.nodes.bound {
         if !ring_right(axis, layout, x) {
             return false;
         }

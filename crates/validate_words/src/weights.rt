@@ -11,5 +11,5 @@ pub fn weights_right(lows: &[u32], highs: &[u32], bound: usize) -> bool
     requires { (bound ≤ length lows.now) × (bound ≤ length highs.now) }
     ensures { result ≡ weights_test bound lows.now highs.now }
 {
-    none_above(lows, highs, bound)
+    none_above(&lows[..bound], &highs[..bound])
 }

@@ -88,6 +88,40 @@ module _ (f g : ℕ → Bool) where
   pub slots_agree : (n : ℕ) → ((e : ℕ) → e < n → f e ≡ g e) → all f (from 0 n) ≡ all g (from 0 n)
   slots_agree n same = entries_agree (from 0 n) (λ e m. same e (ltb-true e n (sym (member_below e n) ∙ m)))
 
+counts_agree : (f g : ℕ → Bool) (a n : ℕ) → ((i : ℕ) → i < a + n → f i ≡ g i) → count f (from a n) ≡ count g (from a n)
+unfolding count from
+counts_agree f g a zero same = refl
+counts_agree f g a (suc n) same = rw (same a (omega arith), counts_agree f g (suc a) n (λ i l. same i (omega (arith, l)))) refl
+
+-- a part of a slice, n words from one on, by the words of the slice
+module _ (ws : List ℕ) (at n : ℕ) (there : at + n ≤ length ws) where
+  -- what a range from one on and up to another takes
+  abbrev part : List ℕ
+  part = take (at + n - at) (drop at ws)
+
+  pub part_long : length part ≡ n
+  part_long = grind (arith, common_steps)
+
+  pub part_at : (i : ℕ) → i < n → get_or part i 0 ≡ get_or ws (at + i) 0
+  part_at i l = part_word ws at (at + n - at) i (omega (arith, part_long, l))
+
+  pub part_all : (test : ℕ → Bool) → all (λ i. test (get_or part i 0)) (from 0 (length part)) ≡ all (λ i. test (get_or ws (at + i) 0)) (from 0 n)
+  part_all test = rw part_long (slots_agree (λ i. test (get_or part i 0)) (λ i. test (get_or ws (at + i) 0)) n (λ i l. ap test (part_at i l)))
+
+  pub part_count : (test : ℕ → Bool) → count (λ i. test (get_or part i 0)) (from 0 (length part)) ≡ count (λ i. test (get_or ws (at + i) 0)) (from 0 n)
+  part_count test = rw part_long (counts_agree (λ i. test (get_or part i 0)) (λ i. test (get_or ws (at + i) 0)) 0 n (λ i l. ap test (part_at i (omega (arith, l)))))
+
+-- its first n words
+module _ (ws : List ℕ) (n : ℕ) (there : n ≤ length ws) where
+  pub front_long : length (take n ws) ≡ n
+  front_long = grind (arith, common_steps)
+
+  pub front_at : (i : ℕ) → i < n → get_or (take n ws) i 0 ≡ get_or ws i 0
+  front_at i l = grind (arith, common_steps)
+
+  pub front_all : (test : ℕ → Bool) → all (λ i. test (get_or (take n ws) i 0)) (from 0 (length (take n ws))) ≡ all (λ i. test (get_or ws i 0)) (from 0 n)
+  front_all test = rw front_long (slots_agree (λ i. test (get_or (take n ws) i 0)) (λ i. test (get_or ws i 0)) n (λ i l. ap test (front_at i l)))
+
 -- slots that pass a test are counted, one after the other: those from i on are still to be
 module _ (test : ℕ → Bool) where
   -- Of the slots below n so many of those before i pass, and so many in all.

@@ -6,8 +6,8 @@ use Rattle.liveness.specs.Laws.Flags.{flag_at}
 use Rattle.validate.proofs.Listing.{all_live}
 use Rattle.validate.proofs.flat.ends_live.Goals as goal
 
-pub returns-then-layout : goal.returns-then-layout
-returns-then-layout c = λ _ e l _. all_live c.args.layout.counts c.requires.live c.if-layout.true _ (c.requires.ends_below e l)
+pub returns-then-side : goal.returns-then-side
+returns-then-side c = λ _ e l _. all_live c.args.side.now.layout.counts c.requires.live c.if-side.true _ (c.requires.ends_below e l)
 
 pub loop-e-preserved : goal.loop-e-preserved
 loop-e-preserved c = λ h. below_more _ _ (c.loop-e.invariant (and_left _ _ h)) (c.end_live-right.ensures (and_right _ _ h))

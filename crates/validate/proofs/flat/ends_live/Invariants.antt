@@ -7,4 +7,4 @@ use Rattle.validate.proofs.flat.ends_live.Given as goal
 
 abbrev pub invariant-loop-e : goal.invariant-loop-e
 invariant-loop-e l =
-    l.right ≡ true → (k : ℕ) → k < l.e → live_bit l.live_edges k ≡ true → live_bit l.live_nodes (end_at l.axis k) ≡ true
+    l.right ≡ true → (k : ℕ) → k < l.e → live_bit l.side.live_edges.now k ≡ true → live_bit l.side.live_nodes.now (end_at l.side.axis.now k) ≡ true

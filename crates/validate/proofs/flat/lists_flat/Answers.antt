@@ -5,7 +5,7 @@ use Rattle.validate.proofs.Listing.{flat_readable, runs_hold, walks_hold}
 use Rattle.validate.proofs.flat.lists_flat.Goals as goal
 
 pub lists_once-requires : goal.lists_once-requires
-lists_once-requires c = (c.requires, flat_readable c.requires c.words_below-runless.ensures, clear_map 512)
+lists_once-requires c = (c.requires, flat_readable c.requires c.no_runs-runless.ensures, clear_map 512)
 
 pub returns-then-ends_live : goal.returns-then-ends_live
 returns-then-ends_live c =

@@ -10,4 +10,4 @@ use Rattle.validate_lists.proofs.runs.chain_right.Given as goal
 
 abbrev pub invariant-loop : goal.invariant-loop
 invariant-loop g l =
-    Chaining (run_test l.axis (OWN-type (number g.row.OWN)) l.node l.layout.counts.edges.bound l.live (live_flags l.words l.layout.counts.edges.bound)) (cell l.axis (3 * l.layout.edge_capacity)) l.count l.first l.tail l.initial.seen l.seen l.counter l.e l.last
+    Chaining (run_test l.side.axis.now (OWN-type (number g.row.OWN)) l.node l.side.layout.counts.edges.bound l.live (live_flags l.side.live_edges.now l.side.layout.counts.edges.bound)) (cell l.side.axis.now (3 * l.side.layout.edge_capacity)) l.count l.first l.tail l.initial.seen l.seen l.counter l.e l.last

@@ -4,5 +4,5 @@ use Rattle.shape.proofs.Laws.Frames.{run_list_unmarked}
 use Rattle.validate_lists.proofs.Running.{no_run}
 use Rattle.validate_lists.proofs.runs.node_right.Goals as goal
 
-pub returns-then-axis-layout-eq0 : goal.returns-then-axis-layout-eq0
-returns-then-axis-layout-eq0 c = rw (run_list_unmarked _ _ _ _ c.if-axis-layout-eq0.true, eq-eqb _ 0 c.if-axis-layout-eq0.true) (no_run _ _ _)
+pub returns-then-side-node-eq0 : goal.returns-then-side-node-eq0
+returns-then-side-node-eq0 c = rw (run_list_unmarked _ _ _ _ c.if-side-node-eq0.true, eq-eqb _ 0 c.if-side-node-eq0.true) (no_run _ _ _)

@@ -8,4 +8,4 @@ use Rattle.validate_lists.proofs.runs.ring_once.Given as goal
 
 abbrev pub invariant-loop : goal.invariant-loop
 invariant-loop l =
-    Circling (run_test l.axis true l.node l.layout.counts.edges.bound l.live (live_flags l.words l.layout.counts.edges.bound)) (cell l.axis (2 * l.layout.edge_capacity)) l.last l.count l.first l.initial.seen l.seen l.counter l.e
+    Circling (run_test l.side.axis.now true l.node l.side.layout.counts.edges.bound l.live (live_flags l.side.live_edges.now l.side.layout.counts.edges.bound)) (cell l.side.axis.now (2 * l.side.layout.edge_capacity)) l.last l.count l.first l.initial.seen l.seen l.counter l.e

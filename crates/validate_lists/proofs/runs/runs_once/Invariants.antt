@@ -4,4 +4,4 @@ use Rattle.validate_lists.proofs.Once.{Listing}
 use Rattle.validate_lists.proofs.runs.runs_once.Given as goal
 
 abbrev pub invariant-loop-x : goal.invariant-loop-x
-invariant-loop-x l = Listing l.axis l.layout.edge_capacity l.layout.node_capacity l.base l.bound (length l.initial.seen) l.x l.seen
+invariant-loop-x l = Listing l.side.axis.now l.side.layout.edge_capacity l.side.layout.node_capacity l.side.layout.counts.edges.base l.side.layout.counts.edges.bound (length l.initial.seen) l.x l.seen

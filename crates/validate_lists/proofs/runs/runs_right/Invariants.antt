@@ -8,6 +8,6 @@ use Rattle.validate_lists.proofs.runs.runs_right.Given as goal
 
 abbrev pub invariant-loop-x : goal.invariant-loop-x
 invariant-loop-x l =
-    tests_of l.axis l.layout.edge_capacity l.layout.node_capacity l.bound (live_flags l.live_nodes l.node_bound) (live_flags l.live_edges l.bound)
-    (distinct (entries_of l.axis l.layout.edge_capacity l.layout.node_capacity (from 0 l.node_bound))) (from 0 l.node_bound)
-    ≡ runs_from l.axis l.layout.edge_capacity l.layout.node_capacity l.node_bound l.bound (live_flags l.live_nodes l.node_bound) (live_flags l.live_edges l.bound) (marked l.seen) l.x
+    tests_of l.side.axis.now l.side.layout.edge_capacity l.side.layout.node_capacity l.side.layout.counts.edges.bound (live_flags l.side.live_nodes.now l.node_bound) (live_flags l.side.live_edges.now l.side.layout.counts.edges.bound)
+    (distinct (entries_of l.side.axis.now l.side.layout.edge_capacity l.side.layout.node_capacity (from 0 l.node_bound))) (from 0 l.node_bound)
+    ≡ runs_from l.side.axis.now l.side.layout.edge_capacity l.side.layout.node_capacity l.node_bound l.side.layout.counts.edges.bound (live_flags l.side.live_nodes.now l.node_bound) (live_flags l.side.live_edges.now l.side.layout.counts.edges.bound) (marked l.seen) l.x

@@ -1,12 +1,12 @@
 -- `validate_lists::walks::live_marked` meets its contract. The loop's invariant: the slots from e on decide. The measure is the number of slots left.
-use Rattle.std.specs.Prelude.{ℕ, ◌/◌, ◌%◌, ◌<◌, ◌≡◌, true, List, get_or}
+use Rattle.std.specs.Prelude.{ℕ, ◌/◌, ◌%◌, ◌≤◌, ◌<◌, ◌≡◌, true, List, length, get_or}
 use Rattle.plain.specs.Library.{sym, ◌∙◌, arith, ltb-true, eq-eqb, eqb-true}
 use Rattle.plain.proofs.Laws.Booleans.{by_test}
 use Rattle.plain.proofs.Laws.ListLaws.{all_of, member_below}
 use Rattle.liveness.specs.Flags.{bit, live_bit, live_flags}
 use Rattle.liveness.specs.Laws.Flags.{flag_at}
 use Rattle.plain.specs.Lists.{all, from}
-use Rattle.validate_words.specs.Laws.Passing.{rest_first, rest_more, rest_fails, rest_none}
+use Rattle.validate_words.specs.Laws.Passing.{front_long, front_at, rest_first, rest_more, rest_fails, rest_none}
 use Rattle.validate_lists.specs.Walks.{Within, marked_if_live}
 use Rattle.validate_lists.proofs.walks.live_marked.Goals as goal
 
@@ -23,7 +23,16 @@ within_marked words seen slots within =
     (λ q. rw (flag_at words slots e l, q))))
 
 pub returns-then-words_within : goal.returns-then-words_within
-returns-then-words_within c = within_marked _ _ _ (λ e l. c.words_within.ensures c.if-words_within.true (e / 64) (omega arith))
+returns-then-words_within c =
+    let words = c.args.words.now in
+    let seen = c.args.seen.now in
+    let count = c.div_ceil-count.result in
+    let long : count ≤ length words = omega (arith, c.requires.0) in
+    let marks_long : count ≤ length seen = omega (arith, c.requires.1) in
+    within_marked _ _ _
+    (λ e l. let low : e / 64 < count = omega arith in
+    rw (front_at words count long (e / 64) low, front_at seen count marks_long (e / 64) low) at
+    (c.words_within.ensures c.if-words_within.true (e / 64) (omega (arith, front_long words count long))))
 
 pub loop-e-init : goal.loop-e-init
 loop-e-init c = rest_first _ _

@@ -4,4 +4,4 @@ use Rattle.validate_lists.proofs.Walking.{Walking}
 use Rattle.validate_lists.proofs.walks.walks_right.Given as goal
 
 abbrev pub invariant-loop-x : goal.invariant-loop-x
-invariant-loop-x l = Walking l.axis l.layout.edge_capacity l.layout.node_capacity l.layout.counts l.live_nodes l.live_edges l.x l.seen
+invariant-loop-x l = Walking l.side.axis.now l.side.layout.edge_capacity l.side.layout.node_capacity l.side.layout.counts l.side.live_nodes.now l.side.live_edges.now l.x l.seen

@@ -1,7 +1,6 @@
--- `validate_words::axes::none_above` meets its contract. The loop's invariant: what was found is whether none before is above.
-use Rattle.std.specs.Prelude.{◌≡◌, get_or, leb}
-use Rattle.plain.specs.Lists.{all, from}
+-- `validate_words::axes::none_above` meets its contract. The loop's invariant: what was found and the words that are left decide.
+use Rattle.validate_words.proofs.Paired.{Pairing}
 use Rattle.validate_words.proofs.axes.none_above.Given as goal
 
-abbrev pub invariant-loop-i : goal.invariant-loop-i
-invariant-loop-i l = l.right ≡ all (λ i. leb (get_or l.lows i 0) (get_or l.highs i 0)) (from 0 l.i)
+abbrev pub invariant-loop-low : goal.invariant-loop-low
+invariant-loop-low l = Pairing l.lows l.highs l.right l.low-iterator.a.rest.now l.low-iterator.b.rest.now

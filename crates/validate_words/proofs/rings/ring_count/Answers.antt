@@ -1,21 +1,19 @@
 -- `validate_words::rings::ring_count` meets its contract.
-use Rattle.std.specs.Prelude.{ℕ, cond, not, eqb}
-use Rattle.plain.specs.Library.{ap, ◌∙◌, arith}
+use Rattle.std.specs.Prelude.{not, get_or, eqb}
+use Rattle.plain.specs.Library.{◌∙◌, arith}
 use Rattle.plain.specs.Numbers.{NONE}
-use Rattle.validate_words.specs.Laws.Passing.{count_start, count_on, count_done, part_word}
-use Rattle.validate_words.proofs.Climbing.{pick_some, pick_few}
+use Rattle.validate_words.specs.Laws.Passing.{count_start, count_on, count_done}
+use Rattle.validate_words.proofs.Climbing.{byte_is, byte_few}
 use Rattle.validate_words.proofs.rings.ring_count.Goals as goal
 
-pub loop-word-init : goal.loop-word-init
-loop-word-init c = count_start _ _
+pub loop-last-init : goal.loop-last-init
+loop-last-init c = count_start _ _
 
 pub overflow_add-rings : goal.overflow_add-rings
-overflow_add-rings c = omega (arith, pick_few c.pick-rings.ensures, c.loop-word.invariant.few)
+overflow_add-rings c = omega (arith, c.from-rings.ensures, byte_few (not (eqb (get_or c.args.lasts.now c.loop-last.last-index 0) NONE)), c.loop-last.invariant.few)
 
-pub loop-word-preserved : goal.loop-word-preserved
-loop-word-preserved c =
-    let word = part_word c.args.axis.now c.args.at _ c.loop-word.word-index c.loop-word-test.true in
-    count_on _ c.loop-word.invariant (omega (arith, c.loop-word-test.true)) (pick_some c.pick-rings.ensures ∙ ap (λ (w : ℕ). cond (not (eqb w NONE)) 1 0) word)
+pub loop-last-preserved : goal.loop-last-preserved
+loop-last-preserved c = count_on _ c.loop-last.invariant c.loop-last-test.true (c.from-rings.ensures ∙ byte_is _)
 
 pub returns : goal.returns
-returns c = count_done _ c.loop-word.invariant (omega (arith, c.loop-word-test.false))
+returns c = count_done _ c.loop-last.invariant c.loop-last-test.false

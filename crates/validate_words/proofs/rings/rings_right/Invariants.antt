@@ -7,4 +7,6 @@ use Rattle.validate_words.proofs.rings.rings_right.Given as goal
 
 abbrev pub invariant-loop-x : goal.invariant-loop-x
 invariant-loop-x l =
-    all (ring_right l.layout.edge_capacity l.base l.bound l.axis) (from 0 l.node_bound) ≡ rest (ring_right l.layout.edge_capacity l.base l.bound l.axis) l.x l.node_bound
+    let counts = l.layout.counts in
+    let test = ring_right l.layout.edge_capacity counts.edges.base counts.edges.bound l.axis in
+    all test (from 0 counts.nodes.bound) ≡ rest test l.x counts.nodes.bound
