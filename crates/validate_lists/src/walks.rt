@@ -6,7 +6,7 @@ ghost use Rattle.std.specs.Prelude.{ℕ, ◌*◌, ◌≤◌, ◌<◌, ◌≡◌,
 ghost use Rattle.plain.specs.Lists.{all, from};
 ghost use Rattle.liveness.specs.Flags.{live_flags};
 ghost use Rattle.shape.specs.Columns.{end_at};
-ghost use Rattle.adjacency.specs.Walk.{walk_in};
+ghost use Rattle.adjacency.specs.Walk.{side_walk};
 ghost use Rattle.marks.specs.Marks.{Passed, Followed};
 ghost use Rattle.validate_lists.specs.Walks.{ListReadable, WalkReadable, WalksReadable, Within, marked_if_live, walks_test};
 
@@ -14,7 +14,7 @@ use adjacency::walk;
 use cursor::edges::AdjacentEdges;
 use liveness::is_live;
 use marks::{WORDS, mark};
-use shape::{Incidence, Layout};
+use shape::Incidence;
 
 // An edge of a walk ends at the node, by the column `ends`, and is not marked yet. Marks it.
 fn pass(ends: &[u32], node: u32, edge: u32, seen: &mut [u64]) -> bool
@@ -38,19 +38,12 @@ fn list_right(edges: AdjacentEdges, ends: &[u32], node: u32, seen: &mut [u64]) -
 }
 
 // The walk of one node, whose live flag is `live`.
-fn walk_right(
-    axis: &[u32],
-    layout: Layout,
-    words: &[u64],
-    node: u32,
-    live: bool,
-    seen: &mut [u64],
-) -> bool
-    requires { WalkReadable axis.now layout.edge_capacity layout.node_capacity layout.counts words.now node seen.old }
-    ensures { Followed (λ e. eqb (end_at axis.now e) node) true (walk_in axis.now layout.edge_capacity layout.node_capacity layout.counts words.now node live) seen.old result seen.new }
+fn walk_right(side: &Incidence, node: u32, live: bool, seen: &mut [u64]) -> bool
+    requires { WalkReadable side.now.axis.now side.now.layout.edge_capacity side.now.layout.node_capacity side.now.layout.counts side.now.live_edges.now node seen.old }
+    ensures { Followed (λ e. eqb (end_at side.now.axis.now e) node) true (side_walk side.now node live) seen.old result seen.new }
 {
-    let edges = walk::edges(axis, layout, words, node as usize, live);
-    list_right(edges, axis, node, seen)
+    let edges = walk::edges(*side, node as usize, live);
+    list_right(edges, side.axis, node, seen)
 }
 
 // A slot is marked if it is live.
@@ -102,7 +95,7 @@ pub fn walks_right(side: &Incidence) -> bool
     // Nor here, for the reason at runs::runs_once.
     for x in 0..node_bound {
         let live = is_live(side.live_nodes, node_bound as usize, x as usize);
-        if !walk_right(side.axis, side.layout, side.live_edges, x, live, &mut seen) {
+        if !walk_right(side, x, live, &mut seen) {
             return false;
         }
     }

@@ -12,6 +12,7 @@ ghost use Rattle.view.specs.Calls.{Answered};
 
 use crate::check_node;
 use adjacency::walk;
+use plain::TraversalDirection;
 use plain::refusals::Refusal;
 use shape::Store;
 
@@ -23,10 +24,8 @@ pub fn find(store: &Store, first: u32, second: u32) -> Result<Option<u32>, Refus
     check_node(store, first)?;
     store.known_node(second)?;
     let edge = walk::find(
-        store.outgoing,
+        store.incidence(TraversalDirection::Outgoing),
         store.incoming,
-        store.layout(),
-        store.live_edges,
         first as usize,
         store.is_node_live(first),
         second,

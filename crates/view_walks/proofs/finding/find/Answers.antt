@@ -17,16 +17,16 @@ returns-in_err-known_node-clause-answered c =
 
 pub find-edge-requires-clause-walkable : goal.find-edge-requires-clause-walkable
 find-edge-requires-clause-walkable c =
-    rw c.layout.ensures (checked_walkable (placed_checked c.in_ok-check_node.ensures) Outgoing c.args.first (placed_below c.in_ok-check_node.ensures))
+    rw (c.incidence.ensures.axis, c.incidence.ensures.layout, c.incidence.ensures.live_edges) (checked_walkable (placed_checked c.in_ok-check_node.ensures) Outgoing c.args.first (placed_below c.in_ok-check_node.ensures))
 
 pub find-edge-requires-clause-edge_capacity_in_bounds : goal.find-edge-requires-clause-edge_capacity_in_bounds
-find-edge-requires-clause-edge_capacity_in_bounds c = rw c.layout.ensures (omega (arith, ((placed_checked c.in_ok-check_node.ensures).axis Incoming).sized.room))
+find-edge-requires-clause-edge_capacity_in_bounds c = rw c.incidence.ensures.layout (omega (arith, ((placed_checked c.in_ok-check_node.ensures).axis Incoming).sized.room))
 
 pub returns-clause-answered : goal.returns-clause-answered
 returns-clause-answered c =
     find_done c.args.first c.args.second c.in_ok-check_node.ensures c.in_ok-known_node.ensures c.is_node_live.ensures c.find-edge.result
-    (rw c.layout.ensures at c.find-edge.ensures.first)
+    (rw (c.incidence.ensures.axis, c.incidence.ensures.layout, c.incidence.ensures.live_edges) at c.find-edge.ensures.first)
 
 pub returns-clause-among : goal.returns-clause-among
 returns-clause-among c =
-    found_among c.args.first c.args.second c.in_ok-check_node.ensures c.is_node_live.ensures c.find-edge.result (rw c.layout.ensures at c.find-edge.ensures.among)
+    found_among c.args.first c.args.second c.in_ok-check_node.ensures c.is_node_live.ensures c.find-edge.result (rw (c.incidence.ensures.axis, c.incidence.ensures.layout, c.incidence.ensures.live_edges) at c.find-edge.ensures.among)
