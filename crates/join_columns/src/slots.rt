@@ -15,7 +15,8 @@ pub struct Column<'a> {
     pub live: &'a [u64],
 }
 
-// Copies the words of the live slots, in slot order, to the start of `out`.
+// Copies the words of the live slots, in slot order, to the start of `out`. By place: `out.iter_mut().zip(live_slots)` was tried, and the proof did not close, as nothing is
+// known of the words that such a loop writes.
 pub fn copy_live(column: &Column, out: &mut [u32])
     requires { Copyable column.now.words.now column.now.live.now column.now.slots.bound out.old }
     ensures { out.new ≡ written (live_words_in column.now) out.old }

@@ -32,6 +32,7 @@ pub fn write_map(live: &[u64], bound: usize, first: u32, map: &mut [u32])
 }
 
 // Moves the words of the live slots, `count` of them, down in slot order; words past those are as they were. Where every slot is live no word moves.
+// `bound` is an argument, and not the length of `words`, as it also says how many bits of `live` are slots; each caller has the whole column.
 pub fn keep_live(words: &mut [u32], live: &[u64], bound: usize, count: usize)
     requires { Keepable words.old live.now bound count }
     ensures { Rewritten words.old words.new 0 (live_count (live_flags live.now bound))
