@@ -1,4 +1,5 @@
-// How much memory the program lends, from document 01's numbers: "(512 nodes, 1,024 edges)" and "at most 65,536 bytes".
+// How much memory the program lends, from document 01's numbers: "(512 nodes, 1,024 edges)" and "at most 65,536 bytes". A constant calls no function, so that the live words,
+// the words of an axis and the widths stand here as sums and numbers.
 
 use image_check::places::{EDGE_PAYLOAD_WIDTH, NODE_PAYLOAD_WIDTH, NODES_START};
 use plain::OPERATION_WORDS;

@@ -90,6 +90,7 @@ pub enum Call {
     Read(Read),
 }
 
+// The recorded files hold numbers, so that they become calls here, and nowhere else.
 impl From<Line> for Call {
     fn from(line: Line) -> Call {
         let [kind, first, second, third, fourth] = line;

@@ -15,22 +15,21 @@ pub fn within<T>(recorded: u32, words: &[T]) -> usize
     (recorded as usize).min(words.len())
 }
 
-// The first words, a space before each, and the end of the line.
-pub fn print_words<W: Display>(rt: &impl Print, words: &[W], count: u64) -> io::Result<()> {
-    for word in words.iter().take(count as usize) {
+// Words, a space before each, and the end of the line.
+pub fn print_words<W: Display>(rt: &impl Print, words: &[W]) -> io::Result<()> {
+    for word in words {
         print!(rt; " {word}")?;
     }
     println!(rt)
 }
 
-// What a call came to and, where it is done, the first of the words that it was lent.
+// What a call came to and, where it is done, the words that it wrote.
 pub fn print_written<T: Value + Copy, W: Display>(
     rt: &impl Print,
     came: Result<T, Refusal>,
     words: &[W],
-    count: u64,
 ) -> io::Result<()> {
     let answer = Answer::from(came);
     print!(rt; "{answer}")?;
-    print_words(rt, words, if came.is_ok() { count } else { 0 })
+    print_words(rt, if came.is_ok() { words } else { &[] })
 }

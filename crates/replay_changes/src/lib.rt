@@ -40,7 +40,7 @@ pub fn run_strip(
     let mut store = book.store_mut();
     let done = strip::strip(&mut store, &lent_words[..length], &mut lent_answers[..room]);
     book.counts = store.counts;
-    print_written(rt, done, &lent_answers, u64::from(answers))
+    print_written(rt, done, &lent_answers[..room])
 }
 
 // A compaction with slices of the recorded lengths; where it is done, maps and work.
@@ -65,9 +65,9 @@ pub fn compact(
         &mut lent_work[..words],
     );
     book.counts = store.counts;
-    print_written(rt, done, &lent_node_map, u64::from(node_map))?;
-    print_written(rt, done, &lent_edge_map, u64::from(edge_map))?;
-    print_written(rt, done, &lent_work, u64::from(work))
+    print_written(rt, done, &lent_node_map[..nodes])?;
+    print_written(rt, done, &lent_edge_map[..edges])?;
+    print_written(rt, done, &lent_work[..words])
 }
 
 // An image read in place of all, on a box or on the skid.

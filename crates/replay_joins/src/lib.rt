@@ -55,11 +55,10 @@ pub fn join_with_itself(rt: &impl Print, store: &Store, maps: u32) -> io::Result
         &mut first_maps,
         &mut second_maps,
     );
-    let count = u64::from(maps);
-    print_written(rt, joined, &first_node_map, count)?;
-    print_written(rt, joined, &first_edge_map, count)?;
-    print_written(rt, joined, &second_node_map, count)?;
-    print_written(rt, joined, &second_edge_map, count)?;
+    print_written(rt, joined, &first_node_map[..room])?;
+    print_written(rt, joined, &first_edge_map[..room])?;
+    print_written(rt, joined, &second_node_map[..room])?;
+    print_written(rt, joined, &second_edge_map[..room])?;
     if joined.is_ok() {
         print_joined(rt, &memory)?;
     }

@@ -15,6 +15,11 @@ fn value_of<T: Value>(came: Result<T, Refusal>) -> u64 {
     Answer::from(came).value
 }
 
+// The first of the words that a call was lent, as many as it wrote.
+fn first_words<W>(words: &[W], count: u64) -> &[W] {
+    &words[..(count as usize).min(words.len())]
+}
+
 // The image into lent bytes, and those that were written.
 pub fn print_image(
     rt: &impl Print,
@@ -23,7 +28,7 @@ pub fn print_image(
     bytes: &mut [u8],
 ) -> io::Result<()> {
     let written = image_write::write_image(store, work, bytes);
-    print_written(rt, written, bytes, value_of(written))
+    print_written(rt, written, first_words(bytes, value_of(written)))
 }
 
 // The image with a work slice and into bytes of the recorded lengths.
@@ -46,7 +51,7 @@ fn print_list<T: Value + Copy, F: FnOnce(&mut [u32]) -> Result<T, Refusal> + Dro
     let mut slots: [u32; 2048] = [0; 2048];
     let lent = within(room, &slots);
     let listed = list(&mut slots[..lent]);
-    print_written(rt, listed, &slots, value_of(listed))
+    print_written(rt, listed, first_words(&slots, value_of(listed)))
 }
 
 // Bounds, counts, whether the store is empty and whether it is compact: the values alone.
@@ -83,7 +88,8 @@ fn print_nearest(
     let clear = lent_work.iter().filter(|word| **word == 0).count();
     let answer = Answer::from(found);
     print!(rt; "{answer} {clear}")?;
-    print_words(rt, &lent_chain, found.map_or(0, |length| length as u64))
+    let length = found.map_or(0, |length| length as u64);
+    print_words(rt, first_words(&lent_chain, length))
 }
 
 // One call that leaves the store as it is.

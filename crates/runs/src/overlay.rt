@@ -35,7 +35,8 @@ pub fn start_run(axis: &mut [u32], layout: Layout, node: usize, live: &[u64])
     copy_base(axis, layout, node, live);
 }
 
-// Moves the live edges of a node's ring to the end of its run, and forgets the ring.
+// Moves the live edges of a node's ring to the end of its run, and forgets the ring. It follows links up to the ring's last and counts nothing, so that no range says how far
+// it goes.
 pub fn drain(axis: &mut [u32], layout: Layout, node: usize, live: &[u64])
     requires { Drainable axis.old layout.edge_capacity layout.node_capacity layout.counts live.now node }
     ensures { Drained axis.old axis.new layout.edge_capacity layout.node_capacity layout.counts live.now node }
