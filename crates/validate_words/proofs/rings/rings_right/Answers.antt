@@ -36,7 +36,7 @@ returns-else-rings_climb c =
     let p = run.0 in
     let end : p.from.end ≡ nb = ap (λ r. r.end) run.1 in
     let found = run.2 (λ a r f q. search rules) in
-    meets (p.at found.0) found.2 ((range_runs p p.seen).2 found.0)
+    meets {Q = λ y. (y ≡ p.from.start + found.0) × (y < p.from.end)} (p.at found.0) found.2 ((range_runs p p.seen).2 found.0)
     (λ y q below. let low : y < nb = omega (arith, below.1, end) in
     let fails : test y ≡ false = search (rules, q.met.0) in
     true_false (all_below test nb h y low) fails)))
