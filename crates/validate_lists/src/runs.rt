@@ -147,7 +147,7 @@ pub fn runs_once(side: &Incidence, seen: &mut [u64]) -> bool
     ensures { result ≡ true → RunsOnce side.now.axis.now side.now.layout.edge_capacity side.now.layout.node_capacity side.now.layout.counts seen.new }
 {
     let node_bound = side.layout.counts.nodes.bound as usize;
-    // No `all` here and below: tried, and the proof did not close, since of a closure that marks nothing is known of what it has answered.
+    // No `all`: tried here, and the proof did not close, since what a closure has answered is not known where it also marks; the same below and in walks.rt.
     for x in 0..node_bound {
         let live = is_live(side.live_nodes, node_bound, x);
         if !node_once(side, x, live, seen) {

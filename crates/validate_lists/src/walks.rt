@@ -73,16 +73,8 @@ pub fn live_marked(words: &[u64], seen: &[u64], slots: usize) -> bool
     ensures { result ≡ all (marked_if_live (live_flags words.now slots) (live_flags seen.now slots)) (from 0 slots) }
 {
     let count = slots.div_ceil(64);
-    if words_within(&words[..count], &seen[..count]) {
-        return true;
-    }
-    // No `all` over the range, for the reason at validate_words::rings::rings_right.
-    for e in 0..slots {
-        if !marked_if_live(words, seen, slots, e) {
-            return false;
-        }
-    }
-    true
+    words_within(&words[..count], &seen[..count])
+        || (0..slots).all(|e| marked_if_live(words, seen, slots, e))
 }
 
 // Rule 7: the walks of all nodes list each live edge once, at its end, and nothing else.
@@ -92,7 +84,7 @@ pub fn walks_right(side: &Incidence) -> bool
 {
     let node_bound = side.layout.counts.nodes.bound;
     let mut seen = [0u64; WORDS];
-    // Nor here, for the reason at runs::runs_once.
+    // No `all`, for the reason at runs::runs_once.
     for x in 0..node_bound {
         let live = is_live(side.live_nodes, node_bound as usize, x as usize);
         if !walk_right(side, x, live, &mut seen) {

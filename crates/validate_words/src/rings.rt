@@ -129,14 +129,5 @@ pub fn rings_right(axis: &[u32], layout: Layout) -> bool
     requires { AxisSized axis.now layout.edge_capacity layout.node_capacity layout.counts }
     ensures { result ≡ all (ring_test layout.edge_capacity layout.counts.edges.base layout.counts.edges.bound axis.now) (from 0 layout.counts.nodes.bound) }
 {
-    if rings_climb(axis, layout) {
-        return true;
-    }
-    // No `all` over the range: tried, and the proof did not close, since of a range no clause tells that a yes has asked of every node.
-    for x in 0..layout.counts.nodes.bound {
-        if !ring_right(axis, layout, x) {
-            return false;
-        }
-    }
-    true
+    rings_climb(axis, layout) || (0..layout.counts.nodes.bound).all(|x| ring_right(axis, layout, x))
 }
