@@ -26,11 +26,16 @@ fn padding_clear(bytes: &[u8], size: usize) -> bool
     read_field(bytes, size, (8 * bytes.len() - size) as u32) == 0
 }
 
-// Rule 5 of one direction: no edge's end is not below n.
+// Rule 5 of one direction: no edge's end is not below n. A loop: tried as a chain, as the weights have it, and with both an image was read three per cent slower.
 fn ends_below(ends: RecordField, n: u32) -> bool
     ensures { result ≡ values_below ends.entry n }
 {
-    (0..ends.edges).all(|edge| ends.get(edge) < n)
+    for edge in 0..ends.edges {
+        if ends.get(edge) >= n {
+            return false;
+        }
+    }
+    true
 }
 
 // Rule 5 of the weights: no edge's low is above its high.

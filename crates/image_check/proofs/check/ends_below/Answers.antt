@@ -1,16 +1,15 @@
--- `image_check::check::ends_below` meets its contract: all ends pass where each does.
-use Rattle.std.specs.Prelude.{refl, ltb}
-use Rattle.std.proofs.Common.{rules, tests}
-use Rattle.std.proofs.lemmas.Iterator.{YieldsList-from_range}
-use Rattle.std.proofs.lemmas.Iterator.Search.{all_from_yields_List}
-use Rattle.plain.specs.Library.{◌∙◌, arith}
-use Rattle.image_check.specs.Columns.{value}
-use Rattle.image_check.proofs.Passing.{all_from}
+-- `image_check::check::ends_below` meets its contract. The loop's invariant: the edges from `edge` on decide.
+use Rattle.plain.specs.Library.{sym, ◌∙◌, lt-ltb, le-ltb}
+use Rattle.validate_words.specs.Laws.Passing.{rest_more, rest_fails, rest_none}
 use Rattle.image_check.proofs.check.ends_below.Goals as goal
 
+pub returns-then-get-n : goal.returns-then-get-n
+returns-then-get-n c =
+    sym (c.loop-edge.invariant ∙ rest_fails _ _ _ c.loop-edge-test.true (le-ltb _ _ (rw c.get.ensures at c.if-get-n.true)))
+
+pub loop-edge-preserved : goal.loop-edge-preserved
+loop-edge-preserved c =
+    c.loop-edge.invariant ∙ rest_more _ _ _ c.loop-edge-test.true (lt-ltb _ _ (rw c.get.ensures at c.if-get-n.false))
+
 pub returns : goal.returns
-returns c =
-    let ends = c.args.ends in
-    all_from_yields_List (λ e. ltb (value ends e) c.args.n) _ _ _ c.all.ensures.ran (YieldsList-from_range 0 ends.edges ends.edges refl (omega arith))
-    (λ x b q k. search (rules, tests))
-    ∙ all_from (λ e. ltb (value ends e) c.args.n) 0 ends.edges
+returns c = sym (c.loop-edge.invariant ∙ rest_none _ _ _ c.loop-edge-test.false)
