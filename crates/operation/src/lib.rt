@@ -8,7 +8,7 @@ ghost use Rattle.plain.specs.Operations.{decoded};
 use plain::{EdgePayload, OPERATION_WORDS, Operation, TraversalDirection};
 
 // The operation that five words of a strip stand for, by the code first. What they do not is `Unknown` and no None: an operation of its own in the definition of a strip,
-// which is answered too. It is no `From`, since that would stand in crate plain, where both types are at home.
+// which is answered too. It is no `From`: the impl would have to stand in crate plain, since both types are plain's or the language's.
 #[tactic(auto, unfolding(plain::specs::Operations::decoded, plain::specs::Operations::unused))]
 pub fn decode(words: [u32; OPERATION_WORDS]) -> Operation
     ensures { result ≡ decoded (slice_index words 0) (slice_index words 1) (slice_index words 2) (slice_index words 3) (slice_index words 4) }
