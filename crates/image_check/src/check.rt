@@ -14,7 +14,7 @@ use crate::places::{
     COUNT_WIDTH, EDGE_COUNT_START, WEIGHT_WIDTH, edges_start, image_bytes, lists_size, outs_start,
 };
 use bits::{least_width, read_field};
-use marks::mark;
+use marks::{WORDS, mark};
 use plain::LIMIT;
 use plain::refusals::ImageRule;
 
@@ -51,7 +51,7 @@ fn lists_right(ends: RecordField, list: usize, v: u32) -> bool
     requires { Listed ends list v }
     ensures { result ≡ ordered (value ends.entry) ends.entry.edges (fields_at ends.entry.bytes.now list v ends.entry.edges) }
 {
-    let mut seen = [0u64; 512];
+    let mut seen = [0u64; WORDS];
     let mut last: u32 = 0;
     for i in 0..ends.edges {
         let edge = read_field(ends.bytes, list + v as usize * i as usize, v);

@@ -8,7 +8,8 @@ ghost use Rattle.marks.specs.Marks.{Marked};
 // How many words a map of all edges has: a bit for each of plain::LIMIT.
 pub const WORDS: usize = 512;
 
-// Marks an edge, and answers whether it was not marked.
+// Marks an edge, and answers whether it was not marked. The map is the words of the caller's array: a struct of the array would be no plainer, since each clause here and above
+// would speak of the words inside it.
 pub fn mark(seen: &mut [u64], edge: usize) -> bool
     requires { edge < 64 * length seen.old }
     ensures { Marked seen.old edge result seen.new }

@@ -14,19 +14,14 @@ use plain::refusals::Refusal;
 use plain::{Slots, TraversalDirection};
 use shape::Store;
 use validate::judging::check_store;
-use validate_words::axes::words_below;
+use validate_words::axes;
 
 // Whether no node of a checked store has a run in one direction: each mark is 0. Internal.
 fn no_runs(store: &Store, direction: TraversalDirection) -> bool
     requires { Checked (words store.now) }
     ensures { let w = words store.now in result ≡ unmarked (axis_words direction w) (edge_capacity w) (node_capacity w) w.counts.nodes.bound }
 {
-    words_below(
-        store.axis(direction),
-        4 * store.lows.len() + 4 * store.nodes.len(),
-        store.counts.nodes.bound as usize,
-        1,
-    )
+    axes::no_runs(store.axis(direction), store.layout())
 }
 
 // Whether all slots of one kind are in the base and live. Internal.
