@@ -1,12 +1,13 @@
 -- Decimal numbers digit by digit, from the last: how many there are, and what stands in the text as they are written.
-use Rattle.std.specs.Prelude.{ℕ, zero, suc, ◌+◌, ◌-◌, ◌*◌, ◌/◌, ◌%◌, ◌^◌, ◌≤◌, ◌<◌, ◌≡◌, refl, List, [], ◌∷◌, length, set, ltb}
-use Rattle.plain.specs.Library.{sym, ap, ◌∙◌, arith, lt-ltb, le-ltb, ltb-true}
+use Rattle.std.specs.Prelude.{ℕ, zero, suc, ◌+◌, ◌-◌, ◌*◌, ◌/◌, ◌%◌, ◌^◌, ◌≤◌, ◌<◌, ◌≡◌, refl, List, [], ◌∷◌, ◌++◌, length, set, ltb}
+use Rattle.plain.specs.Library.{sym, ap, ◌∙◌, append-nil, arith, lt-ltb, le-ltb, ltb-true}
 use Rattle.std.proofs.Common.{ltb-false}
+use lib.ListN.{drop_of_length-le}
 use native.Mathlib.Nat.{div-lt_iff_lt-mul, pow-suc}
 use Rattle.plain.specs.Lotstrip.{digits_before, decimal}
 use Rattle.plain.proofs.Laws.Booleans.{by_test}
 use Rattle.bits.specs.Put.{Put}
-use Rattle.bits.specs.Laws.Put.{put_none, put_before}
+use Rattle.bits.specs.Laws.Put.{put_none, put_before, put_written}
 
 -- ---- the definition by its cases
 
@@ -149,5 +150,9 @@ digits_next {s} {t} {end} {n} {left} {k} w l fits =
           put = before;
         }
 
-pub digits_end : {s t : List ℕ} {end n left k : ℕ} → WritingDigits s end n left k t → k ≡ length (decimal n) → Put s (end - length (decimal n)) (decimal n) t
-digits_end w e = rw (w.all e, e) at w.put
+-- all are written
+pub digits_end : {s t : List ℕ} {n left k : ℕ} → WritingDigits s (length s) n left k t → k ≡ length (decimal n) → length s ≡ length (decimal n) → t ≡ decimal n
+digits_end {s} {t} {n} w e long =
+    let from : length s - length (decimal n) ≡ 0 = omega (arith, long) in
+    let put : Put s 0 (decimal n) t = rw from at rw (w.all e, e) at w.put in
+    put_written put ∙ ap (λ (l : List ℕ). decimal n ++ l) (drop_of_length-le s (omega (arith, long))) ∙ append-nil (decimal n)

@@ -4,9 +4,8 @@
 // Tried: `write!` into an `impl fmt::Write`. Its clauses say what was written where it answers `Ok`, and no clause can say that it does where there is room, so that a
 // function that cannot fail has no proof by it. So the digits are written here.
 
-ghost use Rattle.std.specs.Prelude.{◌+◌, ◌-◌, ◌≤◌, ◌<◌, ◌/◌, ◌%◌, ◌≡◌, ◌∷◌, ◌++◌, [], length};
+ghost use Rattle.std.specs.Prelude.{◌+◌, ◌≤◌, ◌<◌, ◌/◌, ◌%◌, ◌≡◌, ◌∷◌, ◌++◌, [], length};
 ghost use Rattle.plain.specs.Lotstrip.{decimal, answer_lines, hex_digit, hexadecimal};
-ghost use Rattle.bits.specs.Put.{Put};
 ghost use Rattle.lotstrip_text.specs.Appending.{Appended};
 ghost use Rattle.lotstrip_text.specs.Lines.{line};
 
@@ -20,14 +19,15 @@ fn digit_count(n: u64) -> usize
     }
 }
 
-// Writes the digits of a number up to `end`, the last one first.
-fn write_digits(text: &mut [u8], end: usize, n: u64)
-    requires { (length (decimal n) ≤ end) × (end ≤ length text.old) }
-    ensures { Put text.old (end - length (decimal n)) (decimal n) text.new }
+// Writes the digits of a number into as many bytes, the last one first.
+fn write_digits(digits: &mut [u8], n: u64)
+    requires { length digits.old ≡ length (decimal n) }
+    ensures { digits.new ≡ decimal n }
 {
+    let count = digits.len();
     let mut left = n;
-    for digit in 0..digit_count(n) {
-        text[end - 1 - digit] = b'0' + (left % 10) as u8;
+    for done in 0..count {
+        digits[count - 1 - done] = b'0' + (left % 10) as u8;
         left /= 10;
     }
 }
@@ -82,9 +82,9 @@ impl<'a> Text<'a> {
         requires { self.old.end + length (decimal n) < length self.old.bytes.now }
         ensures { Appended self.old (decimal n ++ (after ∷ [])) self.new }
     {
-        self.end += digit_count(n);
-        let bytes = &mut *self.bytes;
-        write_digits(bytes, self.end, n);
+        let end = self.end + digit_count(n);
+        write_digits(&mut self.bytes[self.end..end], n);
+        self.end = end;
         self.push(after);
     }
 

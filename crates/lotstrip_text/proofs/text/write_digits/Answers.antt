@@ -3,11 +3,11 @@ use Rattle.plain.specs.Library.{arith}
 use Rattle.lotstrip_text.proofs.Digits.{digits_start, digits_next, digits_end}
 use Rattle.lotstrip_text.proofs.text.write_digits.Goals as goal
 
-pub loop-digit-init : goal.loop-digit-init
-loop-digit-init c = digits_start _ _ _ (omega arith) c.requires.1
+pub loop-done-init : goal.loop-done-init
+loop-done-init c = digits_start _ _ _ (omega arith) (omega arith)
 
-pub loop-digit-preserved : goal.loop-digit-preserved
-loop-digit-preserved c = digits_next c.loop-digit.invariant (omega (arith, c.digit_count-digit-end.ensures)) c.requires.0
+pub loop-done-preserved : goal.loop-done-preserved
+loop-done-preserved c = digits_next c.loop-done.invariant (omega (arith, c.requires)) (omega (arith, c.requires))
 
 pub returns : goal.returns
-returns c = digits_end c.loop-digit.invariant (omega (arith, c.digit_count-digit-end.ensures))
+returns c = digits_end c.loop-done.invariant (omega (arith, c.requires)) c.requires

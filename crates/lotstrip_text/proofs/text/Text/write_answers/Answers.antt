@@ -11,15 +11,15 @@ loop-position-init c = writing_start _ _ c.requires
 pub write_line-requires : goal.write_line-requires
 write_line-requires c =
     let pair =
-        ap (λ (pairs : List (List ℕ)). get_or pairs c.loop-position.position []) c.as_chunks.ensures.front
-        ∙ pair_is c.args.answers.now _ c.loop-position.position (omega (arith, c.as_chunks.ensures.front_len)) (omega arith) in
+    ap (λ (pairs : List (List ℕ)). get_or pairs c.loop-position.position []) c.as_chunks.ensures.front
+    ∙ pair_is c.args.answers.now _ c.loop-position.position (omega (arith, c.as_chunks.ensures.front_len)) (omega arith) in
     rw pair (writing_room c.loop-position.invariant (lines_next c.args.answers.now c.loop-position.position (omega (arith, c.as_chunks.ensures.front_len))))
 
 pub loop-position-preserved : goal.loop-position-preserved
 loop-position-preserved c =
     let pair =
-        ap (λ (pairs : List (List ℕ)). get_or pairs c.loop-position.position []) c.as_chunks.ensures.front
-        ∙ pair_is c.args.answers.now _ c.loop-position.position (omega (arith, c.as_chunks.ensures.front_len)) (omega arith) in
+    ap (λ (pairs : List (List ℕ)). get_or pairs c.loop-position.position []) c.as_chunks.ensures.front
+    ∙ pair_is c.args.answers.now _ c.loop-position.position (omega (arith, c.as_chunks.ensures.front_len)) (omega arith) in
     writing_more c.loop-position.invariant (lines_next c.args.answers.now c.loop-position.position (omega (arith, c.as_chunks.ensures.front_len)))
     (rw pair at c.write_line.ensures)
 
