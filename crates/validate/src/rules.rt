@@ -1,4 +1,4 @@
-// Rules 2 to 7 of the check, each as a test of a store: of both kinds of slot, or of both directions. Each requires what the rules before it have established.
+// The rules of the check, each as a test of a store: of both kinds of slot, or of both directions. Each requires what the rules before it have established.
 
 ghost use Rattle.std.specs.Prelude.{◌≡◌, true};
 ghost use Rattle.plain.specs.declared.TraversalDirection.TheVariants.{Outgoing, Incoming};
@@ -12,6 +12,13 @@ use plain::TraversalDirection;
 use shape::Store;
 use validate_lists::{runs, walks};
 use validate_words::{axes, counts, rings, weights};
+
+// Rule 1: the counts and the lengths of the slices.
+pub fn sizes_right(store: &Store) -> bool
+    ensures { result ≡ rule_1 (words store.now) }
+{
+    counts::sizes_right(store.counts, store.lengths())
+}
 
 // Rule 2: the live bits of nodes and of edges.
 #[tactic(auto, unfolding(shape::specs::Rules::rule_2))]

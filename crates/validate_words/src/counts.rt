@@ -1,13 +1,13 @@
 // Rules 1 and 2: the counts, against the lengths of the seven slices and against the live bits.
 
-ghost use Rattle.std.specs.Prelude.{◌+◌, ◌*◌, ◌≤◌, ◌≡◌, length, leb};
+ghost use Rattle.std.specs.Prelude.{◌*◌, ◌≤◌, ◌≡◌, ◌&&◌, length};
 ghost use Rattle.memory.specs.Lengths.{Few};
-ghost use Rattle.shape.specs.Rules.{both_axes, slots_right as slots_test, live_agrees as Live_test, rule_1};
-ghost use Rattle.shape.specs.Stores.{words};
+ghost use Rattle.shape.specs.Rules.{slots_right as slots_test, live_agrees as Live_test};
+ghost use Rattle.validate_words.specs.Sizes.{axis_long, sizes_test};
 
 use liveness::count_live;
-use plain::{LIMIT, Slots};
-use shape::Store;
+use memory::Lengths;
+use plain::{Counts, LIMIT, Slots};
 
 // One kind of slot: the capacity within the limit, the bound within the capacity, the base within the bound, live words enough.
 fn slots_right(capacity: usize, words: usize, slots: Slots) -> bool
@@ -19,27 +19,24 @@ fn slots_right(capacity: usize, words: usize, slots: Slots) -> bool
         && memory::live_words(capacity) <= words
 }
 
-// Whether both axes of a store have the words of its capacities.
-fn axes_long(store: &Store) -> bool
-    requires { Few (length store.now.nodes.now) (length store.now.lows.now) }
-    ensures { result ≡ both_axes (λ ws. leb (4 * length store.now.lows.now + 6 * length store.now.nodes.now + 1) (length ws)) (words store.now) }
+// Whether both axes have the words of the capacities.
+fn axes_long(lengths: Lengths) -> bool
+    requires { Few lengths.nodes lengths.lows }
+    ensures { result ≡ (axis_long lengths.nodes lengths.lows lengths.outgoing && axis_long lengths.nodes lengths.lows lengths.incoming) }
 {
-    let axis = memory::axis_length(store.nodes.len(), store.lows.len());
-    axis <= store.outgoing.len() && axis <= store.incoming.len()
+    let axis = memory::axis_length(lengths.nodes, lengths.lows);
+    axis <= lengths.outgoing && axis <= lengths.incoming
 }
 
 // Rule 1, of the counts and the lengths of the seven slices.
-#[tactic(auto, unfolding(shape::specs::Rules::rule_1))]
-pub fn sizes_right(store: &Store) -> bool
-    ensures { result ≡ rule_1 (words store.now) }
+#[tactic(auto, unfolding(crate::specs::Sizes::sizes_test))]
+pub fn sizes_right(counts: Counts, lengths: Lengths) -> bool
+    ensures { result ≡ sizes_test counts lengths.nodes lengths.lows lengths.highs lengths.live_nodes lengths.live_edges lengths.outgoing lengths.incoming }
 {
-    slots_right(
-        store.nodes.len(),
-        store.live_nodes.len(),
-        store.counts.nodes,
-    ) && slots_right(store.lows.len(), store.live_edges.len(), store.counts.edges)
-        && store.lows.len() <= store.highs.len()
-        && axes_long(store)
+    slots_right(lengths.nodes, lengths.live_nodes, counts.nodes)
+        && slots_right(lengths.lows, lengths.live_edges, counts.edges)
+        && lengths.lows <= lengths.highs
+        && axes_long(lengths)
 }
 
 // Rule 2 for one kind of slot: the last word's unused bits are 0, and as many slots are live as the count says.
