@@ -1,6 +1,6 @@
 // The entries of a walk, dead ones included, as an iterator: a cursor with the two columns that it steps over.
 
-ghost use Rattle.std.specs.Prelude.{◌≡◌, ℕ, List};
+ghost use Rattle.std.specs.Prelude.{◌<◌, ◌≡◌, ◌^◌, ℕ, List, length};
 ghost use Rattle.std.specs.Iterator.{YieldsFirst, item_count};
 ghost use Rattle.cursor.specs.Cursor.{remaining as left, Ready};
 
@@ -40,6 +40,19 @@ impl<'a> Entries<'a> {
             linked,
             entries,
             next,
+        }
+    }
+
+    // The same entries, of which there are no more than a number counts.
+    pub(crate) fn countable(self) -> Entries<'a>
+        ensures same { result ≡ self.entry }
+        ensures few { length result < 2 ^ 64 }
+    {
+        Entries {
+            cursor: self.cursor,
+            linked: self.linked,
+            entries: self.entries,
+            next: self.next,
         }
     }
 }

@@ -16,12 +16,11 @@ impl<'a> AdjacentEdges<'a> {
     // How many edges are left. It goes along the entries itself, as writing does: where one entry in eight is removed, a search for each next edge took three
     // times as long.
     pub fn count(self) -> usize
-        requires { length self < 2 ^ 64 }
         ensures { result ≡ length self.entry }
     {
         let listed = self.listed;
         let mut count = 0;
-        for edge in self.entries {
+        for edge in self.entries.countable() {
             if listed.has(edge) {
                 count += 1;
             }
