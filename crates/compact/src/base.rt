@@ -25,7 +25,7 @@ pub fn rebuild(
 }
 
 // Compacts one direction: the ends of the live edges move down and are renumbered, and the new base takes its lists from lent words. `bound` is the number of
-// edge slots before, `count_nodes` and `count_edges` the live ones.
+// edge slots before, `count_nodes` and `count_edges` the live ones, as `rebuild` takes them.
 pub fn compact_axis(
     axis: &mut [u32],
     layout: Layout,

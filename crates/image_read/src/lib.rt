@@ -43,7 +43,8 @@ fn read_fields(bytes: &[u8], position: usize, stride: usize, width: u32, words: 
     }
 }
 
-// Builds the base of one direction once the ends are in place: the offsets counted from them, the joined lists read, every ring empty, and no run.
+// Builds the base of one direction once the ends are in place: the offsets counted from them, the joined lists read, every ring empty, and no run. Counts and width are
+// worked out by its caller, once.
 fn read_base(
     axis: &mut [u32],
     layout: Layout,

@@ -8,7 +8,7 @@ ghost use Rattle.shape.specs.Stores.{words};
 ghost use Rattle.join_columns.specs.Sides.{side_of, side_ends, side_entries, EndsFit, EntriesFit, BothEndsFit, BothEntriesFit, AxisJoinable, AxisJoined};
 ghost use Rattle.join_columns.specs.Books.{side_in};
 
-use crate::slots::{Column, copy_live};
+use crate::slots::copy_live;
 use adjacency::index::count_offsets;
 use adjacency::rings::open_nodes;
 use plain::TraversalDirection;
@@ -44,12 +44,12 @@ fn copy_ends(book: &Book, direction: TraversalDirection, out: &mut [u32])
     ensures { out.new ≡ written (side_ends (side_in direction book.now)) out.old }
 {
     let edge_slots = book.store.counts.edges;
-    let ends = Column {
-        slots: edge_slots,
-        words: book.store.axis(direction),
-        live: book.store.live_edges,
-    };
-    copy_live(&ends, out);
+    copy_live(
+        book.store.axis(direction),
+        book.store.live_edges,
+        edge_slots.bound as usize,
+        out,
+    );
     translate(&mut out[..edge_slots.live as usize], book.node_map);
 }
 

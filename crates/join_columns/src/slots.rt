@@ -2,6 +2,8 @@
 
 ghost use Rattle.std.specs.Prelude.{◌≡◌, ◌++◌};
 ghost use Rattle.plain.specs.Lists.{written};
+ghost use Rattle.liveness.specs.Flags.{live_flags};
+ghost use Rattle.survivors.specs.Slots.{live_words_of};
 ghost use Rattle.join_columns.specs.Slots.{BothCopyable, Copyable, live_words_in};
 
 use liveness::live_slots::LiveSlots;
@@ -17,13 +19,13 @@ pub struct Column<'a> {
 
 // Copies the words of the live slots, in slot order, to the start of `out`. By place: `out.iter_mut().zip(live_slots)` was tried, and the proof did not close, as nothing is
 // known of the words that such a loop writes.
-pub fn copy_live(column: &Column, out: &mut [u32])
-    requires { Copyable column.now.words.now column.now.live.now column.now.slots.bound out.old }
-    ensures { out.new ≡ written (live_words_in column.now) out.old }
+pub fn copy_live(words: &[u32], live: &[u64], bound: usize, out: &mut [u32])
+    requires { Copyable words.now live.now bound out.old }
+    ensures { out.new ≡ written (live_words_of words.now (live_flags live.now bound)) out.old }
 {
-    let live_slots = LiveSlots::new(column.live, column.slots.bound as usize);
+    let live_slots = LiveSlots::new(live, bound);
     for (to, slot) in live_slots.enumerate() {
-        out[to] = column.words[slot];
+        out[to] = words[slot];
     }
 }
 
@@ -33,6 +35,11 @@ pub fn join_slots(out: &mut [u32], first: &Column, second: &Column)
     ensures { out.new ≡ written (live_words_in first.now ++ live_words_in second.now) out.old }
 {
     let count = first.slots.live as usize;
-    copy_live(first, out);
-    copy_live(second, &mut out[count..]);
+    copy_live(first.words, first.live, first.slots.bound as usize, out);
+    copy_live(
+        second.words,
+        second.live,
+        second.slots.bound as usize,
+        &mut out[count..],
+    );
 }

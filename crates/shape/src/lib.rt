@@ -193,7 +193,7 @@ impl<'a> Store<'a> {
     }
 }
 
-// A store to be written.
+// A store to be written. Its slices are all lent alike: what a function leaves alone its promise says.
 #[derive(Drop)]
 pub struct StoreMut<'a> {
     pub counts: Counts,

@@ -46,7 +46,7 @@ pub fn keep_live(words: &mut [u32], live: &[u64], bound: usize, count: usize)
     }
 }
 
-// Moves the lows and the highs of the live edges down.
+// Moves the lows and the highs of the live edges down: two slices, as the C interface lends them.
 pub fn keep_weights(lows: &mut [u32], highs: &mut [u32], live: &[u64], bound: usize, count: usize)
     requires { WeightsKeepable lows.old highs.old live.now bound count }
     ensures { WeightsKept lows.old highs.old (live_flags live.now bound) lows.new highs.new }

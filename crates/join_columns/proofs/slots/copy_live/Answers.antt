@@ -15,7 +15,7 @@ use Rattle.join_columns.proofs.slots.copy_live.Goals as goal
 
 -- before the first turn all live slots are left
 all_left : (c : After-into_iter-to-iterator)
-    → left (enumerate_source c.into_iter-to-iterator.result) ≡ live_slots (live_flags c.args.column.now.live.now c.args.column.now.slots.bound)
+    → left (enumerate_source c.into_iter-to-iterator.result) ≡ live_slots (live_flags c.args.live.now c.args.bound)
 all_left c =
     ap (λ it. left (enumerate_source it)) c.into_iter-to-iterator.ensures.into_iter_gives ∙ ap left c.enumerate-to-items.ensures.source ∙ c.new-live_slots.ensures
 
@@ -24,23 +24,23 @@ none_counted c = ap (λ it. enumerate_count it) c.into_iter-to-iterator.ensures.
 
 pub loop-to-init-derived : goal.loop-to-init-derived
 loop-to-init-derived c =
-    ((tt, tt, inl (rw (none_counted c, all_left c) (omega (arith, live_slots_few c.args.column.now.live.now c.args.column.now.slots.bound)))), tt)
+    ((tt, tt, inl (rw (none_counted c, all_left c) (omega (arith, live_slots_few c.args.live.now c.args.bound)))), tt)
 
 -- the slot's word is there
-slot_in : (c : In-Some) → c.in-Some.slot < length c.args.column.now.words.now
+slot_in : (c : In-Some) → c.in-Some.slot < length c.args.words.now
 slot_in c =
-    let k = c.args.column.now in
-    omega (arith, moving_below c.loop-to.invariant c.in-Some.ensures.steps.0, length_flags k.live.now k.slots.bound, c.requires.readable.room)
+    let k = c.args in
+    omega (arith, moving_below c.loop-to.invariant c.in-Some.ensures.steps.0, length_flags k.live.now k.bound, c.requires.readable.room)
 
 -- there is room for it
 to_in : (c : In-Some) → c.in-Some.to < length c.args.out.now
 to_in c = omega (arith, moving_few c.loop-to.invariant c.in-Some.ensures.steps.0, c.in-Some.ensures.steps.1, c.requires.fits)
 
-pub offset_bounds-column-slot : goal.offset_bounds-column-slot
-offset_bounds-column-slot c = omega (arith, slot_in (goal.at.offset_bounds-column-slot c).In-Some)
+pub offset_bounds-words-slot : goal.offset_bounds-words-slot
+offset_bounds-words-slot c = omega (arith, slot_in (goal.at.offset_bounds-words-slot c).In-Some)
 
-pub bounds-column-slot : goal.bounds-column-slot
-bounds-column-slot c = omega (arith, slot_in (goal.at.bounds-column-slot c).In-Some)
+pub bounds-words-slot : goal.bounds-words-slot
+bounds-words-slot c = omega (arith, slot_in (goal.at.bounds-words-slot c).In-Some)
 
 pub offset_bounds-out-to : goal.offset_bounds-out-to
 offset_bounds-out-to c = omega (arith, to_in (goal.at.offset_bounds-out-to c).In-Some)
@@ -56,5 +56,5 @@ loop-to-preserved c =
 
 pub returns : goal.returns
 returns c =
-    let k = c.args.column.now in
-    copied_all k.words.now (live_flags k.live.now k.slots.bound) c.requires.fits (moving_all c.loop-to.invariant c.in-None.ensures.steps.0.0)
+    let k = c.args in
+    copied_all k.words.now (live_flags k.live.now k.bound) c.requires.fits (moving_all c.loop-to.invariant c.in-None.ensures.steps.0.0)

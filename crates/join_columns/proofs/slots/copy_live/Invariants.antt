@@ -9,5 +9,5 @@ use Rattle.join_columns.proofs.slots.copy_live.Given as goal
 
 abbrev pub invariant-loop-to : goal.invariant-loop-to
 invariant-loop-to l =
-    Moving l.column.words.now (live_flags l.column.live.now l.column.slots.bound) (map (λ p. p.1) l.yielded) (left (enumerate_source l.to-iterator)) l.initial.out
+    Moving l.words (live_flags l.live l.bound) (map (λ p. p.1) l.yielded) (left (enumerate_source l.to-iterator)) l.initial.out
     (enumerate_count l.to-iterator) l.out
