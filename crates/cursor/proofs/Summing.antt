@@ -22,6 +22,18 @@ module _ {f g : ℕ → ℕ} {all left : List ℕ} {low high : ℕ} (i : Summing
   unfolding sum
   summing_end q = (omega (arith, rw q at i.low_left), omega (arith, rw q at i.high_left))
 
+  -- past an entry that is not listed
+  pub summing_skip : {rest : List ℕ} → left ≡ rest → Summing f g all rest low high
+  summing_skip q = record {
+    past = i.past;
+    counted = rw q at i.counted;
+    low_left = rw q at i.low_left;
+    high_left = rw q at i.high_left;
+    low_within = i.low_within;
+    high_within = i.high_within;
+    among = λ k m. i.among k (rw q m);
+  }
+
   module _ {e : ℕ} {rest : List ℕ} (q : left ≡ e ∷ rest) where
     -- it is one of all
     pub summing_in : In e all

@@ -34,6 +34,15 @@ impl<'a> Entries<'a> {
     }
 }
 
+impl<'a> AdjacentEdges<'a> {
+    // The entries that are left and which of them are listed, for a loop over a whole walk: it steps for itself, in place of a search for each listed edge.
+    pub fn parts(self) -> (Entries<'a>, Listed<'a>)
+        ensures { keep (listed_by result.1) result.0 ≡ self.entry }
+    {
+        (self.entries, self.listed)
+    }
+}
+
 impl<'a> Iterator for AdjacentEdges<'a> {
     type Item = u32;
 

@@ -50,9 +50,13 @@ impl<'a> AdjacentEdges<'a> {
         requires within { Within ends.now self }
         ensures { out.new ≡ written (map (word ends.now) self.entry) out.old }
     {
-        // a zip of `out.iter_mut()` with the edges was tried, and the proof did not close: the loop's invariant cannot name the words that are written so
-        for (n, edge) in self.enumerate() {
-            out[n] = ends[edge as usize];
+        let listed = self.listed;
+        let mut n = 0;
+        for edge in self.entries {
+            if listed.has(edge) {
+                out[n] = ends[edge as usize];
+                n += 1;
+            }
         }
     }
 
@@ -61,11 +65,14 @@ impl<'a> AdjacentEdges<'a> {
         requires { Summable lows.now highs.now self }
         ensures { result ≡ sums_of lows.now highs.now self.entry }
     {
+        let listed = self.listed;
         let mut sums = Sums { low: 0, high: 0 };
-        for edge in self {
-            let at = edge as usize;
-            sums.low += u64::from(lows[at]);
-            sums.high += u64::from(highs[at]);
+        for edge in self.entries {
+            if listed.has(edge) {
+                let at = edge as usize;
+                sums.low += u64::from(lows[at]);
+                sums.high += u64::from(highs[at]);
+            }
         }
         sums
     }

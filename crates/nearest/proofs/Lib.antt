@@ -8,4 +8,3 @@ mod Seeding
 mod Nearing
 mod Answering
 mod Entry
-mod Finding

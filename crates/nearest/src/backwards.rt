@@ -39,10 +39,13 @@ fn expand_lot(store: &Store, lot: u32, tail: usize, work: &mut [u32]) -> usize
         ≡ expanded (node_capacity w) (end_at w.outgoing) (get_or work.old lot 0 + 1) (list_of Incoming (lists w) lot) (frontier tail work.old) }
 {
     let word = work[lot as usize] + 1;
+    let (entries, listed) = reads::edges(store, TraversalDirection::Incoming, lot).parts();
     let mut end = tail;
-    for edge in reads::edges(store, TraversalDirection::Incoming, lot) {
-        let source = store.outgoing[edge as usize];
-        end = see(work, store.nodes.len(), end, word, source);
+    for edge in entries {
+        if listed.has(edge) {
+            let source = store.outgoing[edge as usize];
+            end = see(work, store.nodes.len(), end, word, source);
+        }
     }
     end
 }

@@ -21,9 +21,13 @@ fn nearer_lot(store: &Store, lot: u32, work: &[u32], word: u32) -> Option<u32>
     requires { NearerLot (words store.now) lot work.now }
     ensures { let w = words store.now in unwrap_or result none ≡ first_of (leads (end_at w.incoming) work.now word) (list_of Outgoing (lists w) lot) }
 {
-    reads::edges(store, TraversalDirection::Outgoing, lot).find(
-        |edge| work[store.incoming[*edge as usize] as usize] == word,
-    )
+    let (entries, listed) = reads::edges(store, TraversalDirection::Outgoing, lot).parts();
+    for edge in entries {
+        if listed.has(edge) && work[store.incoming[edge as usize] as usize] == word {
+            return Some(edge);
+        }
+    }
+    None
 }
 
 // Writes the way forward from a lot to the start of `chain`: `left` edges, each the first of its out-list that leads one nearer.

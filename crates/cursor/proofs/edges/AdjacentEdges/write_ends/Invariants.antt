@@ -1,8 +1,9 @@
 -- `write_ends` of the listed edges: the loop's invariant is `Writing`, with the end of each edge.
-use Rattle.std.specs.Iterator.Adapters.{enumerate_source, enumerate_count}
-use Rattle.cursor.specs.Cursor.{word}
+use Rattle.plain.specs.Lists.{keep}
+use Rattle.cursor.specs.Cursor.{word, listed_by}
 use Rattle.cursor.proofs.Writing.{Writing}
 use Rattle.cursor.proofs.edges.AdjacentEdges.write_ends.Given as goal
 
-abbrev pub invariant-loop-n : goal.invariant-loop-n
-invariant-loop-n l = Writing (word l.ends) l.fn.self (enumerate_source l.n-iterator) l.fn.out l.out (enumerate_count l.n-iterator)
+abbrev pub invariant-loop-edge : goal.invariant-loop-edge
+invariant-loop-edge l =
+    Writing (word l.ends) l.fn.self (keep (listed_by l.listed) l.edge-iterator) l.fn.out l.out l.n
