@@ -6,9 +6,9 @@ ghost use Rattle.shape.specs.Columns.{Sized};
 ghost use Rattle.adjacency.specs.Index.{offsets_column, bounds_at};
 ghost use Rattle.adjacency.specs.Axis.{Columns};
 
+use crate::index::BaseBounds;
 use crate::{index, walk};
 use shape::Layout;
-use std::ops::Range;
 
 // `entries` is what a walk reads before the ring: the compressed index's edge numbers, or in their place the run links, where the walk is linked. `next` is the
 // ring links.
@@ -43,7 +43,7 @@ impl<'a> Axis<'a> {
     }
 
     // Where the base part of a node begins and ends among the adjacency words.
-    pub fn bounds(self, base: usize, node: usize) -> Range<u32>
+    pub fn bounds(self, base: usize, node: usize) -> BaseBounds
         requires { base < length self.offsets.now }
         ensures { result ≡ bounds_at self.entry.offsets.now base node }
     {

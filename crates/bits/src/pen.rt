@@ -16,12 +16,16 @@ pub struct Pen {
     pub count: u32,
 }
 
-// Writes the low bytes of x, as many as there are bytes: where that is four the compiler makes one store of it.
+// Writes the low bytes of x, as many as there are bytes: where that is four the compiler makes one store of it. By shifts, and not as a copy of `to_be_bytes`: a copy of
+// which the compiler does not know the length calls memcpy, and the archive for C asks for as little from outside as it can.
 fn write_low(bytes: &mut [u8], x: u32)
     requires { length bytes.old ≤ 4 }
     ensures { bits bytes.new ≡ bits_of (8 * length bytes.old) x }
 {
-    bytes.copy_from_slice(&x.to_be_bytes()[4 - bytes.len()..]);
+    let count = bytes.len();
+    for i in 0..count {
+        bytes[i] = ((x >> (8 * (count - 1 - i))) % 256) as u8;
+    }
 }
 
 // The pen over the bytes that it writes. A function that is lent a writer ensures that its bytes keep their ghost name, as `put` does: else its callers know nothing of

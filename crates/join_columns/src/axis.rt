@@ -17,21 +17,21 @@ use survivors::lists::write_lists;
 use survivors::maps::MapsMut;
 use survivors::slots::translate;
 
-// A book that is joined, and the maps of its live slots.
+// A book that is joined, and the maps of its live slots. The store by a reference: it is too large to be copied without a call of memcpy.
 #[derive(Clone, Copy)]
-pub struct Book<'s, 'm> {
-    pub store: Store<'s>,
+pub struct Book<'s, 'r, 'm> {
+    pub store: &'r Store<'s>,
     pub node_map: &'m [u32],
     pub edge_map: &'m [u32],
 }
 
-impl<'s, 'm> Book<'s, 'm> {
+impl<'s, 'r, 'm> Book<'s, 'r, 'm> {
     // A store with the maps that have been written.
-    pub fn of(store: &Store<'s>, maps: &'m MapsMut<'_>) -> Book<'s, 'm>
+    pub fn of(store: &'r Store<'s>, maps: &'m MapsMut<'_>) -> Book<'s, 'r, 'm>
         ensures { (d : TraversalDirection) → side_in d result ≡ side_of d (words store.now) maps.now.nodes.now maps.now.edges.now }
     {
         Book {
-            store: *store,
+            store,
             node_map: maps.nodes,
             edge_map: maps.edges,
         }
@@ -58,7 +58,7 @@ fn write_entries(book: &Book, direction: TraversalDirection, out: &mut [u32])
     requires { EntriesFit (side_in direction book.now) out.old }
     ensures { out.new ≡ written (side_entries (side_in direction book.now)) out.old }
 {
-    write_lists(&book.store, direction, out);
+    write_lists(book.store, direction, out);
     let count = book.store.counts.edges.live as usize;
     translate(&mut out[..count], book.edge_map);
 }
