@@ -15,9 +15,12 @@ mod reading;
 use entries::Entries;
 use listed::Listed;
 use plain::NONE;
+// What a total answers.
+pub use plain::Sums;
 
 // Where a walk stands. Of a base part `base` and `base_end` are positions in the adjacency column. Of a run `base` is the entry to read next
 // and `base_end` how many are left. `delta` is the ring's entry to read next, NONE where none is left, and `delta_last` the ring's last.
+#[repr(C)]
 #[derive(Clone, Copy)]
 pub struct AdjacencyCursor {
     pub base: u32,
@@ -28,6 +31,7 @@ pub struct AdjacencyCursor {
 
 // Where a walk starts, and whether it reads a run. It stands beside the cursor, and not in an enum of both kinds of part: the scope of the build names a cursor of
 // four numbers.
+#[repr(C)]
 #[derive(Clone, Copy)]
 pub struct Start {
     pub linked: bool,

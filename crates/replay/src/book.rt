@@ -9,7 +9,7 @@ use plain::Counts;
 use shape::{Store, StoreMut};
 
 // A store, its recorded capacities, and memory for every store that is recorded, in fixed arrays, as there is no heap: what a call is lent is cut at the capacities.
-#[derive(Drop)]
+#[derive(Clone, Copy)]
 pub struct Book {
     pub counts: Counts,
     pub node_capacity: u32,

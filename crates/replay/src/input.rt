@@ -31,8 +31,11 @@ pub fn next(rt: &impl Input) -> io::Result<Option<Line>> {
     }
 }
 
+// The kind of a line that ends the input, as the end of the file does.
+pub const END: u32 = u32::MAX;
+
 // What stands for an operation that a shorter input lacks: its code is unknown.
-const NO_OPERATION: Line = [u32::MAX, 0, 0, 0, 0];
+const NO_OPERATION: Line = [END, 0, 0, 0, 0];
 
 // Reads the operations of a strip, a line each, to the start of `words`.
 pub fn read_operations(rt: &impl Input, words: &mut [u32], lines: u32) -> io::Result<()> {
@@ -47,12 +50,11 @@ pub fn read_operations(rt: &impl Input, words: &mut [u32], lines: u32) -> io::Re
     Ok(())
 }
 
-// Reads bytes, sixteen a line behind its first word, to the start of `bytes`; those that a shorter input lacks stay as they are.
+// Reads bytes, sixteen a line behind its first word, to the start of `bytes`; what is left of a shorter input is 0. Each line is asked for, also behind an end of
+// the input, as a terminal may go on after one.
 pub fn read_bytes(rt: &impl Input, bytes: &mut [u8], lines: u32) -> io::Result<()> {
     for i in 0..lines as usize {
-        let Some(line) = next(rt)? else {
-            return Ok(());
-        };
+        let line = next(rt)?.unwrap_or([0; 5]);
         let at = 16 * i;
         if bytes.len() < at + 16 {
             return Ok(());

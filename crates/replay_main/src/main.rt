@@ -50,7 +50,7 @@ fn run(rt: &(impl Input + Print), book: &mut Book) -> io::Result<()> {
         let Some(line) = input::next(rt)? else {
             return Ok(());
         };
-        if line[0] == u32::MAX {
+        if line[0] == input::END {
             return Ok(());
         }
         step(rt, book, Call::from(line))?;

@@ -17,7 +17,7 @@ use Rattle.shape.proofs.Laws.Walking.{between_none, between_some}
 use Rattle.shape.proofs.Laws.Taking.{keep_append, keep_again}
 use Rattle.shape.proofs.Laws.Keeping.{in_keep, in_either, in_second}
 use Rattle.adjacency.specs.Index.{base_bounds}
-use Rattle.std.specs.declared.ops.Range.{Range}
+use Rattle.adjacency.specs.declared.index.BaseBounds.{BaseBounds}
 use Rattle.runs.specs.Runs.{Edited, Grown, Keepable}
 use Rattle.runs.specs.Laws.Runs.{run_of_marked}
 use Rattle.runs.specs.Laws.Editing.{edited, edited_none, edited_again, edited_wider, edited_list, edited_mark, edited_new, edited_other, edited_ring, edited_rings}
@@ -45,7 +45,7 @@ module _ {ws : List ℕ} {ce cn : ℕ} {counts : Counts} {live : List ℕ} {node
   start : Edited ws ws ce cn counts node [] base
   start = subst (λ (l : List ℕ). Edited ws ws ce cn counts node l base) pre.empty (edited_none pre.editable pre.marked)
 
-  pub copy_start : {bounds : Range ℕ} → bounds ≡ base_bounds ws ce cn counts.nodes.base node
+  pub copy_start : {bounds : BaseBounds} → bounds ≡ base_bounds ws ce cn counts.nodes.base node
       → Copying ws ws ce cn counts live node bounds.start bounds.end
   unfolding base_bounds keep
   copy_start is =
