@@ -6,12 +6,13 @@ use Rattle.plain.specs.declared.Slots.{Slots}
 use Rattle.plain.specs.declared.TraversalDirection.{TraversalDirection}
 use Rattle.liveness.specs.Laws.Flags.{length_flags}
 use Rattle.plain.proofs.Laws.Rank.{live_below, rank_live}
-use Rattle.shape.specs.Checked.{SlotsChecked}
+use Rattle.shape.specs.Checked.{Checked, SlotsChecked}
 use Rattle.shape.specs.Columns.{end_at}
 use Rattle.shape.specs.Shape.{Words, axis_words, edge_capacity, edge_live, node_capacity, node_live}
 use Rattle.shape.proofs.Laws.Ends.{checked_end}
 use Rattle.compact.specs.Bases.{Compactable}
 use Rattle.compact.specs.Dropping.{Droppable}
+use Rattle.survivors.specs.Slots.{Keepable, WeightsKeepable}
 use Rattle.survivors.proofs.Laws.Slots.{live_few, slots_there}
 
 -- ---- a part of a slice up to its end
@@ -63,6 +64,14 @@ module _ {w : Words} {node_map work : List ℕ} (pre : Droppable w node_map work
 -- ---- the slots of a kind
 
 module _ {c : ℕ} {words : List ℕ} {s : Slots} (k : SlotsChecked c words s) where
+  -- a column that is long enough can be moved down
+  pub keepable : (column : List ℕ) → c ≤ length column → Keepable column words s.bound s.live
+  keepable column long = record { there = slots_there k; room = omega (arith, k.bounded.bound_within); counted = k.live.live_right }
+
   -- there are liveness words for those that are left
   pub resettable : s.live ≤ 64 * length words
   resettable = omega (arith, live_few k, slots_there k)
+
+-- and so can those of the weights
+pub weights_keepable : {w : Words} → Checked w → WeightsKeepable w.lows w.highs w.live_edges w.counts.edges.bound w.counts.edges.live
+weights_keepable {w} k = record { lows_keepable = keepable k.edges w.lows (omega arith); highs_keepable = keepable k.edges w.highs k.highs_long }

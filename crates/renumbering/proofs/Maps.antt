@@ -1,11 +1,26 @@
 -- One turn of each loop over a map, and what `compose` answers where the result slice is too short and where it is not.
 use Rattle.std.specs.Prelude.{ℕ, zero, suc, ◌+◌, ◌≤◌, ◌<◌, ◌≡◌, refl, ◌↔◌, Bool, true, IsTrue, EachIndex, slice_index, List, [], ◌∷◌, ◌++◌, length, get_or, set, take, drop, eqb}
-use Rattle.plain.specs.Library.{length-map, zero-add, add-one, arith, eq-eqb, eqb-true, le-leb, lt-leb}
+use Rattle.plain.specs.Library.{sym, length-map, get_or-eq_default, zero-add, add-one, arith, eq-eqb, eqb-true, le-leb, lt-leb}
 use lib.Seq.{paste-suc, take-length}
 use Rattle.plain.proofs.Laws.Booleans.{same_truth, and_left, and_right, both_true}
+use Rattle.plain.specs.Numbers.{NONE}
 use Rattle.plain.specs.Lists.{same, from}
-use Rattle.plain.specs.Renumbering.{composed, compose, is_identity_map}
+use Rattle.plain.specs.Renumbering.{lookup, composed, compose, is_identity_map}
 use Rattle.renumbering.specs.Calls.{through, Compose}
+
+-- ---- reading
+
+-- within a map the default does not matter
+pub lookup_in : (m : List ℕ) (slot : ℕ) → slot < length m → get_or m slot 0 ≡ lookup m slot
+unfolding lookup
+lookup_in [] slot h = absurd (omega arith)
+lookup_in (x ∷ m) zero h = refl
+lookup_in (x ∷ m) (suc slot) h = lookup_in m slot (omega arith)
+
+-- past it there is NONE
+pub lookup_out : (m : List ℕ) (slot : ℕ) → length m ≤ slot → NONE ≡ lookup m slot
+unfolding lookup
+lookup_out m slot h = sym (get_or-eq_default m NONE h)
 
 -- ---- composing
 

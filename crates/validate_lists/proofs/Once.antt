@@ -10,8 +10,10 @@ use Rattle.plain.proofs.Laws.ListLaws.{member_append, all_of, all_member}
 use Rattle.shape.specs.Columns.{cell, end_at, last_at, tail_at, mark_at}
 use Rattle.shape.specs.Chains.{In, until, ring}
 use Rattle.shape.specs.Shape.{run_list, ring_of}
+use Rattle.shape.specs.Rules.{runs_right}
 use Rattle.shape.proofs.Laws.Chains.{in_none}
-use Rattle.shape.proofs.Laws.Checking.{run_complete}
+use Rattle.shape.proofs.Laws.Frames.{run_list_unmarked}
+use Rattle.shape.proofs.Laws.Checking.{run_complete, runs_complete}
 use Rattle.marks.specs.Marks.{marked, Passed, Followed, Adds}
 use Rattle.validate_lists.specs.Runs.{entry_test, run_test, ends_in, taken, NodeOnce, RunsOnce}
 use Rattle.marks.specs.Laws.Following.{Following, follow_start, follow_done, pass_fails, pass_more, followed_all, followed_final, both_once, both_adds, adds_none}
@@ -134,3 +136,14 @@ listing_done w l = record { nodes = λ y k. w.nodes y (omega arith); marks = w.m
 pub listing_none : {ws : List ℕ} {ce cn : ℕ} {counts : Counts} {seen : List ℕ} → ((x : ℕ) → x < counts.nodes.bound → mark_at ws ce cn x ≡ 0)
     → ((e : ℕ) → marked seen e ≡ false) → RunsOnce ws ce cn counts seen
 listing_none {ws} {ce} {cn} {counts} {seen} none clear = record { nodes = λ y k. (node_plain ws ce cn counts.edges.base counts.edges.bound y (none y k) seen).0; marks = λ e h. true_false h (clear e) }
+
+-- where no node has a run the runs are right
+pub runless_right : (ws : List ℕ) (ce cn : ℕ) (counts : Counts) (nodes edges : List Bool) → ((x : ℕ) → x < counts.nodes.bound → mark_at ws ce cn x ≡ 0)
+    → runs_right ce cn counts nodes edges ws ≡ true
+runless_right ws ce cn counts nodes edges none =
+    runs_complete ws ce cn counts nodes edges
+    (record {
+      run = λ x l some. absurd (some (none x l));
+      apart = λ x y e l k m n. in_none e (rw (run_list_unmarked ws ce cn x (none x l)) at m);
+    })
+    (λ x e l dead m. in_none e (rw (run_list_unmarked ws ce cn x (none x l)) at m))
