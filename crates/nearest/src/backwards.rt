@@ -32,7 +32,8 @@ fn see(work: &mut [u32], node_capacity: usize, tail: usize, word: u32, lot: u32)
     tail
 }
 
-// Goes through the in-list of a lot of the queue: each new source gets one more than the lot's word. Answers the queue's length.
+// Goes through the in-list of a lot of the queue, along the entries (cursor::edges says why): each new source gets one more than the lot's word. Answers the queue's
+// length.
 fn expand_lot(store: &Store, lot: u32, tail: usize, work: &mut [u32]) -> usize
     requires { ExpandLot (words store.now) lot tail work.old }
     ensures { let w = words store.now in frontier result work.new

@@ -16,7 +16,7 @@ use adjacency::reads;
 use plain::TraversalDirection;
 use shape::Store;
 
-// The first edge of a lot's out-list that leads to a lot with this word.
+// The first edge of a lot's out-list that leads to a lot with this word: along the entries, and not by `find` over the listed edges (cursor::edges says why).
 fn nearer_lot(store: &Store, lot: u32, work: &[u32], word: u32) -> Option<u32>
     requires { NearerLot (words store.now) lot work.now }
     ensures { let w = words store.now in unwrap_or result none ≡ first_of (leads (end_at w.incoming) work.now word) (list_of Outgoing (lists w) lot) }

@@ -1,6 +1,6 @@
 // Rule 7 for one direction: the walks, on a store that the rules before it have passed. Every entry is marked as it is passed, so that a walk that lists an edge
 // twice, or one that does not end at its node, ends the check; the live edges that no walk has listed are those that are not marked in the end. Where the quick
-// test of crate validate has told that the walks are right they are not followed: it does not come here.
+// test of crate validate has told that the walks are right, `walks_right` is not called.
 
 ghost use Rattle.std.specs.Prelude.{ℕ, ◌*◌, ◌≤◌, ◌<◌, ◌≡◌, true, length, get_or, eqb};
 ghost use Rattle.plain.specs.Lists.{all, from};
@@ -24,7 +24,8 @@ fn pass(ends: &[u32], node: u32, edge: u32, seen: &mut [u64]) -> bool
     ends[edge as usize] == node && mark(seen, edge as usize)
 }
 
-// The edges of a walk: each ends at the node, by the column `ends`, and none is marked. Marks them.
+// The edges of a walk: each ends at the node, by the column `ends`, and none is marked. Marks them. It goes along the entries, as whatever reads a whole walk does:
+// a search for each listed edge is dearer (cursor::edges).
 fn list_right(edges: AdjacentEdges, ends: &[u32], node: u32, seen: &mut [u64]) -> bool
     requires { ListReadable edges ends.now seen.old }
     ensures { Followed (λ e. eqb (end_at ends.now e) node) true edges.entry seen.old result seen.new }

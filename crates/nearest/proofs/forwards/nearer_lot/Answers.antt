@@ -1,8 +1,8 @@
 -- `nearest::forwards::nearer_lot` meets its contract: what is found is the first edge that leads to the word.
-use Rattle.std.specs.Prelude.{ℕ, ◌≡◌, true, List}
+use Rattle.std.specs.Prelude.{◌≡◌}
 use Rattle.plain.specs.Library.{sym, ◌∙◌, arith, eq-eqb, ne_eqb}
 use Rattle.plain.specs.declared.TraversalDirection.TheVariants.{Outgoing, Incoming}
-use Rattle.plain.specs.Lists.{keep, member}
+use Rattle.plain.specs.Lists.{keep}
 use Rattle.plain.specs.Plain.{list_of}
 use Rattle.shape.specs.Shape.{lists}
 use Rattle.shape.specs.Stores.{words}
