@@ -9,7 +9,7 @@ use Rattle.shape.specs.Stores.{words}
 use Rattle.cursor.specs.Cursor.{listed_by}
 use Rattle.cursor.specs.Laws.Finding.{seek_among, seek_found, seek_none, seek_skip, seek_on}
 use Rattle.nearest.proofs.Stores.{listed_within, end_within}
-use Rattle.nearest.proofs.forwards.nearer_lot.Goals.{After-into_iter-edge-iterator, Then-has, else-has-via-then-has+else-work-store, else-has-via-else-has}
+use Rattle.nearest.proofs.forwards.nearer_lot.Goals.{After-into_iter-edge-iterator, else-has-via-then-has+else-work-store, else-has-via-else-has}
 use Rattle.nearest.proofs.forwards.nearer_lot.Goals as goal
 
 -- the entries that are listed are the lot's out-list
